@@ -1,0 +1,5 @@
+pub mod First
+pub mod Sum
+pub mod Tab
+pub mod Rank
+pub mod Multiple

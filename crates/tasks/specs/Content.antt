@@ -1,0 +1,56 @@
+-- What a table or a plan says, with its unused places left out, and the plan that keeps it.
+--     Content      cores' labels, tasks, the slack count and the slack
+--     contentOf    what a plan says
+--     planOf       the plan that keeps a content, zeros in its unused places
+--     tidy         a plan with zeros in its unused places
+--     Same         "two plans are the same if their used entries and that mark agree"
+use Prim.Native.Nat.{ℕ}
+use mathlib.Core.Path.{_≡_}
+use mathlib.Core.Bool.{Bool, cond, not}
+use mathlib.Core.List.{List}
+use lib.ListN.{getD}
+use lib.Dec.{eqb}
+use Rattle.laws.specs.Tab.{tab, cut}
+use Rattle.tasks.specs.declared.Task.{Task}
+use Rattle.tasks.specs.declared.Plan.{Plan}
+use Rattle.tasks.specs.TaskSet.{TaskSet, row}
+
+pub record Content : Type 0 where
+  pub tasks : TaskSet
+  pub label : ℕ → ℕ
+  -- the slack section's count: 0 where slack is found
+  pub offers : ℕ
+  pub slack : ℕ → ℕ
+
+unfoldable pub noTask : Task
+noTask = record { separation = 0; budget = 0; offset = 0 }
+
+unfoldable pub taskOf : List Task → ℕ → Task
+taskOf l i = getD l i noTask
+
+-- a plan has one slack entry for each loop, so it never meets 11
+unfoldable pub contentOf : Plan → Content
+contentOf p =
+    record {
+      tasks = record { cores = p .cores; count = p .tasks; task = cut (p .tasks) (taskOf (p .task)) noTask };
+      label = cut (p .cores) (row (p .labels)) 0;
+      offers = cond (p .offered) (p .tasks) 0;
+      slack = cut (p .tasks) (row (p .slack)) 0;
+    }
+
+unfoldable pub planOf : Content → Plan
+planOf c =
+    record {
+      offered = not (eqb (c .offers) 0);
+      cores = c .tasks .cores;
+      tasks = c .tasks .count;
+      labels = tab (c .label) 8;
+      task = tab (c .tasks .task) 16;
+      slack = tab (c .slack) 16;
+    }
+
+unfoldable pub tidy : Plan → Plan
+tidy p = planOf (contentOf p)
+
+unfoldable pub Same : Plan → Plan → Type 0
+Same p q = contentOf p ≡ contentOf q

@@ -1,0 +1,3 @@
+pub mod TaskSet
+pub mod Content
+pub mod Tests

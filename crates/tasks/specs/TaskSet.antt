@@ -1,0 +1,104 @@
+-- Document 01, "Compliant slack": the numbers of a set of tasks. Document 01's loop is a task here; T, C, Y are its separation, budget and
+-- offset, m is `cores` and n is `count`. Slack x is a row, a function of the loop.
+--     TaskSet                   m cores and n tasks
+--     hyperperiod               H
+--     share, weight, surplus    of one task
+--     counted, amount           the tasks with the m − 1 largest weights, and A
+--     Compliant, covers         the condition, for all tasks and as a test of one
+--     raise, found              the slack raised once, and raised from zeros until nothing changes
+--     bound, late               counted from release and from the priority point
+use Prim.Native.Nat.{ℕ, zero, suc, _+_, _-_, _*_, _/_, _≤_, _<_}
+use mathlib.Core.Bool.{Bool, true, false, not}
+use mathlib.Core.List.{List, [], _∷_}
+use lib.ListN.{getD, replicate}
+use lib.Dec.{leb, eqb}
+use Rattle.laws.specs.First.{first}
+use Rattle.laws.specs.Sum.{sum, sumOver}
+use Rattle.laws.specs.Tab.{tab}
+use Rattle.laws.specs.Rank.{largest}
+use Rattle.laws.specs.Multiple.{lcmBelow}
+use Rattle.tasks.specs.declared.Task.{Task}
+
+pub record TaskSet : Type 0 where
+  pub cores : ℕ
+  pub count : ℕ
+  pub task : ℕ → Task
+
+-- "H is the least common multiple of all T."
+unfoldable pub hyperperiod : TaskSet → ℕ
+hyperperiod s = lcmBelow (λ i. s .task i .separation) (s .count)
+
+-- "The share of a loop is C × H / T, a whole number."
+unfoldable pub share : TaskSet → ℕ → ℕ
+share s i = s .task i .budget * hyperperiod s / s .task i .separation
+
+-- "weight of loop i = share × (x + Y)"
+unfoldable pub weight : TaskSet → (ℕ → ℕ) → ℕ → ℕ
+weight s x i = share s i * (x i + s .task i .offset)
+
+-- "surplus of loop i = share × (T − Y)"
+unfoldable pub surplus : TaskSet → ℕ → ℕ
+surplus s i = share s i * (s .task i .separation - s .task i .offset)
+
+-- the loops with "the m − 1 largest weights", largest first, equal weights by lower loop
+unfoldable pub counted : TaskSet → (ℕ → ℕ) → List ℕ
+counted s x = largest (s .cores - 1) (weight s x) (s .count)
+
+-- "A = the sum of the m − 1 largest weights, plus all n surpluses"
+unfoldable pub amount : TaskSet → (ℕ → ℕ) → ℕ
+amount s x = sumOver (weight s x) (counted s x) + sum (surplus s) (s .count)
+
+-- "m × H × x + H × C", loop k's side of the condition
+unfoldable pub cover : TaskSet → (ℕ → ℕ) → ℕ → ℕ
+cover s x k = s .cores * hyperperiod s * x k + hyperperiod s * s .task k .budget
+
+-- "slack is compliant if for every loop k: m × H × x + H × C is at least A"
+unfoldable pub Compliant : TaskSet → (ℕ → ℕ) → Type 0
+Compliant s x = (k : ℕ) → k < s .count → amount s x ≤ cover s x k
+
+-- the same as a test of loop k
+unfoldable pub covers : TaskSet → (ℕ → ℕ) → ℕ → Bool
+covers s x k = leb (amount s x) (cover s x k)
+
+-- the least whole v with m × H × v + H × C at least a
+unfoldable pub needed : TaskSet → ℕ → ℕ → ℕ
+needed s a k =
+    (a - hyperperiod s * s .task k .budget + (s .cores * hyperperiod s - 1)) / (s .cores * hyperperiod s)
+
+-- a list of numbers as a row, 0 past its end
+unfoldable pub row : List ℕ → ℕ → ℕ
+row l i = getD l i 0
+
+-- every loop's slack raised to the least that covers A of the slack at hand
+unfoldable pub raise : TaskSet → List ℕ → List ℕ
+raise s x = tab (needed s (amount s (row x))) (s .count)
+
+-- whether two slacks agree at every loop
+unfoldable pub same : TaskSet → List ℕ → List ℕ → Bool
+same s x y = eqb (first (λ k. not (eqb (row x k) (row y k))) (s .count)) (s .count)
+
+-- x where nothing changed, else what g makes of the raised y
+abbrev pub unless : Bool → (List ℕ → List ℕ) → List ℕ → List ℕ → List ℕ
+unless true g x y = x
+unless false g x y = g y
+
+-- raised until nothing changes, at most so many times
+unfoldable pub settle : TaskSet → ℕ → List ℕ → List ℕ
+settle s zero x = x
+settle s (suc f) x = unless (same s x (raise s x)) (settle s f) x (raise s x)
+
+-- no table that passes 3 to 10 needs more slack than this at a loop
+abbrev pub ceiling : ℕ
+ceiling = 800000
+
+-- "starting at zeros, the vector is raised until nothing changes"
+unfoldable pub found : TaskSet → List ℕ
+found s = settle s (suc (s .count * ceiling)) (replicate (s .count) 0)
+
+-- "The bound of a loop is Y + x + C, counted from release."
+unfoldable pub bound : TaskSet → (ℕ → ℕ) → ℕ → ℕ
+bound s x i = s .task i .offset + x i + s .task i .budget
+
+-- "Late is x + C, counted from the priority point"
+unfoldable pub late : TaskSet → (ℕ → ℕ) → ℕ → ℕ
+late s x i = x i + s .task i .budget

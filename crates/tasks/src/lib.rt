@@ -1,0 +1,24 @@
+// The records that every layer shares: a task, a plan, and the answer of a test. What document 01 says of them is in specs/.
+
+// Document 01's loop: separation T, budget C, priority offset Y, in ticks.
+pub struct Task {
+    pub separation: u32,
+    pub budget: u32,
+    pub offset: u32,
+}
+
+// A table's entries, the slack, and the mark that says whether slack was offered (true) or found. Places from `cores` and `tasks` on are unused.
+pub struct Plan {
+    pub offered: bool,
+    pub cores: usize,
+    pub tasks: usize,
+    pub labels: [u8; 8],
+    pub task: [Task; 16],
+    pub slack: [u32; 16],
+}
+
+// What a test by document 01's refusals finds: nothing, or the first number met and its index.
+pub enum Answer {
+    Accepted,
+    Refused { number: u8, index: u16 },
+}
