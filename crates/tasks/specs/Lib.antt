@@ -1,3 +1,4 @@
 pub mod TaskSet
 pub mod Content
 pub mod Tests
+pub mod Limits
