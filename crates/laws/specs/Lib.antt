@@ -3,3 +3,5 @@ pub mod Sum
 pub mod Tab
 pub mod Rank
 pub mod Multiple
+pub mod FirstLaws
+pub mod TabLaws

@@ -1,3 +1,4 @@
 pub mod Bytes
 pub mod Table
 pub mod Judged
+pub mod ByteLaws

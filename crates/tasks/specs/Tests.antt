@@ -3,7 +3,7 @@
 --     lowest k p n    k at the lowest index below n where p holds
 --     firstMet        the first refusal of a list of tests
 --     test3 … test13, tests, testPlan
-use Prim.Native.Nat.{ℕ, zero, suc, _+_, _-_, _*_}
+use Prim.Native.Nat.{ℕ, _+_, _-_, _*_}
 use mathlib.Core.Bool.{Bool, true, false, cond, not, _&&_, _||_}
 use mathlib.Core.List.{List, [], _∷_}
 use lib.Dec.{ltb, leb, eqb}
@@ -41,8 +41,7 @@ outside low high x = ltb x low || ltb high x
 
 -- "A core label is above 63 or not above the one before."
 unfoldable pub badLabel : (ℕ → ℕ) → ℕ → Bool
-badLabel label zero = ltb 63 (label zero)
-badLabel label (suc i) = ltb 63 (label (suc i)) || leb (label (suc i)) (label i)
+badLabel label i = ltb 63 (label i) || (ltb 0 i && leb (label i) (label (i - 1)))
 
 module _ (c : Content) where
   -- "Cores are not 2 to 8."

@@ -1,0 +1,11 @@
+-- The stages of the analysis, each in document 01's order: what each of its functions answers.
+--     frameTest    3, 4 and 5
+use Prim.Native.Nat.{ℕ, _+_}
+use mathlib.Core.List.{List, [], _∷_}
+use Rattle.tasks.specs.declared.Answer.{Answer}
+use Rattle.tasks.specs.Tests.{refuse, lowest, firstMet, outside, badLabel}
+
+unfoldable pub frameTest : ℕ → (ℕ → ℕ) → ℕ → Answer
+frameTest m label n =
+    firstMet
+    (refuse 3 (outside 2 8 m) ∷ lowest 4 (badLabel label) m ∷ refuse 5 (outside (m + 1) 16 n) ∷ [])

@@ -1,0 +1,1 @@
+// Tests 6, 7 and 8: each task's own fields.

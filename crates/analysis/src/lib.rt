@@ -1,0 +1,3 @@
+// The analysis of a plan: its test by document 01's refusals 3 to 13, and the slack that it has.
+mod fields;
+mod frame;
