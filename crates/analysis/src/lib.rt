@@ -1,3 +1,4 @@
 // The analysis of a plan: its test by document 01's refusals 3 to 13, and the slack that it has.
+mod columns;
 mod fields;
 mod frame;

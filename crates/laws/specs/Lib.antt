@@ -5,3 +5,7 @@ pub mod Rank
 pub mod Multiple
 pub mod FirstLaws
 pub mod TabLaws
+pub mod MultipleLaws
+pub mod Member
+pub mod MemberLaws
+pub mod SumLaws

@@ -1,3 +1,6 @@
+use borrow.Author.Tests.{lt-ltb, le-ltb}
+use Rattle.tasks.specs.TaskSet.{row}
+use Rattle.tasks.specs.Tests.{badLabel}
 use native.Mathlib.Omega.{arith}
 use native.Mathlib.Numerals.{add-one}
 use Prim.Native.Nat.{ℕ, _≤_, _<_, _+_, _*_, _-_}
@@ -16,11 +19,13 @@ element-copy-out-if1 c = search needs
 
 -- src/frame.rt:18:9
 returns : tie.Need-returns
-returns c = search needs
+unfolding badLabel row
+returns c = rw (lt-ltb _ _ (c .if1 .taken))
 
 -- src/frame.rt:21:9
 returns-2 : tie.Need-returns-2
-returns-2 c = search needs
+unfolding badLabel row
+returns-2 c = rw (le-ltb 63 _ (c .before .if1 .left), c .if2 .taken)
 
 -- src/frame.rt:23:5
 element-copy-out-result : tie.Need-element-copy-out-result
@@ -36,7 +41,10 @@ element-copy-out-result-2 c = search needs
 
 -- src/frame.rt:13:1
 returns-3 : tie.Need-returns-3
-returns-3 c = search needs
+unfolding badLabel row
+returns-3 c =
+    let i = c .before .before .before .before .before .args .i in
+    rw (le-ltb 63 _ (c .before .before .before .if1 .left), lt-ltb 0 i (omega arith))
 
 pub is-bad-label-spec : {M : Type 1} → statement M
 is-bad-label-spec =

@@ -1,0 +1,31 @@
+-- How a stage's answer follows from what its code has seen.
+--     outside-low, outside-high, outside-in    a number below, above or within its range
+--     lowest-at, lowest-none                   a scan that ended at f, below n or not
+use Prim.Native.Nat.{ℕ, _<_, _≤_}
+use mathlib.Core.Path.{_≡_, refl, sym, _∙_, ap}
+use mathlib.Core.Bool.{Bool, true, false}
+use borrow.Author.Tests.{lt-ltb, le-ltb}
+use Rattle.laws.specs.First.{first}
+use Rattle.tasks.specs.declared.Answer.{Answer}
+use Rattle.tasks.specs.declared.Answer.the-variants.{Accepted, Refused}
+use Rattle.tasks.specs.Tests.{refuse, lowest, firstMet, outside}
+
+pub outside-low : (low high x : ℕ) → x < low → outside low high x ≡ true
+unfolding outside
+outside-low low high x h = rw (lt-ltb x low h)
+
+pub outside-high : (low high x : ℕ) → low ≤ x → high < x → outside low high x ≡ true
+unfolding outside
+outside-high low high x l h = rw (le-ltb x low l, lt-ltb high x h)
+
+pub outside-in : (low high x : ℕ) → low ≤ x → x ≤ high → outside low high x ≡ false
+unfolding outside
+outside-in low high x l h = rw (le-ltb x low l, le-ltb high x h)
+
+pub lowest-at : (k : ℕ) (p : ℕ → Bool) (n f : ℕ) → f ≡ first p n → f < n → lowest k p n ≡ Refused k f
+unfolding lowest
+lowest-at k p n f e h = rw (← e, lt-ltb f n h)
+
+pub lowest-none : (k : ℕ) (p : ℕ → Bool) (n f : ℕ) → f ≡ first p n → n ≤ f → lowest k p n ≡ Accepted
+unfolding lowest
+lowest-none k p n f e h = rw (← e, le-ltb f n h)
