@@ -1,11 +1,16 @@
 -- How a stage's answer follows from what its code has seen.
 --     outside-low, outside-high, outside-in    a number below, above or within its range
 --     lowest-at, lowest-none                   a scan that ended at f, below n or not
-use Prim.Native.Nat.{ℕ, _<_, _≤_}
+--     column-more                              an array filled in order has one entry more
+use Prim.Native.Nat.{ℕ, _+_, _<_, _≤_}
 use mathlib.Core.Path.{_≡_, refl, sym, _∙_, ap}
 use mathlib.Core.Bool.{Bool, true, false}
+use mathlib.Core.List.{List}
+use lib.ListN.{set}
 use borrow.Author.Tests.{lt-ltb, le-ltb}
 use Rattle.laws.specs.First.{first}
+use Rattle.laws.specs.Tab.{tab, cut}
+use Rattle.laws.specs.TabLaws.{filled-next}
 use Rattle.tasks.specs.declared.Answer.{Answer}
 use Rattle.tasks.specs.declared.Answer.the-variants.{Accepted, Refused}
 use Rattle.tasks.specs.Tests.{refuse, lowest, firstMet, outside}
@@ -29,3 +34,7 @@ lowest-at k p n f e h = rw (← e, lt-ltb f n h)
 pub lowest-none : (k : ℕ) (p : ℕ → Bool) (n f : ℕ) → f ≡ first p n → n ≤ f → lowest k p n ≡ Accepted
 unfolding lowest
 lowest-none k p n f e h = rw (← e, le-ltb f n h)
+
+pub column-more :
+    (column : List ℕ) (f : ℕ → ℕ) (i : ℕ) → i < 16 → column ≡ tab (cut i f 0) 16 → set column i (f i) ≡ tab (cut (i + 1) f 0) 16
+column-more column f i h e = ap (λ (l : List ℕ). set l i (f i)) e ∙ filled-next f 0 i 16 h

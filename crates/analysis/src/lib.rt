@@ -2,3 +2,4 @@
 mod columns;
 mod fields;
 mod frame;
+mod rates;

@@ -9,3 +9,4 @@ pub mod MultipleLaws
 pub mod Member
 pub mod MemberLaws
 pub mod SumLaws
+pub mod RankLaws

@@ -1,6 +1,7 @@
 -- Laws of membership and of lists that name no index twice.
 --     member-here, member-there     the head is a member, and so is every member of the tail
 --     member-cases                  a member of a list is its head or a member of the tail
+--     not-member-nil                the empty list has no member
 --     not-member-head, not-member-tail, not-member-cons      no member: not the head, no member of the tail; and back
 --     member-append                 members of the two parts
 --     member-take                   a member of a beginning is a member; not-member-take: what is no member is none of a beginning
@@ -14,6 +15,10 @@ use lib.Dec.{eqb}
 use lib.ListN.{take}
 use borrow.Author.Tests.{eqb-true, eq-eqb, ne-eqb}
 use Rattle.laws.specs.Member.{member, Distinct}
+
+pub not-member-nil : (i : ℕ) → member i [] ≡ false
+unfolding member
+not-member-nil i = refl
 
 pub member-here : (i : ℕ) (l : List ℕ) → member i (i ∷ l) ≡ true
 unfolding member

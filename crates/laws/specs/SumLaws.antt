@@ -20,6 +20,7 @@
 --     sumIn-step, sumIn-ext, sumIn-mono, sumIn-le      the same of that sum; it is at most the whole one
 --     sumIn-count      of a constant row; sumIn-rest: with the indices at which p fails it is the whole sum
 --     sumOver-append, sumOver-ext, sumOver-mono, sumOver-take-le, sumOver-const, sumOver-add
+--     sumOver-members  over a list that names no index twice, all below n, it is the sum over its members; count-members: their number
 use Prim.Native.Nat.{ℕ, zero, suc, _+_, _*_, _≤_, _<_}
 use mathlib.Core.Bool.{Bool, true, false, cond, not}
 use mathlib.Core.Path.{_≡_, refl, sym, _∙_}
@@ -31,11 +32,11 @@ use native.Mathlib.Omega.{arith}
 use lib.Arith.{le-zero}
 use lib.Dec.{eqb}
 use lib.ListN.{length, take}
-use borrow.Author.Tests.{eqb-true, eqb-false}
+use borrow.Author.Tests.{eqb-true, eqb-false, eq-eqb, ne-eqb}
 use Rattle.laws.specs.Sum.{sum, count, sumOver}
 use Rattle.laws.specs.Tab.{cut}
 use Rattle.laws.specs.TabLaws.{cut-below, cut-above}
-use Rattle.laws.specs.Member.{member}
+use Rattle.laws.specs.Member.{member, Distinct}
 use Rattle.laws.specs.MemberLaws.{member-here, member-there}
 
 pub sum-step : (f : ℕ → ℕ) (n : ℕ) → sum f (n + 1) ≡ sum f n + f n
@@ -238,3 +239,23 @@ pub sumOver-add : (f g : ℕ → ℕ) (l : List ℕ) → sumOver (λ i. f i + g 
 unfolding sumOver
 sumOver-add f g [] = refl
 sumOver-add f g (i ∷ l) = omega (arith, sumOver-add f g l)
+
+pub sumOver-members :
+    (f : ℕ → ℕ) (l : List ℕ) (n : ℕ) → Distinct l → ((i : ℕ) → member i l ≡ true → i < n) → sumOver f l ≡ sumIn (λ i. member i l) f n
+unfolding sumOver sumIn member Distinct
+sumOver-members f [] n d below = sym (sum-zero (λ i. cond (member i []) (f i) 0) n (λ i h. refl))
+sumOver-members f (j ∷ l) n d below =
+    let one : sum (λ i. cond (member i (j ∷ l)) (f i) 0) n + cond (member j l) (f j) 0 ≡ sum (λ i. cond (member i l) (f i) 0) n + cond (member j (j ∷ l)) (f j) 0 =
+    sum-but-one
+    (λ i. cond (member i (j ∷ l)) (f i) 0)
+    (λ i. cond (member i l) (f i) 0)
+    n
+    j
+    (below j (member-here j l))
+    (λ i h ne. rw (ne-eqb i j ne)) in
+    let ih = sumOver-members f l n (d .1) (λ i e. below i (member-there i j l e)) in
+    omega (arith, rw (d .0, eq-eqb j j refl) at one)
+
+pub count-members : (l : List ℕ) (n : ℕ) → Distinct l → ((i : ℕ) → member i l ≡ true → i < n) → count (λ i. member i l) n ≡ length l
+unfolding count sumIn
+count-members l n d below = omega (arith, sumOver-members (λ i. 1) l n d below, sumOver-const 1 l)

@@ -2,9 +2,10 @@ use mathlib.Core.List.{List}
 use Rattle.tasks.specs.declared.Task.{Task}
 use lib.ListN.{replicate}
 use Rattle.laws.specs.Tab.{tab, cut}
-use Rattle.laws.specs.TabLaws.{filled-none, filled-next}
+use Rattle.laws.specs.TabLaws.{filled-none}
 use Rattle.tasks.specs.Content.{taskOf, noTask}
 use Rattle.analysis.specs.Columns.{columnsOf}
+use Rattle.analysis.specs.StageLaws.{column-more}
 use borrow.Author.Needs.{needs}
 use native.Mathlib.Omega.{arith}
 use native.Mathlib.Numerals.{add-one}
@@ -16,10 +17,6 @@ use Rattle.analysis.proofs.columns.split.Statement.{statement}
 use Rattle.analysis.proofs.columns.split.Tie as tie
 use Rattle.analysis.proofs.columns.split.Reads as reads
 use Rattle.analysis.proofs.columns.split.Lts as lts
-
--- one more entry of a column
-next : (column : List ℕ) (f : ℕ → ℕ) (i : ℕ) → i < 16 → column ≡ tab (cut i f 0) 16 → set column i (f i) ≡ tab (cut (i + 1) f 0) 16
-next column f i h e = ap (λ (l : List ℕ). set l i (f i)) e ∙ filled-next f 0 i 16 h
 
 abbrev Inv-loop : tie.InvT-loop
 Inv-loop tasks task separation₀ budget₀ offset₀ i₀ separation budget offset i =
@@ -80,11 +77,12 @@ loop-again : tie.Need-loop-again Inv-loop μ-loop
 unfolding taskOf noTask
 loop-again c =
     let l = c .before .before .loop in
-    let t = c .before .before .before .args .t1 in
-    ( omega arith
-    , next (l .separation) (λ i. taskOf t i .separation) (l .i) (omega arith) (l .inv .1)
-    , next (l .budget) (λ i. taskOf t i .budget) (l .i) (omega arith) (l .inv .2)
-    , next (l .offset) (λ i. taskOf t i .offset) (l .i) (omega arith) (l .inv .3))
+    let t = c .before .before .before .args .t1 in (
+      omega arith,
+      column-more (l .separation) (λ i. taskOf t i .separation) (l .i) (omega arith) (l .inv .1),
+      column-more (l .budget) (λ i. taskOf t i .budget) (l .i) (omega arith) (l .inv .2),
+      column-more (l .offset) (λ i. taskOf t i .offset) (l .i) (omega arith) (l .inv .3),
+    )
 
 -- src/columns.rt:13:1
 returns : tie.Need-returns Inv-loop μ-loop

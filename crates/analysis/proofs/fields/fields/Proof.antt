@@ -44,9 +44,10 @@ cast-t10 c = search needs
 returns-2 : tie.Need-returns-2
 unfolding fieldsTest firstMet
 returns-2 c =
-    rw
-    ( lowest-none 6 _ _ _ (c .before .before .before .bad-separation .ensures) (c .before .before .if1 .left)
-    , lowest-at 7 _ _ _ (c .before .bad-budget .ensures) (c .if2 .taken))
+    rw (
+      lowest-none 6 _ _ _ (c .before .before .before .bad-separation .ensures) (c .before .before .if1 .left),
+      lowest-at 7 _ _ _ (c .before .bad-budget .ensures) (c .if2 .taken),
+    )
 
 -- src/fields.rt:86:9
 bad-offset-requires : tie.Need-bad-offset-requires
@@ -60,19 +61,21 @@ cast-t11 c = search needs
 returns-3 : tie.Need-returns-3
 unfolding fieldsTest firstMet
 returns-3 c =
-    rw
-    ( lowest-none 6 _ _ _ (c .before .before .before .before .before .bad-separation .ensures) (c .before .before .before .before .if1 .left)
-    , lowest-none 7 _ _ _ (c .before .before .before .bad-budget .ensures) (c .before .before .if2 .left)
-    , lowest-at 8 _ _ _ (c .before .bad-offset .ensures) (c .if3 .taken))
+    rw (
+      lowest-none 6 _ _ _ (c .before .before .before .before .before .bad-separation .ensures) (c .before .before .before .before .if1 .left),
+      lowest-none 7 _ _ _ (c .before .before .before .bad-budget .ensures) (c .before .before .if2 .left),
+      lowest-at 8 _ _ _ (c .before .bad-offset .ensures) (c .if3 .taken),
+    )
 
 -- src/fields.rt:63:1
 returns-4 : tie.Need-returns-4
 unfolding fieldsTest firstMet
 returns-4 c =
-    rw
-    ( lowest-none 6 _ _ _ (c .before .before .before .before .before .bad-separation .ensures) (c .before .before .before .before .if1 .left)
-    , lowest-none 7 _ _ _ (c .before .before .before .bad-budget .ensures) (c .before .before .if2 .left)
-    , lowest-none 8 _ _ _ (c .before .bad-offset .ensures) (c .if3 .left))
+    rw (
+      lowest-none 6 _ _ _ (c .before .before .before .before .before .bad-separation .ensures) (c .before .before .before .before .if1 .left),
+      lowest-none 7 _ _ _ (c .before .before .before .bad-budget .ensures) (c .before .before .if2 .left),
+      lowest-none 8 _ _ _ (c .before .bad-offset .ensures) (c .if3 .left),
+    )
 
 pub fields-spec : {M : Type 1} → statement M
 fields-spec =

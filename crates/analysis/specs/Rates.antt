@@ -1,0 +1,43 @@
+-- What the second stage answers, over a task set that meets none of 3 and 5 to 8.
+--     Ranges       what that leaves of the counts and the tasks' fields
+--     ratesTest    9 and 10
+--     Rated        the answer, and where it is no refusal H, the surpluses' sum, the shares and each H × C
+use Prim.Native.Nat.{ℕ, _*_, _≤_, _<_}
+use mathlib.Core.Path.{_≡_}
+use mathlib.Core.List.{List, [], _∷_}
+use lib.Dec.{ltb}
+use Rattle.laws.specs.Sum.{sum}
+use Rattle.laws.specs.Tab.{tab, cut}
+use Rattle.tasks.specs.declared.Task.{Task}
+use Rattle.tasks.specs.declared.Answer.{Answer}
+use Rattle.tasks.specs.declared.Answer.the-variants.{Accepted}
+use Rattle.tasks.specs.TaskSet.{TaskSet, hyperperiod, share, surplus}
+use Rattle.tasks.specs.Tests.{refuse, firstMet}
+use Rattle.analysis.specs.declared.rates.Rates.{Rates}
+
+-- a task whose fields keep their limits
+pub record Within (t : Task) : Type 0 where
+  pub low : 1 ≤ t .separation
+  pub high : t .separation ≤ 100000
+  pub budget : t .budget ≤ t .separation
+  pub offset : t .offset ≤ t .separation
+
+pub record Ranges (s : TaskSet) : Type 0 where
+  pub cores : s .cores ≤ 8
+  pub tasks : s .count ≤ 16
+  pub each : (i : ℕ) → i < s .count → Within (s .task i)
+
+unfoldable pub ratesTest : TaskSet → Answer
+ratesTest s =
+    firstMet
+    (refuse 9 (ltb 1000000 (hyperperiod s)) ∷ refuse 10 (ltb (s .cores * hyperperiod s) (sum (share s) (s .count))) ∷ [])
+
+pub record Figures (s : TaskSet) (r : Rates) : Type 0 where
+  pub multiple : r .multiple ≡ hyperperiod s
+  pub surplus : r .surplus ≡ sum (surplus s) (s .count)
+  pub share : r .share ≡ tab (cut (s .count) (share s) 0) 16
+  pub cost : r .cost ≡ tab (cut (s .count) (λ k. hyperperiod s * s .task k .budget) 0) 16
+
+pub record Rated (s : TaskSet) (r : Rates) : Type 0 where
+  pub answer : r .answer ≡ ratesTest s
+  pub figures : r .answer ≡ Accepted → Figures s r

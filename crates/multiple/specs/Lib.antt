@@ -1,0 +1,3 @@
+pub mod Greatest
+pub mod GreatestLaws
+pub mod Allowed
