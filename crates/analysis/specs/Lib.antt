@@ -2,3 +2,4 @@ pub mod Columns
 pub mod Stages
 pub mod StageLaws
 pub mod Rates
+pub mod RatesLaws

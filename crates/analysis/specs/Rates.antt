@@ -8,24 +8,19 @@ use mathlib.Core.List.{List, [], _∷_}
 use lib.Dec.{ltb}
 use Rattle.laws.specs.Sum.{sum}
 use Rattle.laws.specs.Tab.{tab, cut}
-use Rattle.tasks.specs.declared.Task.{Task}
 use Rattle.tasks.specs.declared.Answer.{Answer}
 use Rattle.tasks.specs.declared.Answer.the-variants.{Accepted}
 use Rattle.tasks.specs.TaskSet.{TaskSet, hyperperiod, share, surplus}
 use Rattle.tasks.specs.Tests.{refuse, firstMet}
+use Rattle.tasks.specs.ShareLaws.{Timed}
 use Rattle.analysis.specs.declared.rates.Rates.{Rates}
-
--- a task whose fields keep their limits
-pub record Within (t : Task) : Type 0 where
-  pub low : 1 ≤ t .separation
-  pub high : t .separation ≤ 100000
-  pub budget : t .budget ≤ t .separation
-  pub offset : t .offset ≤ t .separation
 
 pub record Ranges (s : TaskSet) : Type 0 where
   pub cores : s .cores ≤ 8
   pub tasks : s .count ≤ 16
-  pub each : (i : ℕ) → i < s .count → Within (s .task i)
+  pub timed : Timed s
+  pub separation : (i : ℕ) → i < s .count → s .task i .separation ≤ 100000
+  pub offset : (i : ℕ) → i < s .count → s .task i .offset ≤ s .task i .separation
 
 unfoldable pub ratesTest : TaskSet → Answer
 ratesTest s =

@@ -1,19 +1,22 @@
 -- How a stage's answer follows from what its code has seen.
---     outside-low, outside-high, outside-in    a number below, above or within its range
---     lowest-at, lowest-none                   a scan that ended at f, below n or not
---     column-more                              an array filled in order has one entry more
+--     outside-low, outside-high    a number below or above its range
+--     scan-found, scan-none        a scan that ended at f, below n or not
+--     column-more                  an array filled in order has one entry more
 use Prim.Native.Nat.{ℕ, _+_, _<_, _≤_}
 use mathlib.Core.Path.{_≡_, refl, sym, _∙_, ap}
 use mathlib.Core.Bool.{Bool, true, false}
 use mathlib.Core.List.{List}
 use lib.ListN.{set}
 use borrow.Author.Tests.{lt-ltb, le-ltb}
+use native.Mathlib.Omega.{arith}
 use Rattle.laws.specs.First.{first}
+use Rattle.laws.specs.FirstLaws.{first-le}
 use Rattle.laws.specs.Tab.{tab, cut}
 use Rattle.laws.specs.TabLaws.{filled-next}
 use Rattle.tasks.specs.declared.Answer.{Answer}
 use Rattle.tasks.specs.declared.Answer.the-variants.{Accepted, Refused}
-use Rattle.tasks.specs.Tests.{refuse, lowest, firstMet, outside}
+use Rattle.tasks.specs.Tests.{lowest, outside}
+use Rattle.tasks.specs.AnswerLaws.{lowest-found, lowest-none}
 
 pub outside-low : (low high x : ℕ) → x < low → outside low high x ≡ true
 unfolding outside
@@ -23,17 +26,11 @@ pub outside-high : (low high x : ℕ) → low ≤ x → high < x → outside low
 unfolding outside
 outside-high low high x l h = rw (le-ltb x low l, lt-ltb high x h)
 
-pub outside-in : (low high x : ℕ) → low ≤ x → x ≤ high → outside low high x ≡ false
-unfolding outside
-outside-in low high x l h = rw (le-ltb x low l, le-ltb high x h)
+pub scan-found : (k : ℕ) (p : ℕ → Bool) (n f : ℕ) → f ≡ first p n → f < n → lowest k p n ≡ Refused k f
+scan-found k p n f e h = lowest-found k p n f (sym e) h
 
-pub lowest-at : (k : ℕ) (p : ℕ → Bool) (n f : ℕ) → f ≡ first p n → f < n → lowest k p n ≡ Refused k f
-unfolding lowest
-lowest-at k p n f e h = rw (← e, lt-ltb f n h)
-
-pub lowest-none : (k : ℕ) (p : ℕ → Bool) (n f : ℕ) → f ≡ first p n → n ≤ f → lowest k p n ≡ Accepted
-unfolding lowest
-lowest-none k p n f e h = rw (← e, le-ltb f n h)
+pub scan-none : (k : ℕ) (p : ℕ → Bool) (n f : ℕ) → f ≡ first p n → n ≤ f → lowest k p n ≡ Accepted
+scan-none k p n f e h = lowest-none k p n (omega (arith, first-le p n))
 
 pub column-more :
     (column : List ℕ) (f : ℕ → ℕ) (i : ℕ) → i < 16 → column ≡ tab (cut i f 0) 16 → set column i (f i) ≡ tab (cut (i + 1) f 0) 16

@@ -72,7 +72,7 @@ fn surplus_of(share: &[u64; 16], separation: &[u32; 16], offset: &[u32; 16], tas
 }
 
 fn wide(x: u32) -> u64
-    ensures { λ r. ⌜ r ≡ x ⌝ }
+    ensures { λ r. ⌜ (r ≡ x) × (r < 4294967296) ⌝ }
 {
     x as u64
 }

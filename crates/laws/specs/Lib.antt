@@ -10,3 +10,7 @@ pub mod Member
 pub mod MemberLaws
 pub mod SumLaws
 pub mod RankLaws
+pub mod LargestLaws
+pub mod Push
+pub mod PushLaws
+pub mod CarryLaws

@@ -67,7 +67,8 @@ clears a b j = eqb (a * suc j % b) 0
 -- the multiple of a by j + 1 is not before the first that b divides, where b divides it
 not-before : (a b j : ℕ) → b ∣ a * suc j → first (clears a b) b ≤ j
 not-before a b j d =
-    let no : ¬ (j < first (clears a b) b) = λ l. true≢false (sym (eq-eqb _ _ (mod-eq-zero-of-dvd b d)) ∙ first-before (clears a b) b j l) in
+    let no : ¬ (j < first (clears a b) b) =
+    λ l. true≢false (sym (eq-eqb _ _ (mod-eq-zero-of-dvd b d)) ∙ first-before (clears a b) b j l) in
     omega arith
 
 pub lcm-first : (a b j : ℕ) → b ∣ a * suc j → lcm a b ≤ a * suc j
@@ -135,7 +136,8 @@ unfolding lcmBelow
 lcmBelow-ext f g zero same = refl
 lcmBelow-ext f g (suc n) same = rw (lcmBelow-ext f g n (λ i h. same i (omega arith)), same n (omega arith))
 
-pub lcmBelow-divides : (f : ℕ → ℕ) (n c : ℕ) → ((i : ℕ) → i < n → 1 ≤ f i) → ((i : ℕ) → i < n → f i ∣ c) → lcmBelow f n ∣ c
+pub lcmBelow-divides :
+    (f : ℕ → ℕ) (n c : ℕ) → ((i : ℕ) → i < n → 1 ≤ f i) → ((i : ℕ) → i < n → f i ∣ c) → lcmBelow f n ∣ c
 unfolding lcmBelow
 lcmBelow-divides f zero c low each = one-dvd c
 lcmBelow-divides f (suc n) c low each =
@@ -143,8 +145,10 @@ lcmBelow-divides f (suc n) c low each =
     (lcmBelow-divides f n c (λ i h. low i (omega arith)) (λ i h. each i (omega arith)))
     (each n (omega arith))
 
-pub lcmBelow-least : (f : ℕ → ℕ) (n c : ℕ) → ((i : ℕ) → i < n → 1 ≤ f i) → 1 ≤ c → ((i : ℕ) → i < n → c % f i ≡ 0) → lcmBelow f n ≤ c
-lcmBelow-least f n c low h each = le-of-dvd h (lcmBelow-divides f n c low (λ i l. dvd-of-mod-eq-zero (f i) (each i l)))
+pub lcmBelow-least :
+    (f : ℕ → ℕ) (n c : ℕ) → ((i : ℕ) → i < n → 1 ≤ f i) → 1 ≤ c → ((i : ℕ) → i < n → c % f i ≡ 0) → lcmBelow f n ≤ c
+lcmBelow-least f n c low h each =
+    le-of-dvd h (lcmBelow-divides f n c low (λ i l. dvd-of-mod-eq-zero (f i) (each i l)))
 
 module _ (f : ℕ → ℕ) where
   pub lcmBelow-divided : (n : ℕ) → ((i : ℕ) → i < n → 1 ≤ f i) → (i : ℕ) → i < n → f i ∣ lcmBelow f n

@@ -12,6 +12,7 @@
 --     term-le-sum      an entry is at most the sum
 --     sum-but-one      rows that agree but at k
 --     sum-append       the sum below n + m, in two parts
+--     sum-front        the first entry and the rest
 --     sum-upto         the sum below fewer is at most the sum below more; sum-rest: equal, if the rest is zeros
 --     sum-cut          a row that is cut off at n, with zeros after it
 --     count-step, count-ext, count-mono, count-le      the same of the number of indices at which a test holds
@@ -115,6 +116,11 @@ pub sum-append : (f : ℕ → ℕ) (n m : ℕ) → sum f (n + m) ≡ sum f n + s
 unfolding sum
 sum-append f n zero = rw (add-zero n) (omega arith)
 sum-append f n (suc m) = rw add-suc (omega (arith, sum-append f n m))
+
+pub sum-front : (f : ℕ → ℕ) (n : ℕ) → sum f (suc n) ≡ f 0 + sum (λ i. f (suc i)) n
+unfolding sum
+sum-front f zero = omega arith
+sum-front f (suc n) = omega (arith, sum-front f n)
 
 pub sum-rest : (f : ℕ → ℕ) (m n : ℕ) → m ≤ n → ((i : ℕ) → m ≤ i → i < n → f i ≡ 0) → sum f n ≡ sum f m
 unfolding sum

@@ -6,7 +6,8 @@
 --     lowest-ext                      tests that agree below n are met alike
 --     firstMet-pass, firstMet-stop    a list that begins with a test passed, or met
 --     firstMet-passed, pass-firstMet  no test of a list is met: not its first, and none of the rest
---     firstMet-append                 tests of one list, then of another
+--     firstMet-append                 tests of one list, then of another: orNext
+--     orNext-assoc, orNext-passed     of which neither is met where no refusal comes out
 --     neither                         an `or` that is false has both its parts false
 --     outside-passed, pass-outside    outside low high x is false exactly where x is low to high
 use Prim.Native.Nat.{ℕ, _≤_, _<_}
@@ -62,6 +63,10 @@ pub orNext-assoc : (a b c : Answer) → orNext (orNext a b) c ≡ orNext a (orNe
 orNext-assoc Accepted b c = refl
 orNext-assoc (Refused k i) b c = refl
 
+pub orNext-passed : (a b : Answer) → orNext a b ≡ Accepted → (a ≡ Accepted) × (b ≡ Accepted)
+orNext-passed Accepted b e = (refl, e)
+orNext-passed (Refused k i) b e = (cc, cc)
+
 pub firstMet-pass : (a : Answer) (l : List Answer) → a ≡ Accepted → firstMet (a ∷ l) ≡ firstMet l
 unfolding firstMet
 firstMet-pass a l e = rw e
@@ -72,8 +77,7 @@ firstMet-stop a l k i e = rw e
 
 pub firstMet-passed : (a : Answer) (l : List Answer) → firstMet (a ∷ l) ≡ Accepted → (a ≡ Accepted) × (firstMet l ≡ Accepted)
 unfolding firstMet
-firstMet-passed Accepted l e = (refl, e)
-firstMet-passed (Refused k i) l e = (cc, cc)
+firstMet-passed a l e = orNext-passed a (firstMet l) e
 
 pub pass-firstMet : (a : Answer) (l : List Answer) → a ≡ Accepted → firstMet l ≡ Accepted → firstMet (a ∷ l) ≡ Accepted
 pass-firstMet a l e f = firstMet-pass a l e ∙ f

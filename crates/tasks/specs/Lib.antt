@@ -5,3 +5,10 @@ pub mod Limits
 pub mod AnswerLaws
 pub mod LimitsLaws
 pub mod ShareLaws
+pub mod AmountLaws
+pub mod SlackLaws
+pub mod CeilingLaws
+pub mod RisingLaws
+pub mod FoundLaws
+pub mod TestsLaws
+pub mod TaskTheorems

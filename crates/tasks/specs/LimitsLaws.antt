@@ -53,7 +53,11 @@ module _ (c : Content) where
       let p = lowest-passed 4 (badLabel (c .label)) (c .tasks .cores) a in
       record { label-high = λ i h. label-passed i (p i h); label-rises = λ i h. label-above i (p (suc i) h) }
 
-  fields-passed : test3 c ≡ Accepted → test5 c ≡ Accepted → test6 c ≡ Accepted → test7 c ≡ Accepted → test8 c ≡ Accepted → test9 c ≡ Accepted → test10 c ≡ Accepted → Limits (c .tasks)
+  fields-passed :
+      test3 c ≡ Accepted → test5 c ≡ Accepted → test6 c ≡ Accepted → test7 c ≡ Accepted → test8 c ≡ Accepted
+      → test9 c ≡ Accepted
+      → test10 c ≡ Accepted
+      → Limits (c .tasks)
   unfolding test3 test5 test6 test7 test8 test9 test10
   fields-passed a3 a5 a6 a7 a8 a9 a10 =
       record {

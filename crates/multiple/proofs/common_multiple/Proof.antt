@@ -49,21 +49,22 @@ joined-requires c κs =
 -- after the call, h is the least common multiple of one separation more
 grown :
     (c : tie.After-joined Inv-loop μ-loop) →
-    c .joined .result ≡ lcmBelow (row (c .before .before .before .before .before .args .separation .now)) (c .before .before .before .before .loop .i + 1)
+    c .joined .result
+    ≡ lcmBelow (row (c .before .before .before .before .before .args .separation .now)) (c .before .before .before .before .loop .i + 1)
 grown c =
+    let at = c .before .before .before .before in
     c .joined .ensures
-    ∙ ap₂ lcm (c .before .before .before .before .loop .inv .2) (c .before .wide .ensures)
-    ∙ sym (lcmBelow-more (row (c .before .before .before .before .before .args .separation .now)) (c .before .before .before .before .loop .i))
+    ∙ ap₂ lcm (at .loop .inv .2) (c .before .wide .ensures)
+    ∙ sym (lcmBelow-more (row (at .before .args .separation .now)) (at .loop .i))
 
 add-result : tie.Need-add-result Inv-loop μ-loop
 add-result c = search needs
 
 returns : tie.Need-returns Inv-loop μ-loop
 returns c =
-    let i = c .before .before .before .before .before .loop .i in
-    let tasks = c .before .before .before .before .before .before .args .tasks in
-    let f = row (c .before .before .before .before .before .before .args .separation .now) in
-    omega (arith, grown (c .before), lcmBelow-mono f (i + 1) tasks (search needs))
+    let at = c .before .before .before .before .before in
+    let f = row (at .before .args .separation .now) in
+    omega (arith, grown (c .before), lcmBelow-mono f (at .loop .i + 1) (at .before .args .tasks) (search needs))
 
 add-i : tie.Need-add-i Inv-loop μ-loop
 add-i c = search needs

@@ -15,7 +15,16 @@ rem-rest c = search needs
 returns : tie.Need-returns
 returns c =
     let p = c .before .pre in
-    sym (lcm-same (c .before .args .h) (c .before .args .t) (p .multiple-low) (p .separation-low) (dvd-of-mod-eq-zero (c .before .args .t) (c .if1 .taken)))
+    let t = c .before .args .t in
+    sym (lcm-same (c .before .args .h) t (p .multiple-low) (p .separation-low) (dvd-of-mod-eq-zero t (c .if1 .taken)))
+
+returns-2 : tie.Need-returns-2
+returns-2 c =
+    let h = c .before .before .args .h in
+    let t = c .before .before .args .t in
+    let g = c .gcd .result in
+    let p = c .before .before .pre in
+    greatest-lcm h t g (p .multiple-low) (p .separation-low) (greatest-turn h t g (c .gcd .ensures))
 
 gcd-requires : tie.Need-gcd-requires
 gcd-requires c κs = search needs
@@ -26,15 +35,10 @@ div-result c = greatest-low (c .before .before .args .t) _ (c .gcd .result) (c .
 mul-result : tie.Need-mul-result
 mul-result c =
     let p = c .before .before .pre in
-    let quotient : c .before .before .args .h / c .gcd .result ≤ 1000000 = le-trans (div-le-self (c .before .before .args .h) (c .gcd .result)) (p .multiple-high) in
-    record { fits = omega (arith, mul-le-mul quotient (p .separation-high)) }
-
-returns-2 : tie.Need-returns-2
-returns-2 c =
     let h = c .before .before .args .h in
-    let t = c .before .before .args .t in
     let g = c .gcd .result in
-    greatest-lcm h t g (c .before .before .pre .multiple-low) (c .before .before .pre .separation-low) (greatest-turn h t g (c .gcd .ensures))
+    let quotient : h / g ≤ 1000000 = le-trans (div-le-self h g) (p .multiple-high) in
+    record { fits = omega (arith, mul-le-mul quotient (p .separation-high)) }
 
 pub joined-spec : {M : Type 1} → statement M
 joined-spec = tie.close (tie.spec rem-rest returns gcd-requires div-result mul-result returns-2)

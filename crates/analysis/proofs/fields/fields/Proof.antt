@@ -2,7 +2,7 @@ use lib.Dec.{ltb}
 use Rattle.tasks.specs.TaskSet.{row}
 use Rattle.tasks.specs.Tests.{firstMet, outside}
 use Rattle.analysis.specs.Stages.{fieldsTest}
-use Rattle.analysis.specs.StageLaws.{lowest-at, lowest-none}
+use Rattle.analysis.specs.StageLaws.{scan-found, scan-none}
 use native.Mathlib.Omega.{arith}
 use native.Mathlib.Numerals.{add-one}
 use Prim.Native.Nat.{ℕ, _≤_, _<_, _+_, _*_, _-_}
@@ -30,7 +30,7 @@ cast-t9 c = search needs
 returns : tie.Need-returns
 unfolding fieldsTest firstMet
 returns c =
-    rw (lowest-at 6 _ _ _ (c .before .bad-separation .ensures) (c .if1 .taken))
+    rw (scan-found 6 _ _ _ (c .before .bad-separation .ensures) (c .if1 .taken))
 
 -- src/fields.rt:79:9
 bad-budget-requires : tie.Need-bad-budget-requires
@@ -45,8 +45,8 @@ returns-2 : tie.Need-returns-2
 unfolding fieldsTest firstMet
 returns-2 c =
     rw (
-      lowest-none 6 _ _ _ (c .before .before .before .bad-separation .ensures) (c .before .before .if1 .left),
-      lowest-at 7 _ _ _ (c .before .bad-budget .ensures) (c .if2 .taken),
+      scan-none 6 _ _ _ (c .before .before .before .bad-separation .ensures) (c .before .before .if1 .left),
+      scan-found 7 _ _ _ (c .before .bad-budget .ensures) (c .if2 .taken),
     )
 
 -- src/fields.rt:86:9
@@ -62,9 +62,9 @@ returns-3 : tie.Need-returns-3
 unfolding fieldsTest firstMet
 returns-3 c =
     rw (
-      lowest-none 6 _ _ _ (c .before .before .before .before .before .bad-separation .ensures) (c .before .before .before .before .if1 .left),
-      lowest-none 7 _ _ _ (c .before .before .before .bad-budget .ensures) (c .before .before .if2 .left),
-      lowest-at 8 _ _ _ (c .before .bad-offset .ensures) (c .if3 .taken),
+      scan-none 6 _ _ _ (c .before .before .before .before .before .bad-separation .ensures) (c .before .before .before .before .if1 .left),
+      scan-none 7 _ _ _ (c .before .before .before .bad-budget .ensures) (c .before .before .if2 .left),
+      scan-found 8 _ _ _ (c .before .bad-offset .ensures) (c .if3 .taken),
     )
 
 -- src/fields.rt:63:1
@@ -72,9 +72,9 @@ returns-4 : tie.Need-returns-4
 unfolding fieldsTest firstMet
 returns-4 c =
     rw (
-      lowest-none 6 _ _ _ (c .before .before .before .before .before .bad-separation .ensures) (c .before .before .before .before .if1 .left),
-      lowest-none 7 _ _ _ (c .before .before .before .bad-budget .ensures) (c .before .before .if2 .left),
-      lowest-none 8 _ _ _ (c .before .bad-offset .ensures) (c .if3 .left),
+      scan-none 6 _ _ _ (c .before .before .before .before .before .bad-separation .ensures) (c .before .before .before .before .if1 .left),
+      scan-none 7 _ _ _ (c .before .before .before .bad-budget .ensures) (c .before .before .if2 .left),
+      scan-none 8 _ _ _ (c .before .bad-offset .ensures) (c .if3 .left),
     )
 
 pub fields-spec : {M : Type 1} → statement M

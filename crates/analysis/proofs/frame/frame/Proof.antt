@@ -1,4 +1,5 @@
-use Rattle.analysis.specs.StageLaws.{outside-low, outside-high, outside-in, lowest-at, lowest-none}
+use Rattle.tasks.specs.AnswerLaws.{pass-outside}
+use Rattle.analysis.specs.StageLaws.{outside-low, outside-high, scan-found, scan-none}
 use borrow.Author.Tests.{lt-ltb, le-ltb}
 use Rattle.laws.specs.First.{first}
 use Rattle.tasks.specs.TaskSet.{row}
@@ -41,8 +42,8 @@ unfolding frameTest firstMet
 returns-3 c =
     let a = c .before .before .before .before .args in
     rw (
-      outside-in 2 8 (a .cores) (omega arith) (omega arith),
-      lowest-at 4 (badLabel (row (a .labels .now))) (a .cores) _ (c .before .bad-label .ensures) (c .if3 .taken),
+      pass-outside 2 8 (a .cores) (omega arith) (omega arith),
+      scan-found 4 (badLabel (row (a .labels .now))) (a .cores) _ (c .before .bad-label .ensures) (c .if3 .taken),
     )
 
 -- src/frame.rt:64:9
@@ -51,8 +52,8 @@ unfolding frameTest firstMet
 returns-4 c =
     let a = c .before .before .before .before .before .args in
     rw (
-      outside-in 2 8 (a .cores) (omega arith) (omega arith),
-      lowest-none 4 (badLabel (row (a .labels .now))) (a .cores) _ (c .before .before .bad-label .ensures) (c .before .if3 .left),
+      pass-outside 2 8 (a .cores) (omega arith) (omega arith),
+      scan-none 4 (badLabel (row (a .labels .now))) (a .cores) _ (c .before .before .bad-label .ensures) (c .before .if3 .left),
       outside-low (a .cores + 1) 16 (a .tasks) (omega arith),
     )
 
@@ -62,8 +63,8 @@ unfolding frameTest firstMet
 returns-5 c =
     let a = c .before .before .before .before .before .before .args in
     rw (
-      outside-in 2 8 (a .cores) (omega arith) (omega arith),
-      lowest-none 4 (badLabel (row (a .labels .now))) (a .cores) _ (c .before .before .before .bad-label .ensures) (c .before .before .if3 .left),
+      pass-outside 2 8 (a .cores) (omega arith) (omega arith),
+      scan-none 4 (badLabel (row (a .labels .now))) (a .cores) _ (c .before .before .before .bad-label .ensures) (c .before .before .if3 .left),
       outside-high (a .cores + 1) 16 (a .tasks) (omega arith) (c .if5 .taken),
     )
 
@@ -73,9 +74,9 @@ unfolding frameTest firstMet
 returns-6 c =
     let a = c .before .before .before .before .before .before .args in
     rw (
-      outside-in 2 8 (a .cores) (omega arith) (omega arith),
-      lowest-none 4 (badLabel (row (a .labels .now))) (a .cores) _ (c .before .before .before .bad-label .ensures) (c .before .before .if3 .left),
-      outside-in (a .cores + 1) 16 (a .tasks) (omega arith) (omega arith),
+      pass-outside 2 8 (a .cores) (omega arith) (omega arith),
+      scan-none 4 (badLabel (row (a .labels .now))) (a .cores) _ (c .before .before .before .bad-label .ensures) (c .before .before .if3 .left),
+      pass-outside (a .cores + 1) 16 (a .tasks) (omega arith) (omega arith),
     )
 
 pub frame-spec : {M : Type 1} → statement M

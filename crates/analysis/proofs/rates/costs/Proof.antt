@@ -45,7 +45,8 @@ wide-requires c κs = search needs
 
 -- src/rates.rt:42:19
 mul-cost : tie.Need-mul-cost Inv-loop μ-loop
-mul-cost c = ?
+mul-cost c =
+    omega (arith, mul-le-mul {m₁ = c .wide .result} {n₂ = 1000000} {m₂ = 4294967296} (c .before .before .before .before .pre .1) (omega arith))
 
 -- src/rates.rt:42:9
 mul-cost-2 : tie.Need-mul-cost-2 Inv-loop μ-loop
@@ -66,11 +67,16 @@ loop-less c = search needs
 -- src/rates.rt:41:5
 loop-again : tie.Need-loop-again Inv-loop μ-loop
 unfolding row
-loop-again c = (omega arith, ?)
+loop-again c =
+    let l = c .before .before .before .loop in
+    let a = c .before .before .before .before .args in
+    (omega arith, rw (c .wide .ensures .0) (column-more (l .cost) (λ i. a .multiple * row (a .budget .now) i) (l .i) (omega arith) (l .inv .1)))
 
 -- src/rates.rt:35:1
 returns : tie.Need-returns Inv-loop μ-loop
-returns c = ?
+returns c =
+    let e : c .before .loop .i ≡ c .before .before .args .tasks = omega arith in
+    rw e at (c .before .loop .inv .1)
 
 pub costs-spec : {M : Type 1} → statement M
 costs-spec =

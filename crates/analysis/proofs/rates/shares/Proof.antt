@@ -45,7 +45,8 @@ wide-requires c κs = search needs
 
 -- src/rates.rt:29:20
 mul-share : tie.Need-mul-share Inv-loop μ-loop
-mul-share c = ?
+mul-share c =
+    omega (arith, mul-le-mul {n₁ = c .wide .result} {n₂ = 4294967296} {m₂ = 1000000} (omega arith) (c .before .before .before .before .pre .1))
 
 -- src/rates.rt:29:54
 mul-wide-2 : tie.Need-mul-wide-2 Inv-loop μ-loop
@@ -62,7 +63,8 @@ wide-requires-2 c κs = search needs
 -- src/rates.rt:29:20
 div-share : tie.Need-div-share Inv-loop μ-loop
 unfolding row
-div-share c = ?
+div-share c =
+    omega (arith, c .before .before .before .before .before .before .pre .2 (c .before .before .before .before .before .loop .i) (omega arith))
 
 -- src/rates.rt:29:9
 mul-share-2 : tie.Need-mul-share-2 Inv-loop μ-loop
@@ -83,11 +85,18 @@ loop-less c = search needs
 -- src/rates.rt:28:5
 loop-again : tie.Need-loop-again Inv-loop μ-loop
 unfolding row
-loop-again c = (omega arith, ?)
+loop-again c =
+    let l = c .before .before .before .before .before .loop in
+    let a = c .before .before .before .before .before .before .args in
+    ( omega arith
+    , rw (c .wide2 .ensures .0, c .before .before .wide .ensures .0)
+      (column-more (l .share) (λ i. row (a .budget .now) i * a .multiple / row (a .separation .now) i) (l .i) (omega arith) (l .inv .1)))
 
 -- src/rates.rt:22:1
 returns : tie.Need-returns Inv-loop μ-loop
-returns c = ?
+returns c =
+    let e : c .before .loop .i ≡ c .before .before .args .tasks = omega arith in
+    rw e at (c .before .loop .inv .1)
 
 pub shares-spec : {M : Type 1} → statement M
 shares-spec =

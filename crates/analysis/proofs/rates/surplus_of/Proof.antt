@@ -20,6 +20,10 @@ use Rattle.analysis.proofs.rates.surplus_of.Reads as reads
 use Rattle.analysis.proofs.rates.surplus_of.Lts as lts
 use Rattle.analysis.proofs.rates.wide.Reads as wide-reads
 
+-- one task's surplus is at most 10^11
+term : (share separation offset w : ℕ) → share ≤ 1000000 → separation ≤ 100000 → w ≡ separation - offset → share * w ≤ 100000000000
+term share separation offset w h k e = mul-le-mul {n₂ = 1000000} {m₂ = 100000} h (omega arith)
+
 abbrev Inv-loop : tie.InvT-loop
 Inv-loop share separation offset tasks all₀ i₀ all i =
     (i ≤ tasks) × (all ≡ sum (λ i. row share i * (row separation i - row offset i)) i) × (all ≤ i * 100000000000)
@@ -58,7 +62,9 @@ element-copy-out-wide-2 c = search needs
 
 -- src/rates.rt:68:32
 sub-wide : tie.Need-sub-wide Inv-loop μ-loop
-sub-wide c = ?
+unfolding row
+sub-wide c =
+    omega (arith, c .before .before .before .before .before .pre .1 (c .before .before .before .before .loop .i) (omega arith))
 
 -- src/rates.rt:68:27
 wide-requires : tie.Need-wide-requires Inv-loop μ-loop
@@ -66,11 +72,17 @@ wide-requires c κs = search needs
 
 -- src/rates.rt:68:16
 mul-all-2 : tie.Need-mul-all-2 Inv-loop μ-loop
-mul-all-2 c = ?
+unfolding row
+mul-all-2 c =
+    let p = c .before .before .before .before .before .before .pre .1 (c .before .before .before .before .before .loop .i) (omega arith) in
+    omega (arith, term _ _ _ _ (p .0) (p .1) (c .wide .ensures .0))
 
 -- src/rates.rt:68:9
 add-all : tie.Need-add-all Inv-loop μ-loop
-add-all c = ?
+unfolding row
+add-all c =
+    let p = c .before .before .before .before .before .before .pre .1 (c .before .before .before .before .before .loop .i) (omega arith) in
+    omega (arith, term _ _ _ _ (p .0) (p .1) (c .wide .ensures .0))
 
 -- src/rates.rt:69:9
 add-i : tie.Need-add-i Inv-loop μ-loop
@@ -83,11 +95,22 @@ loop-less c = search needs
 -- src/rates.rt:67:5
 loop-again : tie.Need-loop-again Inv-loop μ-loop
 unfolding row
-loop-again c = (omega arith, ?, ?)
+loop-again c =
+    let l = c .before .before .before .before .before .loop in
+    let a = c .before .before .before .before .before .before .args in
+    let p = c .before .before .before .before .before .before .pre .1 (l .i) (omega arith) in
+    ( omega arith
+    , rw
+      ( sum-step (λ i. row (a .share .now) i * (row (a .separation .now) i - row (a .offset .now) i)) (l .i)
+      , l .inv .1
+      , c .wide .ensures .0)
+    , omega (arith, term _ _ _ _ (p .0) (p .1) (c .wide .ensures .0)))
 
 -- src/rates.rt:61:1
 returns : tie.Need-returns Inv-loop μ-loop
-returns c = ?
+returns c =
+    let e : c .before .loop .i ≡ c .before .before .args .tasks = omega arith in
+    rw e at (c .before .loop .inv .1)
 
 pub surplus-of-spec : {M : Type 1} → statement M
 surplus-of-spec =

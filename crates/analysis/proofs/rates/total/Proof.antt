@@ -40,7 +40,9 @@ element-copy-out-all c = search needs
 
 -- src/rates.rt:55:9
 add-all : tie.Need-add-all Inv-loop μ-loop
-add-all c = ?
+unfolding row
+add-all c =
+    omega (arith, c .before .before .before .pre .1 (c .before .before .loop .i) (omega arith))
 
 -- src/rates.rt:56:9
 add-i : tie.Need-add-i Inv-loop μ-loop
@@ -53,11 +55,17 @@ loop-less c = search needs
 -- src/rates.rt:54:5
 loop-again : tie.Need-loop-again Inv-loop μ-loop
 unfolding row
-loop-again c = (omega arith, ?, ?)
+loop-again c =
+    let l = c .before .before .loop in
+    ( omega arith
+    , rw (sum-step (row (c .before .before .before .args .share .now)) (l .i), l .inv .1)
+    , omega (arith, c .before .before .before .pre .1 (l .i) (omega arith)))
 
 -- src/rates.rt:48:1
 returns : tie.Need-returns Inv-loop μ-loop
-returns c = ?
+returns c =
+    let e : c .before .loop .i ≡ c .before .before .args .tasks = omega arith in
+    rw e at (c .before .loop .inv .1)
 
 pub total-spec : {M : Type 1} → statement M
 total-spec =

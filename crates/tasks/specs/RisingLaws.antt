@@ -1,0 +1,109 @@
+-- The slack on its way from zeros, for the search: each turn raises it, no compliant slack is below it, and it comes nearer to the ceiling.
+--     Raised                what a turn makes of a slack; raise-row, raise-length: `raise` does that
+--     same-true, same-false, true-same     whether a turn changed nothing, by loops
+--     Rising                what holds of every slack on the way: the next turn takes nothing off it, and no compliant slack is below it
+--     rising-start          zeros
+--     rising-step           what a turn makes of it
+--     rising-high           it is at most 800,000 at every loop; raised-high: what the next turn needs is too
+--     rising-sum            so its sum is at most n × 800,000
+--     rising-more           a turn that changes a loop makes the sum larger
+--     rising-falls          and n × 800,000 less the sum smaller: the search's measure
+--     turn-falls            the same by `same`, as a loop over arrays tests it
+--     still-compliant       slack that a turn leaves as it is is compliant
+use Prim.Native.Nat.{ℕ, _-_, _*_, _≤_, _<_}
+use mathlib.Core.Path.{_≡_, refl}
+use mathlib.Core.Bool.{Bool, true, false, not}
+use mathlib.Core.List.{List}
+use mathlib.Core.Logic.{_≢_}
+use native.Mathlib.Nat.{le-trans}
+use native.Mathlib.Omega.{arith}
+use lib.ListN.{length}
+use lib.Dec.{eqb}
+use lib.Arith.{lt-of-le-ne}
+use borrow.Author.Tests.{eqb-true, eqb-false, eq-eqb, not-true, not-false}
+use Rattle.laws.specs.First.{first}
+use Rattle.laws.specs.FirstLaws.{first-le, first-holds, first-none, none-first}
+use Rattle.laws.specs.Sum.{sum}
+use Rattle.laws.specs.SumLaws.{sum-less, sum-le-mul}
+use Rattle.laws.specs.TabLaws.{getD-tab, length-tab}
+use Rattle.tasks.specs.TaskSet.{TaskSet, amount, Compliant, needed, row, raise, same, ceiling}
+use Rattle.tasks.specs.Limits.{Limits}
+use Rattle.tasks.specs.AmountLaws.{amount-mono}
+use Rattle.tasks.specs.SlackLaws.{needed-mono, compliant-needed, needed-compliant}
+use Rattle.tasks.specs.CeilingLaws.{ceiling-compliant}
+
+-- y is x raised once
+unfoldable pub Raised : TaskSet → (ℕ → ℕ) → (ℕ → ℕ) → Type 0
+Raised s x y = (k : ℕ) → k < s .count → y k ≡ needed s (amount s x) k
+
+module _ (s : TaskSet) where
+  pub raise-row : (x : List ℕ) → Raised s (row x) (row (raise s x))
+  unfolding Raised row raise
+  raise-row x k h = getD-tab _ (s .count) k 0 h
+
+  pub raise-length : (x : List ℕ) → length (raise s x) ≡ s .count
+  unfolding raise
+  raise-length x = length-tab _ (s .count)
+
+  module _ (x y : List ℕ) where
+    pub same-true : same s x y ≡ true → (k : ℕ) → k < s .count → row x k ≡ row y k
+    unfolding same
+    same-true e k h = eqb-true _ _ (not-false _ (first-none _ (s .count) (eqb-true _ _ e) k h))
+
+    pub true-same : ((k : ℕ) → k < s .count → row x k ≡ row y k) → same s x y ≡ true
+    unfolding same
+    true-same e = eq-eqb _ _ (none-first _ (s .count) (λ k h. rw (eq-eqb (row x k) (row y k) (e k h))))
+
+    pub same-false : same s x y ≡ false → (k : ℕ) × (k < s .count) × (row x k ≢ row y k)
+    unfolding same
+    same-false e =
+        let p : ℕ → Bool = λ k. not (eqb (row x k) (row y k)) in
+        let h : first p (s .count) < s .count = lt-of-le-ne (first-le p (s .count)) (eqb-false _ _ e) in
+        (first p (s .count), h, eqb-false _ _ (not-true _ (first-holds p (s .count) h)))
+
+pub record Rising (s : TaskSet) (x : ℕ → ℕ) : Type 0 where
+  pub rises : (k : ℕ) → k < s .count → x k ≤ needed s (amount s x) k
+  pub least : (y : ℕ → ℕ) → Compliant s y → (k : ℕ) → k < s .count → x k ≤ y k
+
+pub rising-start : (s : TaskSet) (x : ℕ → ℕ) → ((k : ℕ) → k < s .count → x k ≡ 0) → Rising s x
+rising-start s x z = record { rises = λ k h. omega (arith, z k h); least = λ y c k h. omega (arith, z k h) }
+
+module _ (s : TaskSet) (L : Limits s) where
+  pub rising-step : (x y : ℕ → ℕ) → Rising s x → Raised s x y → Rising s y
+  unfolding Raised
+  rising-step x y r e =
+      let up : (k : ℕ) → k < s .count → x k ≤ y k = λ k h. rw (e k h) (r .rises k h) in
+      record {
+        rises = λ k h. rw (e k h) (needed-mono s L _ _ k (amount-mono s x y up));
+        least =
+            λ v c k h. rw (e k h) (le-trans (needed-mono s L _ _ k (amount-mono s x v (r .least v c))) (compliant-needed s L v c k h));
+      }
+
+  pub rising-high : (x : ℕ → ℕ) → Rising s x → (k : ℕ) → k < s .count → x k ≤ 800000
+  rising-high x r = r .least (λ k. ceiling) (ceiling-compliant s L)
+
+  pub raised-high : (x : ℕ → ℕ) → Rising s x → (k : ℕ) → k < s .count → needed s (amount s x) k ≤ 800000
+  unfolding Raised
+  raised-high x r k h = rising-high (needed s (amount s x)) (rising-step x _ r (λ i l. refl)) k h
+
+  pub rising-sum : (x : ℕ → ℕ) → Rising s x → sum x (s .count) ≤ s .count * 800000
+  rising-sum x r = sum-le-mul x 800000 (s .count) (rising-high x r)
+
+  pub still-compliant : (x y : ℕ → ℕ) → Raised s x y → ((k : ℕ) → k < s .count → x k ≡ y k) → Compliant s x
+  unfolding Raised
+  still-compliant x y e still = needed-compliant s L x (λ k h. omega (arith, e k h, still k h))
+
+  module _ (x y : ℕ → ℕ) (r : Rising s x) (e : Raised s x y) (k : ℕ) (h : k < s .count) (ne : x k ≢ y k) where
+    pub rising-more : sum x (s .count) < sum y (s .count)
+    unfolding Raised
+    rising-more = sum-less x y (s .count) (λ i l. rw (e i l) (r .rises i l)) k h ne
+
+    pub rising-falls : s .count * 800000 - sum y (s .count) < s .count * 800000 - sum x (s .count)
+    rising-falls = omega (arith, rising-more, rising-sum y (rising-step x y r e))
+
+  pub turn-falls :
+      (x y : List ℕ) → Rising s (row x) → Raised s (row x) (row y) → same s x y ≡ false
+      → s .count * 800000 - sum (row y) (s .count) < s .count * 800000 - sum (row x) (s .count)
+  turn-falls x y r e d =
+      let c = same-false s x y d in
+      rising-falls (row x) (row y) r e (c .0) (c .1) (c .2)

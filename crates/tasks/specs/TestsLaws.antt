@@ -1,0 +1,92 @@
+-- What holds of a table or a plan that meets none of 3 to 13.
+--     Passed                                           that, part by part
+--     tests-passed                                     it holds
+--     tests-limits, tests-compliant, tests-bounded     three of its parts
+use Prim.Native.Nat.{ℕ, _<_}
+use mathlib.Core.Path.{_≡_, refl, sym, _∙_}
+use mathlib.Core.Bool.{Bool, true, false, _||_}
+use mathlib.Core.Logic.{_⊎_, inl, inr}
+use lib.Dec.{eqb}
+use borrow.Author.Tests.{ltb-false, eqb-true, eq-eqb, not-false}
+use Rattle.tasks.specs.declared.Answer.the-variants.{Accepted}
+use Rattle.tasks.specs.TaskSet.{Compliant, found, row}
+use Rattle.tasks.specs.Content.{Content}
+use Rattle.tasks.specs.Limits.{Limits, Bounded}
+use Rattle.tasks.specs.Tests.{test11, test12, test13, tests}
+use Rattle.tasks.specs.AnswerLaws.{orNext-passed, refuse-passed, lowest-passed, firstMet-passed}
+use Rattle.tasks.specs.LimitsLaws.{limitTests, slackTests, tests-split, Labelled, limits-passed}
+use Rattle.tasks.specs.SlackLaws.{covers-compliant, compliant-ext}
+use Rattle.tasks.specs.FoundLaws.{found-compliant}
+
+-- what holds where none of 3 to 13 is met
+pub record Passed (c : Content) : Type 0 where
+  pub limits : Limits (c .tasks)
+  pub labelled : Labelled c
+  pub offers : (c .offers ≡ 0) ⊎ (c .offers ≡ c .tasks .count)
+  -- "A plan marked as found" has the found slack
+  pub as-found : c .offers ≡ 0 → (k : ℕ) → k < c .tasks .count → c .slack k ≡ row (found (c .tasks)) k
+  pub compliant : Compliant (c .tasks) (c .slack)
+  pub bounded : Bounded (c .tasks) (c .slack)
+
+module _ (c : Content) where
+  offers-passed : test11 c ≡ Accepted → (c .offers ≡ 0) ⊎ (c .offers ≡ c .tasks .count)
+  unfolding test11
+  offers-passed a = go (eqb (c .offers) 0) refl (not-false _ (refuse-passed _ _ a))
+    where
+      go :
+          (b : Bool) → eqb (c .offers) 0 ≡ b → b || eqb (c .offers) (c .tasks .count) ≡ true
+          → (c .offers ≡ 0) ⊎ (c .offers ≡ c .tasks .count)
+      go true e h = inl (eqb-true _ _ e)
+      go false e h = inr (eqb-true _ _ h)
+
+  found-passed : test12 c ≡ Accepted → c .offers ≡ 0 → (k : ℕ) → k < c .tasks .count → c .slack k ≡ row (found (c .tasks)) k
+  unfolding test12
+  found-passed a z k h = eqb-true _ _ (not-false _ (lowest-passed 12 _ (c .tasks .count) (rw (eq-eqb _ _ z) at a) k h))
+
+  offered-passed : test12 c ≡ Accepted → eqb (c .offers) 0 ≡ false → Compliant (c .tasks) (c .slack)
+  unfolding test12
+  offered-passed a e =
+      covers-compliant (c .tasks) (c .slack) (λ k h. not-false _ (lowest-passed 12 _ (c .tasks .count) (rw e at a) k h))
+
+  compliant-passed : Limits (c .tasks) → test12 c ≡ Accepted → Compliant (c .tasks) (c .slack)
+  compliant-passed L a = go (eqb (c .offers) 0) refl
+    where
+      go : (b : Bool) → eqb (c .offers) 0 ≡ b → Compliant (c .tasks) (c .slack)
+      go true e =
+          compliant-ext
+          (c .tasks)
+          (row (found (c .tasks)))
+          (c .slack)
+          (λ k h. sym (found-passed a (eqb-true _ _ e) k h))
+          (found-compliant (c .tasks) L)
+      go false e = offered-passed a e
+
+  bounded-passed : test13 c ≡ Accepted → Bounded (c .tasks) (c .slack)
+  unfolding test13 Bounded
+  bounded-passed a i h = ltb-false _ _ (lowest-passed 13 _ (c .tasks .count) a i h)
+
+  pub tests-passed : tests c ≡ Accepted → Passed c
+  unfolding slackTests
+  tests-passed a =
+      let r = orNext-passed (limitTests c) (slackTests c) (sym (tests-split c) ∙ a) in
+      let l = limits-passed c (r .0) in
+      let r11 = firstMet-passed _ _ (r .1) in
+      let r12 = firstMet-passed _ _ (r11 .1) in
+      let r13 = firstMet-passed _ _ (r12 .1) in
+      record {
+        limits = l .0;
+        labelled = l .1;
+        offers = offers-passed (r11 .0);
+        as-found = found-passed (r12 .0);
+        compliant = compliant-passed (l .0) (r12 .0);
+        bounded = bounded-passed (r13 .0);
+      }
+
+  pub tests-limits : tests c ≡ Accepted → Limits (c .tasks)
+  tests-limits a = tests-passed a .limits
+
+  pub tests-compliant : tests c ≡ Accepted → Compliant (c .tasks) (c .slack)
+  tests-compliant a = tests-passed a .compliant
+
+  pub tests-bounded : tests c ≡ Accepted → Bounded (c .tasks) (c .slack)
+  tests-bounded a = tests-passed a .bounded
