@@ -5,7 +5,7 @@
 --     shares-filled, share-within      the array of the shares, and each share's limit
 --     shares-total, surplus-total, costs-filled    the sums and the array worked out from them
 use Prim.Native.Nat.{ℕ, _*_, _/_, _-_, _≤_, _<_, min}
-use mathlib.Core.Path.{_≡_, refl, sym, _∙_, ap}
+use mathlib.Core.Path.{_≡_, refl, sym, _∙_, ap, subst}
 use mathlib.Core.List.{List}
 use lib.ListN.{getD}
 use native.Mathlib.Omega.{arith}
@@ -61,7 +61,8 @@ module _ (m n : ℕ) (separation budget offset : List ℕ) (h : ℕ) (e : h ≡ 
       (shares : List ℕ) → shares ≡ tab (cut n (λ i. row budget i * h / row separation i) 0) 16 →
       shares ≡ tab (cut n (share (setFrom m n separation budget offset)) 0) 16
   unfolding share setFrom
-  shares-filled shares f = rw (← e) f
+  shares-filled shares f =
+      subst (λ (v : ℕ). shares ≡ tab (cut n (λ i. row budget i * v / row separation i) 0) 16) e f
 
   module _ (g : Ranges (setFrom m n separation budget offset)) (l : h ≤ 1000000) (shares : List ℕ)
       (f : shares ≡ tab (cut n (share (setFrom m n separation budget offset)) 0) 16)

@@ -1,6 +1,7 @@
 -- How a stage's answer follows from what its code has seen.
 --     outside-low, outside-high    a number below or above its range
 --     scan-found, scan-none        a scan that ended at f, below n or not
+--     not-both                     an answer is no refusal and a refusal: absurd
 --     column-more                  an array filled in order has one entry more
 use Prim.Native.Nat.{ℕ, _+_, _<_, _≤_}
 use mathlib.Core.Path.{_≡_, refl, sym, _∙_, ap}
@@ -31,6 +32,9 @@ scan-found k p n f e h = lowest-found k p n f (sym e) h
 
 pub scan-none : (k : ℕ) (p : ℕ → Bool) (n f : ℕ) → f ≡ first p n → n ≤ f → lowest k p n ≡ Accepted
 scan-none k p n f e h = lowest-none k p n (omega (arith, first-le p n))
+
+pub not-both : (a : Answer) (k i : ℕ) → a ≡ Refused k i → a ≡ Accepted → ⊥
+not-both a k i e f = let z : _≡_ {A = ℕ} 0 1 = cc in omega arith
 
 pub column-more :
     (column : List ℕ) (f : ℕ → ℕ) (i : ℕ) → i < 16 → column ≡ tab (cut i f 0) 16 → set column i (f i) ≡ tab (cut (i + 1) f 0) 16
