@@ -3,3 +3,5 @@ pub mod Stages
 pub mod StageLaws
 pub mod Rates
 pub mod RatesLaws
+pub mod Settling
+pub mod SettlingLaws

@@ -1,7 +1,7 @@
 -- What the second stage answers, over a task set that meets none of 3 and 5 to 8.
 --     Ranges       what that leaves of the counts and the tasks' fields
 --     ratesTest    9 and 10
---     Rated        the answer, and where it is no refusal H, the surpluses' sum, the shares and each H × C
+--     Rated        the answer, and where it is no refusal H, the surpluses' sum and the shares
 use Prim.Native.Nat.{ℕ, _*_, _≤_, _<_}
 use mathlib.Core.Path.{_≡_}
 use mathlib.Core.List.{List, [], _∷_}
@@ -31,7 +31,6 @@ pub record Figures (s : TaskSet) (r : Rates) : Type 0 where
   pub multiple : r .multiple ≡ hyperperiod s
   pub surplus : r .surplus ≡ sum (surplus s) (s .count)
   pub share : r .share ≡ tab (cut (s .count) (share s) 0) 16
-  pub cost : r .cost ≡ tab (cut (s .count) (λ k. hyperperiod s * s .task k .budget) 0) 16
 
 pub record Rated (s : TaskSet) (r : Rates) : Type 0 where
   pub answer : r .answer ≡ ratesTest s

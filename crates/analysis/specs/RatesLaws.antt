@@ -3,7 +3,7 @@
 --     ratesTest-…         the stage's answer from what its tests found
 --     multiple-over, multiple-whole    a least common multiple cut off at 1,000,001: above its limit, or the whole one
 --     shares-filled, share-within      the array of the shares, and each share's limit
---     shares-total, surplus-total, costs-filled    the sums and the array worked out from them
+--     shares-total, surplus-total      the sums worked out from them
 use Prim.Native.Nat.{ℕ, _*_, _/_, _-_, _≤_, _<_, min}
 use mathlib.Core.Path.{_≡_, refl, sym, _∙_, ap, subst}
 use mathlib.Core.List.{List}
@@ -51,12 +51,6 @@ module _ (m n : ℕ) (separation budget offset : List ℕ) (h : ℕ) (e : h ≡ 
   multiple-whole l = omega arith
 
 module _ (m n : ℕ) (separation budget offset : List ℕ) (h : ℕ) (e : h ≡ hyperperiod (setFrom m n separation budget offset)) where
-  pub costs-filled :
-      (cost : List ℕ) → cost ≡ tab (cut n (λ i. h * row budget i) 0) 16 →
-      cost ≡ tab (cut n (λ i. hyperperiod (setFrom m n separation budget offset) * setFrom m n separation budget offset .task i .budget) 0) 16
-  unfolding setFrom
-  costs-filled cost f = rw (← e) f
-
   pub shares-filled :
       (shares : List ℕ) → shares ≡ tab (cut n (λ i. row budget i * h / row separation i) 0) 16 →
       shares ≡ tab (cut n (share (setFrom m n separation budget offset)) 0) 16
@@ -67,18 +61,18 @@ module _ (m n : ℕ) (separation budget offset : List ℕ) (h : ℕ) (e : h ≡ 
   module _ (g : Ranges (setFrom m n separation budget offset)) (l : h ≤ 1000000) (shares : List ℕ)
       (f : shares ≡ tab (cut n (share (setFrom m n separation budget offset)) 0) 16)
     where
-    share-at : (i : ℕ) → i < n → row shares i ≡ share (setFrom m n separation budget offset) i
-    unfolding setFrom
-    share-at i k = row-filled shares _ n i (g .tasks) k f
+      share-at : (i : ℕ) → i < n → row shares i ≡ share (setFrom m n separation budget offset) i
+      unfolding setFrom
+      share-at i k = row-filled shares _ n i (g .tasks) k f
 
-    pub share-within : (i : ℕ) → i < n → row shares i ≤ 1000000
-    unfolding setFrom
-    share-within i k = rw (share-at i k) (le-trans (share-le (setFrom m n separation budget offset) (g .timed) i k) (rw (← e) l))
+      pub share-within : (i : ℕ) → i < n → row shares i ≤ 1000000
+      unfolding setFrom
+      share-within i k = rw (share-at i k) (le-trans (share-le (setFrom m n separation budget offset) (g .timed) i k) (rw (← e) l))
 
-    pub shares-total : sum (row shares) n ≡ sum (share (setFrom m n separation budget offset)) n
-    shares-total = sum-ext _ _ n share-at
+      pub shares-total : sum (row shares) n ≡ sum (share (setFrom m n separation budget offset)) n
+      shares-total = sum-ext _ _ n share-at
 
-    pub surplus-total :
-        sum (λ i. row shares i * (row separation i - row offset i)) n ≡ sum (surplus (setFrom m n separation budget offset)) n
-    unfolding surplus setFrom
-    surplus-total = sum-ext _ _ n (λ i k. ap (λ (v : ℕ). v * (row separation i - row offset i)) (share-at i k))
+      pub surplus-total :
+          sum (λ i. row shares i * (row separation i - row offset i)) n ≡ sum (surplus (setFrom m n separation budget offset)) n
+      unfolding surplus setFrom
+      surplus-total = sum-ext _ _ n (λ i k. ap (λ (v : ℕ). v * (row separation i - row offset i)) (share-at i k))

@@ -1,5 +1,6 @@
-// Tests 9 and 10, and what the slack is worked out from: H, the shares, H × C of each task, and the surpluses' sum.
+// Tests 9 and 10, and what the slack is worked out from: H, the shares and the surpluses' sum.
 use multiple::common_multiple;
+use multiple::wide;
 use tasks::Answer;
 use tasks::refusal;
 ghost use mathlib.Core.Path.{_≡_};
@@ -16,7 +17,6 @@ pub struct Rates {
     pub multiple: u64,
     pub surplus: u64,
     pub share: [u64; 16],
-    pub cost: [u64; 16],
 }
 
 fn shares(separation: &[u32; 16], budget: &[u32; 16], multiple: u64, tasks: usize) -> [u64; 16]
@@ -30,19 +30,6 @@ fn shares(separation: &[u32; 16], budget: &[u32; 16], multiple: u64, tasks: usiz
         i += 1;
     }
     share
-}
-
-fn costs(budget: &[u32; 16], multiple: u64, tasks: usize) -> [u64; 16]
-    requires { ⌜ (tasks ≤ 16) × (multiple ≤ 1000000) ⌝ }
-    ensures { λ r. ⌜ r ≡ tab (cut tasks (λ i. multiple * row (now (budget .entry)) i) 0) 16 ⌝ }
-{
-    let mut cost = [0u64; 16];
-    let mut i = 0;
-    while i < tasks {
-        cost[i] = multiple * wide(budget[i]);
-        i += 1;
-    }
-    cost
 }
 
 fn total(share: &[u64; 16], tasks: usize) -> u64
@@ -71,12 +58,6 @@ fn surplus_of(share: &[u64; 16], separation: &[u32; 16], offset: &[u32; 16], tas
     all
 }
 
-fn wide(x: u32) -> u64
-    ensures { λ r. ⌜ (r ≡ x) × (r < 4294967296) ⌝ }
-{
-    x as u64
-}
-
 fn refused(number: u8) -> Rates
     ensures { λ r. ⌜ r .answer ≡ Answer.Refused number 0 ⌝ }
 {
@@ -85,7 +66,6 @@ fn refused(number: u8) -> Rates
         multiple: 0,
         surplus: 0,
         share: [0; 16],
-        cost: [0; 16],
     }
 }
 
@@ -109,12 +89,10 @@ pub fn rate(
         return refused(refusal::SHARES);
     }
     let surplus = surplus_of(&share, separation, offset, tasks);
-    let cost = costs(budget, multiple, tasks);
     Rates {
         answer: Answer::Accepted,
         multiple,
         surplus,
         share,
-        cost,
     }
 }

@@ -1,7 +1,7 @@
 // Document 01's H, worked out: the greatest common divisor by Euclid, and the least common multiple of the separations, given up once it
 // passes the limit of refusal 9.
 ghost use mathlib.Core.Path.{_≡_};
-ghost use Prim.Native.Nat.{ℕ, _+_, _≤_, min};
+ghost use Prim.Native.Nat.{ℕ, _+_, _≤_, _<_, min};
 ghost use lib.ListN.{getD};
 ghost use Rattle.laws.specs.Multiple.{lcm, lcmBelow};
 ghost use Rattle.multiple.specs.Greatest.{Greatest};
@@ -37,8 +37,9 @@ pub fn joined(h: u64, t: u64) -> u64
     h / g * t
 }
 
-fn wide(x: u32) -> u64
-    ensures { λ r. ⌜ r ≡ x ⌝ }
+// The same number in 64 bits, with its range said beside it: a cast of an element asks for that.
+pub fn wide(x: u32) -> u64
+    ensures { λ r. ⌜ (r ≡ x) × (r < 4294967296) ⌝ }
 {
     x as u64
 }

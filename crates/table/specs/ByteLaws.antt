@@ -4,7 +4,8 @@
 --     number-same             the number at i is a matter of the k bytes from i on
 --     number-after            a number behind a prefix
 --     number-within           a number before a suffix
---     number-digits           the k bytes of v < 256 ^ k read back as v, wherever they stand
+--     number-four             a number of four bytes, as a sum
+--     number-digits           the k bytes of v < 256 ^ k read back as v, wherever they stand; number-digits-at: with the place by name
 --     digits-number           the bytes of the number read at i are the k bytes from i on
 --     number-small            k bytes are below 256 ^ k
 --     length-digits, digits-bytes, length-entries
@@ -13,7 +14,7 @@
 --     entries-parts           a part of a list is the entries that it is cut into
 use Prim.Native.Nat.{ℕ, zero, suc, _+_, _*_, _/_, _%_, _^_, _≤_, _<_}
 use native.Mathlib.Nat.{mod-lt, div-add-mod, div-lt-iff-lt-mul, pow-zero, pow-suc, add-zero, add-suc, suc-add, zero-add, add-assoc, mul-zero, mul-suc, not-suc-le-zero, eq-or-lt-of-le, le-of-suc-le-suc}
-use native.Mathlib.Numerals.{one-add}
+use native.Mathlib.Numerals.{one-add, towards-suc}
 use native.Mathlib.Omega.{arith}
 use mathlib.Core.Path.{_≡_, refl, sym, ap, _∙_}
 use mathlib.Core.Logic.{⊎-elim}
@@ -47,6 +48,10 @@ pub number-within : (k : ℕ) (t post : List ℕ) (i : ℕ) → i + k ≤ length
 unfolding byte
 number-within k t post i h = number-same k (t ++ post) t i i (λ d l. List·getD-append t post 0 (i + d) (omega arith))
 
+pub number-four : (t : List ℕ) (i : ℕ) → number 4 t i ≡ byte t i + 256 * byte t (i + 1) + 65536 * byte t (i + 2) + 16777216 * byte t (i + 3)
+unfolding number
+number-four t i = simp towards-suc (omega arith)
+
 pub length-digits : (k v : ℕ) → length (digits k v) ≡ k
 unfolding digits
 length-digits zero v = refl
@@ -74,6 +79,10 @@ number-digits k v pre post h =
     ∙ number-after k pre (digits k v ++ post) 0
     ∙ number-within k (digits k v) post 0 (omega (arith, length-digits k v))
     ∙ number-alone k v h
+
+pub number-digits-at :
+    (k v : ℕ) (pre post : List ℕ) (i : ℕ) → length pre ≡ i → v < 256 ^ k → number k (pre ++ (digits k v ++ post)) i ≡ v
+number-digits-at k v pre post i e h = ap (number k (pre ++ (digits k v ++ post))) (sym e) ∙ number-digits k v pre post h
 
 pub number-small : (k : ℕ) (t : List ℕ) (i : ℕ) → Bytes t → number k t i < 256 ^ k
 unfolding number Bytes

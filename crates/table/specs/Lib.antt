@@ -2,3 +2,10 @@ pub mod Bytes
 pub mod Table
 pub mod Judged
 pub mod ByteLaws
+pub mod Stages
+pub mod StageLaws
+pub mod WriteLaws
+pub mod KeptLaws
+pub mod SectionLaws
+pub mod BackLaws
+pub mod RoundTrip

@@ -2,6 +2,9 @@
 use tasks::Answer;
 use tasks::Plan;
 
+mod read;
+mod write;
+
 // A judgement's plan, of zeros where the table is refused.
 pub struct Judgement {
     pub answer: Answer,

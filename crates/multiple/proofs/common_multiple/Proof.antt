@@ -38,7 +38,7 @@ joined-requires : tie.Need-joined-requires Inv-loop μ-loop
 joined-requires c κs =
     let i = c .before .before .before .loop .i in
     let p = c .before .before .before .before .pre in
-    let w = c .wide .ensures in
+    let w = c .wide .ensures .0 in
     record {
       multiple-low = omega (arith, lcmBelow-low (row (c .before .before .before .before .args .separation .now)) i);
       multiple-high = search needs;
@@ -54,7 +54,7 @@ grown :
 grown c =
     let at = c .before .before .before .before in
     c .joined .ensures
-    ∙ ap₂ lcm (at .loop .inv .2) (c .before .wide .ensures)
+    ∙ ap₂ lcm (at .loop .inv .2) (c .before .wide .ensures .0)
     ∙ sym (lcmBelow-more (row (at .before .args .separation .now)) (at .loop .i))
 
 add-result : tie.Need-add-result Inv-loop μ-loop

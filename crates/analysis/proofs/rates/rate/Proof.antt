@@ -10,7 +10,7 @@ use Rattle.laws.specs.Tab.{tab, cut}
 use Rattle.tasks.specs.TaskSet.{TaskSet, hyperperiod, share, surplus, row}
 use Rattle.analysis.specs.Columns.{setFrom}
 use Rattle.analysis.specs.Rates.{Ranges, Rated, ratesTest}
-use Rattle.analysis.specs.RatesLaws.{ratesTest-9, ratesTest-10, ratesTest-pass, multiple-over, multiple-whole, shares-filled, share-within, shares-total, surplus-total, costs-filled}
+use Rattle.analysis.specs.RatesLaws.{ratesTest-9, ratesTest-10, ratesTest-pass, multiple-over, multiple-whole, shares-filled, share-within, shares-total, surplus-total}
 use native.Mathlib.Omega.{arith}
 use native.Mathlib.Numerals.{add-one}
 use Prim.Native.Nat.{ℕ, _≤_, _<_, _+_, _*_, _-_}
@@ -22,7 +22,6 @@ use Rattle.analysis.proofs.rates.rate.Statement.{statement}
 use Rattle.analysis.proofs.rates.rate.Tie as tie
 use Rattle.analysis.proofs.rates.rate.Reads as reads
 use Rattle.analysis.proofs.rates.rate.Lts as lts
-use Rattle.analysis.proofs.rates.costs.Reads as costs-reads
 use Rattle.analysis.proofs.rates.refused.Reads as refused-reads
 use Rattle.analysis.proofs.rates.shares.Reads as shares-reads
 use Rattle.analysis.proofs.rates.surplus_of.Reads as surplus-of-reads
@@ -34,40 +33,39 @@ module _ (m n : ℕ) (separation budget offset : List ℕ) (g : Ranges (setFrom 
     (e : h ≡ min (lcmBelow (λ i. getD separation i 0) n) 1000001) (l : h ≤ 1000000) (shares : List ℕ)
     (f : shares ≡ tab (cut n (λ i. row budget i * h / row separation i) 0) 16)
   where
-  w : h ≡ hyperperiod (setFrom m n separation budget offset)
-  w = multiple-whole m n separation budget offset h e l
+    w : h ≡ hyperperiod (setFrom m n separation budget offset)
+    w = multiple-whole m n separation budget offset h e l
 
-  filled : shares ≡ tab (cut n (share (setFrom m n separation budget offset)) 0) 16
-  filled = shares-filled m n separation budget offset h w shares f
+    filled : shares ≡ tab (cut n (share (setFrom m n separation budget offset)) 0) 16
+    filled = shares-filled m n separation budget offset h w shares f
 
-  within : (i : ℕ) → i < n → row shares i ≤ 1000000
-  within = share-within m n separation budget offset h w g l shares filled
+    within : (i : ℕ) → i < n → row shares i ≤ 1000000
+    within = share-within m n separation budget offset h w g l shares filled
 
-  added : sum (row shares) n ≡ sum (share (setFrom m n separation budget offset)) n
-  added = shares-total m n separation budget offset h w g l shares filled
+    added : sum (row shares) n ≡ sum (share (setFrom m n separation budget offset)) n
+    added = shares-total m n separation budget offset h w g l shares filled
 
-  over : (all : ℕ) → all ≡ sum (row shares) n → m * h < all → ratesTest (setFrom m n separation budget offset) ≡ Refused 10 0
-  unfolding setFrom
-  over all a b = ratesTest-10 (setFrom m n separation budget offset) (rw (← w) l) (rw (← w, ← added, ← a) b)
+    over : (all : ℕ) → all ≡ sum (row shares) n → m * h < all → ratesTest (setFrom m n separation budget offset) ≡ Refused 10 0
+    unfolding setFrom
+    over all a b = ratesTest-10 (setFrom m n separation budget offset) (rw (← w) l) (rw (← w, ← added, ← a) b)
 
-  passed :
-      (all surplus : ℕ) (cost : List ℕ) → all ≡ sum (row shares) n → all ≤ m * h →
-      surplus ≡ sum (λ i. row shares i * (row separation i - row offset i)) n → cost ≡ tab (cut n (λ i. h * row budget i) 0) 16 →
-      Rated
-      (setFrom m n separation budget offset)
-      (record { answer = Accepted; multiple = h; surplus = surplus; share = shares; cost = cost })
-  unfolding setFrom
-  passed all surplus cost a b d k =
-      record
-      { answer = sym (ratesTest-pass (setFrom m n separation budget offset) (rw (← w) l) (rw (← w, ← added, ← a) b))
-      ; figures = λ _.
-          record
-          { multiple = w
-          ; surplus = d ∙ surplus-total m n separation budget offset h w g l shares filled
-          ; share = filled
-          ; cost = costs-filled m n separation budget offset h w cost k
-          }
-      }
+    passed :
+        (all surplus : ℕ) → all ≡ sum (row shares) n → all ≤ m * h →
+        surplus ≡ sum (λ i. row shares i * (row separation i - row offset i)) n →
+        Rated
+        (setFrom m n separation budget offset)
+        (record { answer = Accepted; multiple = h; surplus = surplus; share = shares })
+    unfolding setFrom
+    passed all surplus a b d =
+        record {
+          answer = sym (ratesTest-pass (setFrom m n separation budget offset) (rw (← w) l) (rw (← w, ← added, ← a) b));
+          figures = λ _.
+              record {
+                multiple = w;
+                surplus = d ∙ surplus-total m n separation budget offset h w g l shares filled;
+                share = filled;
+              };
+        }
 
 -- src/rates.rt:102:9
 common-multiple-requires : tie.Need-common-multiple-requires
@@ -94,9 +92,10 @@ shares-requires c κs = let g = c .before .before .pre in (g .tasks, c .if1 .lef
 total-requires : tie.Need-total-requires
 unfolding setFrom
 total-requires c κs =
-    let s = c .before .before .before .before in
-    ( s .pre .tasks
-    , within (s .args .cores) _ _ _ _ (s .pre) _ (c .before .before .before .common-multiple .ensures) (c .before .before .if1 .left) _ (c .before .shares .ensures))
+    let s = c .before .before .before .before in (
+      s .pre .tasks,
+      within (s .args .cores) _ _ _ _ (s .pre) _ (c .before .before .before .common-multiple .ensures) (c .before .before .if1 .left) _ (c .before .shares .ensures),
+    )
 
 -- src/rates.rt:108:8
 mul-if2 : tie.Need-mul-if2
@@ -114,9 +113,9 @@ returns-2 : tie.Need-returns-2
 returns-2 c =
     let s = c .before .before .before .before .before .before .before in
     let e =
-        over (s .args .cores) _ _ _ _ (s .pre) _ (c .before .before .before .before .before .before .common-multiple .ensures)
-        (c .before .before .before .before .before .if1 .left) _ (c .before .before .before .before .shares .ensures) _ (c .before .before .total .ensures)
-        (c .before .if2 .taken)
+    over (s .args .cores) _ _ _ _ (s .pre) _ (c .before .before .before .before .before .before .common-multiple .ensures)
+    (c .before .before .before .before .before .if1 .left) _ (c .before .before .before .before .shares .ensures) _ (c .before .before .total .ensures)
+    (c .before .if2 .taken)
     in
     record { answer = c .refused2 .ensures ∙ sym e; figures = λ a. absurd (not-both _ 10 0 (c .refused2 .ensures) a) }
 
@@ -124,27 +123,23 @@ returns-2 c =
 surplus-of-requires : tie.Need-surplus-of-requires
 unfolding setFrom
 surplus-of-requires c κs =
-    let s = c .before .before .before .before .before .before .before in
-    ( s .pre .tasks
-    , λ i h.
-      ( within (s .args .cores) _ _ _ _ (s .pre) _ (c .before .before .before .before .before .before .common-multiple .ensures)
-        (c .before .before .before .before .before .if1 .left) _ (c .before .before .before .before .shares .ensures) i h
-      , s .pre .separation i h
-      , s .pre .offset i h))
-
--- src/rates.rt:112:9
-costs-requires : tie.Need-costs-requires
-unfolding setFrom
-costs-requires c κs =
-    (c .before .before .before .before .before .before .before .before .pre .tasks, c .before .before .before .before .before .before .if1 .left)
+    let s = c .before .before .before .before .before .before .before in (
+      s .pre .tasks,
+      λ i h. (
+        within (s .args .cores) _ _ _ _ (s .pre) _ (c .before .before .before .before .before .before .common-multiple .ensures)
+            (c .before .before .before .before .before .if1 .left) _ (c .before .before .before .before .shares .ensures) i h,
+        s .pre .separation i h,
+        s .pre .offset i h,
+      ),
+    )
 
 -- src/rates.rt:92:1
 returns-3 : tie.Need-returns-3
 returns-3 c =
-    let s = c .before .before .before .before .before .before .before .before .before in
-    passed (s .args .cores) _ _ _ _ (s .pre) _ (c .before .before .before .before .before .before .before .before .common-multiple .ensures)
-    (c .before .before .before .before .before .before .before .if1 .left) _ (c .before .before .before .before .before .before .shares .ensures)
-    _ _ _ (c .before .before .before .before .total .ensures) (c .before .before .before .if2 .left) (c .before .surplus-of .ensures) (c .costs .ensures)
+    let s = c .before .before .before .before .before .before .before .before in
+    passed (s .args .cores) _ _ _ _ (s .pre) _ (c .before .before .before .before .before .before .before .common-multiple .ensures)
+    (c .before .before .before .before .before .before .if1 .left) _ (c .before .before .before .before .before .shares .ensures)
+    _ _ (c .before .before .before .total .ensures) (c .before .before .if2 .left) (c .surplus-of .ensures)
 
 pub rate-spec : {M : Type 1} → statement M
 rate-spec =
@@ -159,5 +154,4 @@ rate-spec =
     refused-requires-2
     returns-2
     surplus-of-requires
-    costs-requires
     returns-3)

@@ -18,7 +18,7 @@ use Rattle.analysis.proofs.rates.shares.Statement.{statement}
 use Rattle.analysis.proofs.rates.shares.Tie as tie
 use Rattle.analysis.proofs.rates.shares.Reads as reads
 use Rattle.analysis.proofs.rates.shares.Lts as lts
-use Rattle.analysis.proofs.rates.wide.Reads as wide-reads
+use Rattle.multiple.proofs.wide.Reads as wide-reads
 
 abbrev Inv-loop : tie.InvT-loop
 Inv-loop separation budget multiple tasks share₀ i₀ share i =
@@ -87,10 +87,11 @@ loop-again : tie.Need-loop-again Inv-loop μ-loop
 unfolding row
 loop-again c =
     let l = c .before .before .before .before .before .loop in
-    let a = c .before .before .before .before .before .before .args in
-    ( omega arith
-    , rw (c .wide2 .ensures .0, c .before .before .wide .ensures .0)
-      (column-more (l .share) (λ i. row (a .budget .now) i * a .multiple / row (a .separation .now) i) (l .i) (omega arith) (l .inv .1)))
+    let a = c .before .before .before .before .before .before .args in (
+      omega arith,
+      rw (c .wide2 .ensures .0, c .before .before .wide .ensures .0)
+          (column-more (l .share) (λ i. row (a .budget .now) i * a .multiple / row (a .separation .now) i) (l .i) (omega arith) (l .inv .1)),
+    )
 
 -- src/rates.rt:22:1
 returns : tie.Need-returns Inv-loop μ-loop

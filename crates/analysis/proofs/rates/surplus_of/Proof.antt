@@ -18,7 +18,7 @@ use Rattle.analysis.proofs.rates.surplus_of.Statement.{statement}
 use Rattle.analysis.proofs.rates.surplus_of.Tie as tie
 use Rattle.analysis.proofs.rates.surplus_of.Reads as reads
 use Rattle.analysis.proofs.rates.surplus_of.Lts as lts
-use Rattle.analysis.proofs.rates.wide.Reads as wide-reads
+use Rattle.multiple.proofs.wide.Reads as wide-reads
 
 -- one task's surplus is at most 10^11
 term : (share separation offset w : ℕ) → share ≤ 1000000 → separation ≤ 100000 → w ≡ separation - offset → share * w ≤ 100000000000
@@ -98,13 +98,15 @@ unfolding row
 loop-again c =
     let l = c .before .before .before .before .before .loop in
     let a = c .before .before .before .before .before .before .args in
-    let p = c .before .before .before .before .before .before .pre .1 (l .i) (omega arith) in
-    ( omega arith
-    , rw
-      ( sum-step (λ i. row (a .share .now) i * (row (a .separation .now) i - row (a .offset .now) i)) (l .i)
-      , l .inv .1
-      , c .wide .ensures .0)
-    , omega (arith, term _ _ _ _ (p .0) (p .1) (c .wide .ensures .0)))
+    let p = c .before .before .before .before .before .before .pre .1 (l .i) (omega arith) in (
+      omega arith,
+      rw (
+        sum-step (λ i. row (a .share .now) i * (row (a .separation .now) i - row (a .offset .now) i)) (l .i),
+        l .inv .1,
+        c .wide .ensures .0,
+      ),
+      omega (arith, term _ _ _ _ (p .0) (p .1) (c .wide .ensures .0)),
+    )
 
 -- src/rates.rt:61:1
 returns : tie.Need-returns Inv-loop μ-loop

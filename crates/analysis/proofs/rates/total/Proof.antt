@@ -56,10 +56,11 @@ loop-less c = search needs
 loop-again : tie.Need-loop-again Inv-loop μ-loop
 unfolding row
 loop-again c =
-    let l = c .before .before .loop in
-    ( omega arith
-    , rw (sum-step (row (c .before .before .before .args .share .now)) (l .i), l .inv .1)
-    , omega (arith, c .before .before .before .pre .1 (l .i) (omega arith)))
+    let l = c .before .before .loop in (
+      omega arith,
+      rw (sum-step (row (c .before .before .before .args .share .now)) (l .i), l .inv .1),
+      omega (arith, c .before .before .before .pre .1 (l .i) (omega arith)),
+    )
 
 -- src/rates.rt:48:1
 returns : tie.Need-returns Inv-loop μ-loop

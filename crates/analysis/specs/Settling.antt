@@ -1,0 +1,19 @@
+-- The slack as the code works it out, from arrays.
+--     uncovered    whether m × H × x + H × C of task k is below the amount
+--     lifted       the least slack, from what is needed and the budget, both divided by the number of cores
+--     upto         the row f below n and g from n on
+use Prim.Native.Nat.{ℕ, _+_, _*_, _-_}
+use mathlib.Core.Bool.{Bool, cond}
+use mathlib.Core.List.{List}
+use lib.Dec.{ltb}
+use Rattle.tasks.specs.TaskSet.{row}
+
+unfoldable pub uncovered : ℕ → ℕ → ℕ → List ℕ → List ℕ → ℕ → Bool
+uncovered amount multiple cores budget slack k =
+    ltb (cores * multiple * row slack k + multiple * row budget k) amount
+
+unfoldable pub lifted : ℕ → ℕ → ℕ → ℕ → ℕ
+lifted whole over quotient rest = whole + cond (ltb rest over) 1 0 - quotient
+
+unfoldable pub upto : ℕ → (ℕ → ℕ) → (ℕ → ℕ) → ℕ → ℕ
+upto n f g i = cond (ltb i n) (f i) (g i)

@@ -1,0 +1,13 @@
+pub mod Machine
+pub mod Reached
+pub mod Queue
+pub mod Owed
+pub mod Choice
+pub mod Invariant
+pub mod Release
+pub mod Due
+pub mod Tick
+pub mod Theorem
+pub mod Sound
+pub mod Work
+pub mod Met

@@ -1,0 +1,78 @@
+-- The bound theorem is not empty: P3 meets its hypotheses, and machines that it speaks of are reached. The machine's ticks give P10.
+--     p3 y              P3's loops, the third with offset y; P3 has 0 there
+--     p3-met            P3 is within the limits, its slack is compliant and its bounds are at most 16 × T
+--     allReleased       all three released at tick 0 with full budgets
+--     p3-reached        that machine is reached, and so is every tick of it
+--     watch             what runs on the two cores, and who finishes, tick by tick
+--     p10, p10-third    P10 in both forms
+use Prim.Native.Nat.{ℕ, zero, suc}
+use mathlib.Core.Path.{_≡_, refl}
+use mathlib.Core.List.{List, [], _∷_}
+use lib.Dec.{lit<, lit≤}
+use Rattle.laws.specs.First.{first}
+use Rattle.laws.specs.Sum.{sum, sumOver}
+use Rattle.laws.specs.Tab.{tab}
+use Rattle.laws.specs.Rank.{place, ranked, largest}
+use Rattle.laws.specs.Multiple.{lcm, lcmBelow}
+use Rattle.laws.specs.Member.{member}
+use Rattle.tasks.specs.declared.Task.{Task}
+use Rattle.tasks.specs.declared.Answer.the-variants.{Accepted}
+use Rattle.tasks.specs.TaskSet.{TaskSet, hyperperiod, share, weight, surplus, counted, amount, cover, Compliant, covers, row, bound}
+use Rattle.tasks.specs.Content.{Content, noTask, taskOf}
+use Rattle.tasks.specs.Limits.{Limits, Bounded}
+use Rattle.tasks.specs.Tests.{lowest, firstMet, outside, badLabel, test3, test4, test5, test6, test7, test8, test9, test10, test11, test12, test13, tests}
+use Rattle.tasks.specs.TestsLaws.{tests-limits, tests-compliant, tests-bounded}
+use Rattle.machine.specs.Machine.{Machine, opened, tooSoon, joined, admitted, waiting, point, before, chosen, idle, onCore, runs, served, advanced, tick, response, responses}
+use Rattle.machine.specs.Reached.{Reached, opening, release}
+use Rattle.machine.specs.Choice.{reached-tick}
+
+-- a loop (T, C, Y)
+abbrev loop : ℕ → ℕ → ℕ → Task
+loop t c y = record { separation = t; budget = c; offset = y }
+
+unfoldable pub p3 : ℕ → TaskSet
+p3 y = record { cores = 2; count = 3; task = taskOf (loop 2 1 2 ∷ loop 2 1 2 ∷ loop 3 3 y ∷ []) }
+
+abbrev pub p3-slack : ℕ → ℕ
+p3-slack = row (2 ∷ 2 ∷ 1 ∷ [])
+
+abbrev content : Content
+content = record { tasks = p3 0; label = row (0 ∷ 1 ∷ []); offers = 3; slack = p3-slack }
+
+accepted : tests content ≡ Accepted
+unfolding p3 first sum sumOver place ranked largest lcm lcmBelow hyperperiod share weight surplus counted amount cover covers row bound noTask taskOf lowest firstMet outside badLabel test3 test4 test5 test6 test7 test8 test9 test10 test11 test12 test13 tests
+accepted = refl
+
+pub p3-met : Limits (p3 0) × Compliant (p3 0) p3-slack × Bounded (p3 0) p3-slack
+p3-met = (tests-limits content accepted, tests-compliant content accepted, tests-bounded content accepted)
+
+unfoldable pub allReleased : Machine
+allReleased = admitted 2 3 (admitted 1 1 (admitted 0 1 opened))
+
+pub p3-reached : Reached (p3 0) allReleased × Reached (p3 0) (tick (p3 0) allReleased)
+unfolding p3 allReleased opened tooSoon joined admitted taskOf
+p3-reached = (three, reached-tick (p3 0) allReleased three)
+  where
+    three : Reached (p3 0) (admitted 2 3 (admitted 1 1 (admitted 0 1 opened)))
+    three =
+        release 2 3 (record { in-table = lit< tt; demand-low = lit≤ tt; demand-high = lit≤ tt; apart = refl })
+        (release 1 1 (record { in-table = lit< tt; demand-low = lit≤ tt; demand-high = lit≤ tt; apart = refl })
+        (release 0 1 (record { in-table = lit< tt; demand-low = lit≤ tt; demand-high = lit≤ tt; apart = refl }) opening))
+
+unfoldable pub watch : TaskSet → ℕ → Machine → List (List ℕ × List ℕ)
+watch s zero M = []
+watch s (suc k) M = (tab (onCore s M) 2, tab (responses (runs s M) M) 3) ∷ watch s k (tick s M)
+
+-- "P3, all released at tick 0 with full budgets: finish ticks 1, 2, 3."
+pub p10 :
+    watch (p3 0) 4 allReleased
+    ≡ (2 ∷ 0 ∷ [], 1 ∷ 0 ∷ 0 ∷ []) ∷ (2 ∷ 1 ∷ [], 0 ∷ 2 ∷ 0 ∷ []) ∷ (2 ∷ idle ∷ [], 0 ∷ 0 ∷ 3 ∷ []) ∷ (idle ∷ idle ∷ [], 0 ∷ 0 ∷ 0 ∷ []) ∷ []
+unfolding p3 allReleased watch opened joined admitted waiting point before chosen onCore runs served advanced tick response responses tab place ranked member noTask taskOf
+p10 = refl
+
+-- "With the third offset 3: 1, 1, 4."
+pub p10-third :
+    watch (p3 3) 4 allReleased
+    ≡ (0 ∷ 1 ∷ [], 1 ∷ 1 ∷ 0 ∷ []) ∷ (2 ∷ idle ∷ [], 0 ∷ 0 ∷ 0 ∷ []) ∷ (2 ∷ idle ∷ [], 0 ∷ 0 ∷ 0 ∷ []) ∷ (2 ∷ idle ∷ [], 0 ∷ 0 ∷ 4 ∷ []) ∷ []
+unfolding p3 allReleased watch opened joined admitted waiting point before chosen onCore runs served advanced tick response responses tab place ranked member noTask taskOf
+p10-third = refl

@@ -1,0 +1,48 @@
+-- `table::write::put_task` meets its contract: three numbers, one behind the other.
+use Prim.Native.Nat.{_+_}
+use native.Mathlib.Omega.{arith}
+use borrow.Author.Needs.{needs}
+use Rattle.table.specs.Table.{taskBytes}
+use Rattle.table.specs.ByteLaws.{length-digits}
+use Rattle.table.specs.WriteLaws.{sets-three}
+use Rattle.table.specs.Bytes.{digits}
+use Rattle.table.proofs.write.put_task.Statement.{statement}
+use Rattle.table.proofs.write.put_task.Tie as tie
+
+put4-requires : tie.Need-put4-requires
+put4-requires c κs = search needs
+
+add-put4 : tie.Need-add-put4
+add-put4 c = search needs
+
+put4-requires-2 : tie.Need-put4-requires-2
+put4-requires-2 c κs = search needs
+
+add-put4-2 : tie.Need-add-put4-2
+add-put4-2 c = search needs
+
+put4-requires-3 : tie.Need-put4-requires-3
+put4-requires-3 c κs = search needs
+
+same-length : tie.Need-same-length
+same-length c = search needs
+
+returns : tie.Need-returns
+unfolding taskBytes
+returns c =
+    let a = c .before .before .before .before .before .before .before .before .before .before .before .before .before .args in
+    sets-three _ _ _ _ (a .at) (a .at + 4) (a .at + 8) (digits 4 (a .task .separation)) (digits 4 (a .task .budget)) _
+    (c .before .before .before .before .before .before .before .before .before .before .put4 .ensures) (c .before .before .before .before .before .before .put42 .ensures) (c .before .before .put43 .ensures)
+    (omega (arith, length-digits 4 (a .task .separation))) (omega (arith, length-digits 4 (a .task .budget)))
+
+pub put-task-spec : {M : Type 1} → statement M
+put-task-spec =
+    tie.close
+    (tie.spec
+    put4-requires
+    add-put4
+    put4-requires-2
+    add-put4-2
+    put4-requires-3
+    same-length
+    returns)

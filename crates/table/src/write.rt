@@ -1,0 +1,99 @@
+// The writer's bytes. Document 01, "Bytes of a show table".
+use tasks::Plan;
+use tasks::Task;
+ghost use mathlib.Core.Path.{_≡_};
+ghost use mathlib.Core.Bool.{cond};
+ghost use mathlib.Core.List.{[], _∷_, _++_};
+ghost use Prim.Native.Nat.{_+_, _*_, _≤_};
+ghost use lib.ListN.{length, drop};
+ghost use lib.Seq.{sets};
+ghost use Rattle.tasks.specs.TaskSet.{row};
+ghost use Rattle.tasks.specs.Content.{contentOf, taskOf};
+ghost use Rattle.table.specs.Bytes.{digits, entries};
+ghost use Rattle.table.specs.Table.{taskBytes, bytesOf};
+
+// A number's four bytes, low byte first, from `at` on.
+pub fn put4(out: &mut [u8], at: usize, v: u32)
+    requires { ⌜ at + 4 ≤ length (now out) ⌝ }
+    ensures { λ r. ⌜ now (out .exit) ≡ sets (now (out .entry)) at (digits 4 v) ⌝ }
+{
+    out[at] = (v % 256) as u8;
+    out[at + 1] = (v / 256 % 256) as u8;
+    out[at + 2] = (v / 256 / 256 % 256) as u8;
+    out[at + 3] = (v / 256 / 256 / 256 % 256) as u8;
+}
+
+// A task's entry of 12 bytes, from `at` on.
+pub fn put_task(out: &mut [u8], at: usize, task: Task)
+    requires { ⌜ at + 12 ≤ length (now out) ⌝ }
+    ensures { λ r. ⌜ now (out .exit) ≡ sets (now (out .entry)) at (taskBytes task) ⌝ }
+{
+    put4(out, at, task.separation);
+    put4(out, at + 4, task.budget);
+    put4(out, at + 8, task.offset);
+}
+
+// The cores' section: the count at `at`, and then the labels.
+pub fn put_labels(out: &mut [u8], at: usize, labels: &[u8; 8], count: usize)
+    requires { ⌜ (count ≤ 8) × (at + 1 + count ≤ length (now out)) ⌝ }
+    ensures { λ r. ⌜ now (out .exit) ≡ sets (now (out .entry)) at (count ∷ entries (λ i. row (now (labels .entry)) i ∷ []) count) ⌝ }
+{
+    out[at] = count as u8;
+    let from = at + 1;
+    let mut i = 0;
+    while i < count {
+        out[from + i] = labels[i];
+        i += 1;
+    }
+}
+
+// The loops' section.
+pub fn put_tasks(out: &mut [u8], at: usize, task: [Task; 16], count: usize)
+    requires { ⌜ (count ≤ 16) × (at + 1 + 12 * count ≤ length (now out)) ⌝ }
+    ensures { λ r. ⌜ now (out .exit) ≡ sets (now (out .entry)) at (count ∷ entries (λ i. taskBytes (taskOf task i)) count) ⌝ }
+{
+    out[at] = count as u8;
+    let from = at + 1;
+    let mut i = 0;
+    while i < count {
+        put_task(out, from + 12 * i, task[i]);
+        i += 1;
+    }
+}
+
+// The slack's section.
+pub fn put_slack(out: &mut [u8], at: usize, slack: &[u32; 16], count: usize)
+    requires { ⌜ (count ≤ 16) × (at + 1 + 4 * count ≤ length (now out)) ⌝ }
+    ensures { λ r. ⌜ now (out .exit) ≡ sets (now (out .entry)) at (count ∷ entries (λ i. digits 4 (row (now (slack .entry)) i)) count) ⌝ }
+{
+    out[at] = count as u8;
+    let from = at + 1;
+    let mut i = 0;
+    while i < count {
+        put4(out, from + 4 * i, slack[i]);
+        i += 1;
+    }
+}
+
+// "The writer writes found slack as count 0".
+pub fn offers(offered: bool, tasks: usize) -> usize
+    ensures { λ r. ⌜ (r ≡ cond offered tasks 0) × (r ≤ tasks) ⌝ }
+{
+    if offered { tasks } else { 0 }
+}
+
+// The bytes of a plan from the buffer's beginning on; later bytes stay. How many there are comes back.
+pub fn put_plan(out: &mut [u8], plan: Plan) -> usize
+    requires { ⌜ (plan .cores ≤ 8) × (plan .tasks ≤ 16) × (length (bytesOf (contentOf plan)) ≤ length (now out)) ⌝ }
+    ensures { λ r. ⌜ (r ≡ length (bytesOf (contentOf plan))) × (now (out .exit) ≡ bytesOf (contentOf plan) ++ drop (length (bytesOf (contentOf plan))) (now (out .entry))) ⌝ }
+{
+    let cores = plan.cores;
+    let tasks = plan.tasks;
+    let count = offers(plan.offered, tasks);
+    let from = cores + 3 + 12 * tasks;
+    out[0] = 1;
+    put_labels(out, 1, &plan.labels, cores);
+    put_tasks(out, cores + 2, plan.task, tasks);
+    put_slack(out, from, &plan.slack, count);
+    from + 1 + 4 * count
+}

@@ -1,0 +1,106 @@
+//! The proved judgement against the reference on hundreds of thousands of tables, the same ones on
+//! every run.
+
+use comparison::{Tally, compare};
+use samples::{
+    Random, Shape, damaged, faulty, long, mixed, noise, offered, overfull, steep, tight,
+};
+
+/// A way to make tables, and how many of them are compared.
+type Family = (u64, fn(&mut Random) -> Vec<u8>);
+
+const FAMILIES: [Family; 9] = [
+    (60_000, |random| mixed(random).bytes()),
+    (50_000, |random| long(random).bytes()),
+    (40_000, |random| steep(random).bytes()),
+    (60_000, any_tight),
+    (20_000, any_overfull),
+    (120_000, |random| offered(random).bytes()),
+    (70_000, |random| faulty(random).bytes()),
+    (80_000, any_damaged),
+    (20_000, noise),
+];
+
+/// How often each refusal number is met, at least.
+const REFUSED_AT_LEAST: u64 = 2_000;
+
+/// How often each of these is met, at least.
+const AT_LEAST: [(u64, &str); 21] = [
+    (50_000, "accepted, found"),
+    (10_000, "accepted, offered"),
+    (5_000, "accepted, H from 990,000"),
+    (500, "accepted, H 1,000,000"),
+    (500, "refused 9, H 1,000,001"),
+    (1_000, "refused 9, H up to 1,001,000"),
+    (10_000, "accepted, shares exactly m × H"),
+    (1_000, "accepted, shares exactly m × H, H from 990,000"),
+    (5_000, "refused 10, shares m × H + 1"),
+    (5_000, "accepted, offered, fails with an entry one lower"),
+    (500, "accepted, offered zeros"),
+    (5_000, "refused 12, complies with the entry one higher"),
+    (5_000, "refused 12, index above 0"),
+    (5_000, "refused 12, an entry of 2^32 − 1"),
+    (3_000, "refused 12, offered zeros"),
+    (5_000, "refused 13, an entry of 2^32 − 1"),
+    (1_000, "accepted, a bound of exactly 16 × T"),
+    (20_000, "accepted, buffer exactly long enough"),
+    (20_000, "accepted, buffer longer"),
+    (2_000, "refused 24, buffer empty"),
+    (5_000, "refused 24, buffer one byte short"),
+];
+
+fn any_tight(random: &mut Random) -> Vec<u8> {
+    let shape = Shape::any(random);
+    tight(random, shape).bytes()
+}
+
+fn any_overfull(random: &mut Random) -> Vec<u8> {
+    let shape = Shape::any(random);
+    overfull(random, shape).bytes()
+}
+
+fn any_damaged(random: &mut Random) -> Vec<u8> {
+    let table = match random.index(4) {
+        0 => mixed(random),
+        1 => steep(random),
+        _ => offered(random),
+    };
+    damaged(random, table.bytes())
+}
+
+#[test]
+fn many_tables() {
+    let mut tally = Tally::default();
+    for (seed, (tables, make)) in (1..).zip(FAMILIES) {
+        let mut random = Random::new(seed);
+        for _ in 0..tables {
+            let table = make(&mut random);
+            compare(&mut random, &table, &mut tally);
+        }
+    }
+    tally.print();
+    assert!(tally.tables() >= 300_000);
+    for number in (1..=13).chain([24]) {
+        let met = tally.refused(number);
+        assert!(met >= REFUSED_AT_LEAST, "refused {number}: {met} tables");
+    }
+    for (least, name) in AT_LEAST {
+        let met = tally.named(name);
+        assert!(met >= least, "{name}: {met} tables");
+    }
+}
+
+#[test]
+fn every_table_of_up_to_two_bytes_after_the_edition() {
+    let mut random = Random::new(0);
+    let mut tally = Tally::default();
+    compare(&mut random, &[], &mut tally);
+    for first in 0..=255 {
+        compare(&mut random, &[first], &mut tally);
+        compare(&mut random, &[1, first], &mut tally);
+        for second in 0..=255 {
+            compare(&mut random, &[1, first, second], &mut tally);
+        }
+    }
+    assert_eq!((tally.refused(1), tally.refused(2)), (256, 1 + 256 + 65_536));
+}

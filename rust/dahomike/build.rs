@@ -1,0 +1,36 @@
+//! Finds the proved static library, libdahomike.a, and links it.
+//!
+//! It lies in the folder that DAHOMIKE_LIB_DIR names, or else in target/staticlib of the
+//! repository, where `rt staticlib dahomike` writes it.
+
+use std::env;
+use std::path::PathBuf;
+
+const DIRECTORY_VARIABLE: &str = "DAHOMIKE_LIB_DIR";
+
+fn main() {
+    println!("cargo::rerun-if-env-changed={DIRECTORY_VARIABLE}");
+    let directory = library_directory();
+    let archive = directory.join("libdahomike.a");
+    println!("cargo::rerun-if-changed={}", archive.display());
+    if !archive.is_file() {
+        println!("cargo::error=the static library {} is missing", archive.display());
+        println!(
+            "cargo::error=run `rt staticlib dahomike` in the repository's root, \
+             or set {DIRECTORY_VARIABLE} to the folder that holds libdahomike.a"
+        );
+        return;
+    }
+    println!("cargo::rustc-link-search=native={}", directory.display());
+    println!("cargo::rustc-link-lib=static=dahomike");
+}
+
+fn library_directory() -> PathBuf {
+    if let Some(directory) = env::var_os(DIRECTORY_VARIABLE) {
+        return PathBuf::from(directory);
+    }
+    let manifest = env::var_os("CARGO_MANIFEST_DIR").expect("cargo sets the crate's folder");
+    let crate_folder = PathBuf::from(manifest);
+    let repository = crate_folder.ancestors().nth(2).expect("the crate is rust/dahomike");
+    repository.join("target/staticlib")
+}

@@ -1,0 +1,56 @@
+//! The safe Rust side of the proved library: each C function that the desktop planner calls, as a
+//! function over slices that answers a `Result`.
+
+/// Why a call was refused: the number of document 01 and the index that it gives with it.
+#[derive(Clone, Copy, Debug, PartialEq, Eq)]
+pub struct Refusal {
+    pub number: u32,
+    pub index: u32,
+}
+
+mod ffi {
+    // A `&[u8]` of the proved code passes as a pointer and then a length. Nothing checks these
+    // declarations against its source, so they are kept to byte slices and numbers.
+    unsafe extern "C" {
+        pub fn dahomike_judge(
+            table: *const u8,
+            table_len: usize,
+            out: *mut u8,
+            out_len: usize,
+        ) -> u64;
+    }
+}
+
+/// Judges a show table. Where it is accepted, slack and bound of each of its n tasks stand in `out`
+/// (slack 0, bound 0, slack 1, bound 1 and so on, 4 bytes each, low byte first), later bytes of
+/// `out` stay, and n comes back. Where it is refused, `out` stays as it is.
+pub fn judge(table: &[u8], out: &mut [u8]) -> Result<usize, Refusal> {
+    // SAFETY: the proved function asks for two slices that are not null and do not overlap, and
+    // nothing else. A Rust slice is never null, also where it is empty, and `out`, being borrowed
+    // mutably, overlaps no other borrow.
+    let answer =
+        unsafe { ffi::dahomike_judge(table.as_ptr(), table.len(), out.as_mut_ptr(), out.len()) };
+    decode(answer).map(|tasks| tasks as usize)
+}
+
+/// The 64-bit answer of a C function taken apart: the value of an accepted call, or
+/// 4,294,967,296 × refusal number + index.
+fn decode(answer: u64) -> Result<u32, Refusal> {
+    let number = (answer >> 32) as u32;
+    let low = answer as u32;
+    if number == 0 { Ok(low) } else { Err(Refusal { number, index: low }) }
+}
+
+#[cfg(test)]
+mod tests {
+    use super::{Refusal, decode};
+
+    #[test]
+    fn an_answer_is_a_value_or_a_number_and_an_index() {
+        assert_eq!(decode(0), Ok(0));
+        assert_eq!(decode(16), Ok(16));
+        assert_eq!(decode(u64::from(u32::MAX)), Ok(u32::MAX));
+        assert_eq!(decode(4_294_967_296), Err(Refusal { number: 1, index: 0 }));
+        assert_eq!(decode(7 * 4_294_967_296 + 15), Err(Refusal { number: 7, index: 15 }));
+    }
+}

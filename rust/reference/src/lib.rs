@@ -1,0 +1,34 @@
+//! The judgement of a show table, written from document 01 alone, in its order and with its words
+//! beside each step. It is what the proved code is compared with, so it is plain before it is
+//! quick: numbers are 128 bits wide, and nothing is worked out in a shorter way than the document
+//! says it.
+
+#![forbid(unsafe_code)]
+
+mod plan;
+mod slack;
+mod table;
+
+pub use plan::{Plan, judge, judge_into, write};
+pub use slack::Analysis;
+pub use table::{Table, Task};
+
+/// A refused call "returns its number and an index".
+#[derive(Clone, Copy, Debug, PartialEq, Eq)]
+pub struct Refusal {
+    pub number: u32,
+    pub index: u32,
+}
+
+impl Refusal {
+    /// A refusal that names the entry at `index`.
+    pub fn at(number: u32, index: usize) -> Refusal {
+        let index = u32::try_from(index).expect("an index is below 256");
+        Refusal { number, index }
+    }
+
+    /// A refusal that names no entry: its index is 0.
+    pub fn whole(number: u32) -> Refusal {
+        Refusal { number, index: 0 }
+    }
+}

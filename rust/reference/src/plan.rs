@@ -1,0 +1,140 @@
+//! Refusals 3 to 13 and 24, each tested over all entries before the next, and what an accepted
+//! table gives: a plan, its bytes, and the slack and bound that the C judgement writes.
+
+use crate::slack::wide;
+use crate::{Analysis, Refusal, Table, Task};
+
+/// "The plan keeps the table's entries, the slack, and whether it was offered or found; bounds are
+/// always worked out from these."
+#[derive(Clone, Debug, PartialEq, Eq)]
+pub struct Plan {
+    pub labels: Vec<u8>,
+    pub tasks: Vec<Task>,
+    pub slack: Vec<u32>,
+    pub offered: bool,
+}
+
+impl Plan {
+    /// "The *bound* of a loop is Y + x + C, counted from release."
+    pub fn bound(&self, k: usize) -> u128 {
+        wide(self.tasks[k].offset) + self.late(k)
+    }
+
+    /// "*Late* is x + C, counted from the priority point".
+    pub fn late(&self, k: usize) -> u128 {
+        wide(self.slack[k]) + wide(self.tasks[k].budget)
+    }
+}
+
+/// The plan of a table's bytes, or which of 1 to 13 they meet.
+pub fn judge(bytes: &[u8]) -> Result<Plan, Refusal> {
+    let table = Table::read(bytes)?;
+    test_cores(&table)?;
+    test_tasks(&table)?;
+    let plan = with_slack(table)?;
+    // 13: "A bound is above 16 × T."
+    test_each(13, &plan.tasks, |k, task| plan.bound(k) <= 16 * wide(task.separation))?;
+    Ok(plan)
+}
+
+/// The C judgement: it "writes slack and bound for each loop, 4 bytes each, to a lent buffer;
+/// bytes beyond stay", and answers n. On a refusal "nothing lent is written".
+pub fn judge_into(bytes: &[u8], out: &mut [u8]) -> Result<usize, Refusal> {
+    let plan = judge(bytes)?;
+    let tasks = plan.tasks.len();
+    // 24: "The buffer lent [..] to the C judgement is too short, tested after 3 to 13."
+    if out.len() < 8 * tasks {
+        return Err(Refusal::whole(24));
+    }
+    for k in 0..tasks {
+        let bound = u32::try_from(plan.bound(k)).expect("13 keeps a bound to 16 × 100,000");
+        out[8 * k..8 * k + 4].copy_from_slice(&plan.slack[k].to_le_bytes());
+        out[8 * k + 4..8 * k + 8].copy_from_slice(&bound.to_le_bytes());
+    }
+    Ok(tasks)
+}
+
+/// The bytes of a plan: "The writer writes found slack as count 0".
+pub fn write(plan: &Plan) -> Vec<u8> {
+    let table = Table {
+        labels: plan.labels.clone(),
+        tasks: plan.tasks.clone(),
+        slack: if plan.offered { plan.slack.clone() } else { Vec::new() },
+    };
+    table.bytes()
+}
+
+/// 3 and 4.
+fn test_cores(table: &Table) -> Result<(), Refusal> {
+    // 3: "Cores are not 2 to 8."
+    if !(2..=8).contains(&table.labels.len()) {
+        return Err(Refusal::whole(3));
+    }
+    // 4: "A core label is above 63 or not above the one before."
+    test_each(4, &table.labels, |core, &label| {
+        label <= 63 && (core == 0 || label > table.labels[core - 1])
+    })
+}
+
+/// 5 to 8.
+fn test_tasks(table: &Table) -> Result<(), Refusal> {
+    let tasks = &table.tasks;
+    // 5: "Loops are fewer than cores + 1 or more than 16."
+    if tasks.len() < table.labels.len() + 1 || tasks.len() > 16 {
+        return Err(Refusal::whole(5));
+    }
+    // 6: "A separation is not 1 to 100,000."
+    test_each(6, tasks, |_, task| (1..=100_000).contains(&task.separation))?;
+    // 7: "A budget is not 1 to its separation."
+    test_each(7, tasks, |_, task| (1..=task.separation).contains(&task.budget))?;
+    // 8: "An offset is above its separation."
+    test_each(8, tasks, |_, task| task.offset <= task.separation)
+}
+
+/// 9 to 12: the table with its slack, offered or found.
+fn with_slack(table: Table) -> Result<Plan, Refusal> {
+    // 9: "H is above 1,000,000."
+    let analysis = Analysis::new(table.labels.len(), &table.tasks).ok_or(Refusal::whole(9))?;
+    // 10: "The shares add up to more than m × H."
+    let (load, capacity) = analysis.load_and_capacity();
+    if load > capacity {
+        return Err(Refusal::whole(10));
+    }
+    // 11: "The slack count is neither 0 nor n."
+    if !table.slack.is_empty() && table.slack.len() != table.tasks.len() {
+        return Err(Refusal::whole(11));
+    }
+    // "Count 0 means that no slack is offered, and slack is then found. It doesn't mean zeros: an
+    // offered 0 is a number and is tested."
+    let offered = !table.slack.is_empty();
+    let slack =
+        if offered { test_offer(&analysis, &table.slack)? } else { narrow(analysis.found()) };
+    Ok(Plan { labels: table.labels, tasks: table.tasks, slack, offered })
+}
+
+/// 12: "Offered slack isn't compliant (lowest loop k that fails)."
+fn test_offer(analysis: &Analysis, offer: &[u32]) -> Result<Vec<u32>, Refusal> {
+    let slack: Vec<u128> = offer.iter().map(|&x| wide(x)).collect();
+    match analysis.lowest_failing(&slack) {
+        Some(k) => Err(Refusal::at(12, k)),
+        None => Ok(offer.to_vec()),
+    }
+}
+
+/// Found slack in a table's width.
+fn narrow(found: Vec<u128>) -> Vec<u32> {
+    let entry = |x| u32::try_from(x).expect("found slack is far below 2^32");
+    found.into_iter().map(entry).collect()
+}
+
+/// A refusal over all entries, with the lowest one that fails as its index.
+fn test_each<T>(
+    number: u32,
+    entries: &[T],
+    passes: impl Fn(usize, &T) -> bool,
+) -> Result<(), Refusal> {
+    match entries.iter().enumerate().find(|(index, entry)| !passes(*index, entry)) {
+        Some((index, _)) => Err(Refusal::at(number, index)),
+        None => Ok(()),
+    }
+}

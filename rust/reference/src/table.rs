@@ -1,0 +1,96 @@
+//! The bytes of a show table: its three sections read (refusals 1 and 2) and written.
+
+use crate::Refusal;
+
+/// An entry of the second section. Document 01 calls a task a *loop*.
+#[derive(Clone, Copy, Debug, PartialEq, Eq)]
+pub struct Task {
+    /// T.
+    pub separation: u32,
+    /// C.
+    pub budget: u32,
+    /// Y, the priority offset.
+    pub offset: u32,
+}
+
+/// The entries of the three sections as they stand in the bytes, before any of 3 to 13 is tested.
+#[derive(Clone, Debug, PartialEq, Eq)]
+pub struct Table {
+    /// "Cores: m entries, one byte each, a hardware label".
+    pub labels: Vec<u8>,
+    /// "Loops: n entries of 12 bytes: separation T, budget C, priority offset Y, 4 bytes each."
+    pub tasks: Vec<Task>,
+    /// "Per-loop slack x: one 4-byte entry for each loop, or count 0." Empty where none is offered.
+    pub slack: Vec<u32>,
+}
+
+impl Table {
+    /// The sections of `bytes`, or refusal 1 or 2.
+    pub fn read(bytes: &[u8]) -> Result<Table, Refusal> {
+        // 1: "The edition byte is absent or not 1."
+        if bytes.first() != Some(&1) {
+            return Err(Refusal::whole(1));
+        }
+        // 2: "The length isn't exactly what the counts give, or a count is absent."
+        read_sections(&bytes[1..]).ok_or(Refusal::whole(2))
+    }
+
+    /// The bytes of the table: "The first byte is the edition, 1. Three sections follow in this
+    /// order, each after a one-byte count, and nothing follows them."
+    pub fn bytes(&self) -> Vec<u8> {
+        let mut bytes = vec![1];
+        bytes.push(count_of(self.labels.len()));
+        bytes.extend(&self.labels);
+        bytes.push(count_of(self.tasks.len()));
+        for task in &self.tasks {
+            bytes.extend(task.separation.to_le_bytes());
+            bytes.extend(task.budget.to_le_bytes());
+            bytes.extend(task.offset.to_le_bytes());
+        }
+        bytes.push(count_of(self.slack.len()));
+        for x in &self.slack {
+            bytes.extend(x.to_le_bytes());
+        }
+        bytes
+    }
+}
+
+/// The three sections, each after its count, and nothing after them; or nothing where a count is
+/// absent or the length is another.
+fn read_sections(bytes: &[u8]) -> Option<Table> {
+    let (labels, rest) = section(bytes, 1)?;
+    let (tasks, rest) = section(rest, 12)?;
+    let (slack, rest) = section(rest, 4)?;
+    if !rest.is_empty() {
+        return None;
+    }
+    Some(Table {
+        labels: labels.to_vec(),
+        tasks: tasks.chunks(12).map(task).collect(),
+        slack: slack.chunks(4).map(number).collect(),
+    })
+}
+
+/// The entries of one section of entries of `size` bytes, after its one-byte count, and the bytes
+/// that follow it.
+fn section(bytes: &[u8], size: usize) -> Option<(&[u8], &[u8])> {
+    let (count, rest) = bytes.split_first()?;
+    rest.split_at_checked(usize::from(*count) * size)
+}
+
+fn task(entry: &[u8]) -> Task {
+    Task {
+        separation: number(&entry[0..4]),
+        budget: number(&entry[4..8]),
+        offset: number(&entry[8..12]),
+    }
+}
+
+/// "Multi-byte numbers are unsigned, low byte first."
+fn number(bytes: &[u8]) -> u32 {
+    bytes.iter().rev().fold(0, |high, byte| high * 256 + u32::from(*byte))
+}
+
+fn count_of(entries: usize) -> u8 {
+    u8::try_from(entries).expect("a section has at most 255 entries")
+}

@@ -1,0 +1,109 @@
+//! Tables with one to three entries or counts that some refusal names.
+
+use crate::{Random, Shape, mixed, offered, tight};
+use reference::{Table, Task};
+
+/// A table with some faults, each met by one of 3 to 12; which of them comes first is for the
+/// judgement to say.
+pub fn faulty(random: &mut Random) -> Table {
+    let mut table = match random.index(3) {
+        0 => mixed(random),
+        1 => offered(random),
+        _ => {
+            let shape = Shape::any(random);
+            tight(random, shape)
+        }
+    };
+    for _ in 0..random.between(1, 3) {
+        add_fault(random, &mut table);
+    }
+    table
+}
+
+fn add_fault(random: &mut Random, table: &mut Table) {
+    match random.index(10) {
+        0 => change_cores(random, table),
+        1 => change_label(random, &mut table.labels),
+        2 => change_tasks(random, table),
+        3 => change_task(random, table, |random, task| {
+            task.separation = outside(random, 100_000);
+        }),
+        4 => change_task(random, table, |random, task| {
+            task.budget = outside(random, task.separation);
+        }),
+        5 => change_task(random, table, |random, task| {
+            task.offset = outside(random, task.separation);
+        }),
+        6 => change_task(random, table, |random, task| {
+            let separation = random.pick(&[99_991, 9_973, 997, 100_000]);
+            *task = Task { separation, budget: 1, offset: 0 };
+        }),
+        7 => change_task(random, table, |_, task| task.budget = task.separation),
+        8 => change_slack_count(random, table),
+        _ => change_slack(random, &mut table.slack),
+    }
+}
+
+fn change_cores(random: &mut Random, table: &mut Table) {
+    let count = random.pick(&[0, 1, 2, 8, 9, 10, 255]);
+    table.labels = (0..count).collect();
+}
+
+fn change_label(random: &mut Random, labels: &mut [u8]) {
+    if labels.is_empty() {
+        return;
+    }
+    let core = random.index(labels.len());
+    let before = labels[core.saturating_sub(1)];
+    labels[core] = match random.index(4) {
+        0 => before,
+        1 => before.saturating_sub(1),
+        2 => 63,
+        _ => random.pick(&[64, 65, 128, 255]),
+    };
+}
+
+fn change_tasks(random: &mut Random, table: &mut Table) {
+    let any = Task { separation: 10, budget: 1, offset: 10 };
+    let count = match random.index(4) {
+        0 => table.labels.len(),
+        1 => random.index(table.labels.len() + 1),
+        2 => 17,
+        _ => random.between(1, 40) as usize,
+    };
+    table.tasks.resize(count, any);
+}
+
+fn change_task(random: &mut Random, table: &mut Table, change: fn(&mut Random, &mut Task)) {
+    if !table.tasks.is_empty() {
+        let task = random.index(table.tasks.len());
+        change(random, &mut table.tasks[task]);
+    }
+}
+
+/// A number that is 0, just above the limit, or far above it; and now and then the limit itself.
+fn outside(random: &mut Random, limit: u32) -> u32 {
+    match random.index(6) {
+        0 | 1 => 0,
+        2 | 3 => limit.saturating_add(1),
+        4 => random.between(limit, u32::MAX),
+        _ => random.pick(&[limit, u32::MAX]),
+    }
+}
+
+fn change_slack_count(random: &mut Random, table: &mut Table) {
+    let count = match random.index(4) {
+        0 => (table.tasks.len() + 1).min(255),
+        1 => table.tasks.len().saturating_sub(1),
+        2 => 0,
+        _ => random.between(1, 40) as usize,
+    };
+    table.slack.resize(count, 0);
+}
+
+fn change_slack(random: &mut Random, slack: &mut [u32]) {
+    if !slack.is_empty() {
+        let entry = random.index(slack.len());
+        slack[entry] = random.pick(&[0, 1, 1000, u32::MAX, u32::MAX - 1, 1 << 31]);
+    }
+}
