@@ -1,4 +1,6 @@
 // The slack: offered slack tested by document 01's inequality, and slack found by raising zeros until nothing changes.
+use crate::amount::amount;
+use crate::amount::first_chosen;
 use multiple::wide;
 ghost use mathlib.Core.Path.{_≡_};
 ghost use mathlib.Core.Bool.{not};
@@ -9,7 +11,7 @@ ghost use lib.ListN.{length};
 ghost use Rattle.laws.specs.First.{first};
 ghost use Rattle.laws.specs.Tab.{tab, cut};
 ghost use Rattle.tasks.specs.TaskSet.{TaskSet, row, found};
-ghost use Rattle.analysis.specs.Settling.{uncovered, lifted, upto};
+ghost use Rattle.analysis.specs.Settling.{uncovered, lifted, upto, Settling};
 
 // The lowest task whose m × H × x + H × C is below the amount, or `tasks` where there is none.
 pub fn first_uncovered(
@@ -98,4 +100,37 @@ fn raise(
         i += 1;
     }
     changed
+}
+
+// "starting at zeros, the vector is raised until nothing changes"
+pub fn search(
+    share: &[u64; 16],
+    budget: &[u32; 16],
+    offset: &[u32; 16],
+    multiple: u64,
+    surplus: u64,
+    cores: usize,
+    tasks: usize,
+) -> [u32; 16]
+    requires { ⌜ ((s : TaskSet) × Settling s (now share) (now budget) (now offset) multiple surplus cores tasks) ⌝ }
+    ensures { λ r. ⌜ ((s : TaskSet) → Settling s (now (share .entry)) (now (budget .entry)) (now (offset .entry)) multiple surplus cores tasks → r ≡ tab (row (found s)) 16) ⌝ }
+{
+    let quotient = quotients(budget, cores as u32, tasks);
+    let rest = remainders(budget, cores as u32, tasks);
+    let mut chosen = first_chosen(cores - 1);
+    let mut slack = [0u32; 16];
+    loop {
+        let whole = amount(share, offset, &slack, &mut chosen, surplus, tasks);
+        let need = (whole + (multiple - 1)) / multiple;
+        if !raise(
+            &mut slack,
+            &quotient,
+            &rest,
+            (need / (cores as u64)) as u32,
+            (need % (cores as u64)) as u32,
+            tasks,
+        ) {
+            break slack;
+        }
+    }
 }

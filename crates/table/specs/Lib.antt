@@ -9,3 +9,4 @@ pub mod KeptLaws
 pub mod SectionLaws
 pub mod BackLaws
 pub mod RoundTrip
+pub mod LoadedLaws

@@ -1,5 +1,6 @@
 // The reader's stages: the three counts, then each section's entries. Document 01, "Bytes of a show table".
 use tasks::Task;
+use tasks::refusal;
 ghost use mathlib.Core.Path.{_≡_};
 ghost use Prim.Native.Nat.{_+_, _*_, _≤_, _<_, min};
 ghost use lib.ListN.{length};
@@ -60,49 +61,37 @@ pub fn task_at(t: &[u8], at: usize) -> Task
     }
 }
 
+fn refused(number: u8) -> Counts
+    ensures { λ r. ⌜ r ≡ Counts.Refused number 0 ⌝ }
+{
+    Counts::Refused { number, index: 0 }
+}
+
 // Refusals 1 and 2, over any bytes.
 pub fn read_counts(t: &[u8]) -> Counts
     ensures { λ r. ⌜ r ≡ countsIn (now (t .entry)) ⌝ }
 {
     if t.len() < 1 {
-        return Counts::Refused {
-            number: 1,
-            index: 0,
-        };
+        return refused(refusal::EDITION);
     }
     if count_at(t, 0) != 1 {
-        return Counts::Refused {
-            number: 1,
-            index: 0,
-        };
+        return refused(refusal::EDITION);
     }
     if t.len() < 2 {
-        return Counts::Refused {
-            number: 2,
-            index: 0,
-        };
+        return refused(refusal::LENGTH);
     }
     let cores = count_at(t, 1);
     if t.len() < cores + 3 {
-        return Counts::Refused {
-            number: 2,
-            index: 0,
-        };
+        return refused(refusal::LENGTH);
     }
     let tasks = count_at(t, cores + 2);
     let end = cores + 3 + 12 * tasks;
     if t.len() < end + 1 {
-        return Counts::Refused {
-            number: 2,
-            index: 0,
-        };
+        return refused(refusal::LENGTH);
     }
     let offers = count_at(t, end);
     if t.len() != end + 1 + 4 * offers {
-        return Counts::Refused {
-            number: 2,
-            index: 0,
-        };
+        return refused(refusal::LENGTH);
     }
     Counts::Read {
         cores,
