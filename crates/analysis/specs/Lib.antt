@@ -8,3 +8,7 @@ pub mod SettlingLaws
 pub mod NeedLaws
 pub mod Weights
 pub mod Bounds
+pub mod Settled
+pub mod SettledLaws
+pub mod SettleLaws
+pub mod SearchLaws

@@ -5,4 +5,5 @@ mod columns;
 mod fields;
 mod frame;
 mod rates;
+mod settle;
 mod slack;

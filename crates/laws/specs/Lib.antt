@@ -14,3 +14,4 @@ pub mod LargestLaws
 pub mod Push
 pub mod PushLaws
 pub mod CarryLaws
+pub mod ChoiceLaws

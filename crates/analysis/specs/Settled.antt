@@ -1,0 +1,54 @@
+-- What a plan's slack is settled to, before its bounds are tested.
+--     offering       what a plan says, with a slack count of its own: a table's count may be wrong, a plan's mark can't
+--     offeredTest    12 of offered slack
+--     taskTests      6 to 12
+--     hadSlack       the slack: offered, or found
+--     Offered        12 of offered slack, and that slack with zeros in unused places
+--     TasksSettle    the answer by 6 to 12, and the slack
+--     Settles        the answer by 3 to 12, and the slack where none is met
+use Prim.Native.Nat.{ℕ}
+use mathlib.Core.Path.{_≡_}
+use mathlib.Core.Bool.{cond, not}
+use mathlib.Core.List.{List, [], _∷_}
+use lib.Dec.{eqb}
+use Rattle.laws.specs.Tab.{tab, cut}
+use Rattle.tasks.specs.declared.Plan.{Plan}
+use Rattle.tasks.specs.declared.Answer.{Answer}
+use Rattle.tasks.specs.declared.Answer.the-variants.{Accepted}
+use Rattle.tasks.specs.TaskSet.{TaskSet, covers, found, row}
+use Rattle.tasks.specs.Content.{Content, contentOf}
+use Rattle.tasks.specs.Tests.{lowest, firstMet, orNext, test6, test7, test8, test9, test10, test11}
+use Rattle.tasks.specs.LimitsLaws.{limitTests}
+use Rattle.analysis.specs.declared.settle.Settled.{Settled}
+
+unfoldable pub offering : Plan → ℕ → Content
+offering p k =
+    record { tasks = contentOf p .tasks; label = contentOf p .label; offers = k; slack = contentOf p .slack }
+
+unfoldable pub offeredTest : Content → Answer
+offeredTest c =
+    cond (eqb (c .offers) 0) Accepted (lowest 12 (λ k. not (covers (c .tasks) (c .slack) k)) (c .tasks .count))
+
+-- 6 to 12, in three stages
+unfoldable pub taskTests : Content → Answer
+taskTests c =
+    orNext (firstMet (test6 c ∷ test7 c ∷ test8 c ∷ []))
+    (orNext (firstMet (test9 c ∷ test10 c ∷ [])) (firstMet (test11 c ∷ offeredTest c ∷ [])))
+
+unfoldable pub hadSlack : Content → ℕ → ℕ
+hadSlack c = cond (eqb (c .offers) 0) (row (found (c .tasks))) (c .slack)
+
+-- 12 of offered slack, from an array that may hold more than the used places
+pub record Offered (s : TaskSet) (slack : List ℕ) (r : Settled) : Type 0 where
+  pub answer : r .answer ≡ lowest 12 (λ k. not (covers s (cut (s .count) (row slack) 0) k)) (s .count)
+  pub had : r .answer ≡ Accepted → r .slack ≡ tab (cut (s .count) (row slack) 0) 16
+
+-- 6 to 12
+pub record TasksSettle (p : Plan) (k : ℕ) (r : Settled) : Type 0 where
+  pub answer : r .answer ≡ taskTests (offering p k)
+  pub slack : r .answer ≡ Accepted → r .slack ≡ tab (hadSlack (offering p k)) 16
+
+pub record Settles (p : Plan) (k : ℕ) (r : Settled) : Type 0 where
+  pub answer :
+      r .answer ≡ orNext (limitTests (offering p k)) (firstMet (test11 (offering p k) ∷ offeredTest (offering p k) ∷ []))
+  pub slack : r .answer ≡ Accepted → r .slack ≡ tab (hadSlack (offering p k)) 16

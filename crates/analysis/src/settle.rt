@@ -1,0 +1,7 @@
+// x
+use tasks::Answer;
+
+pub struct Settled {
+    pub answer: Answer,
+    pub slack: [u32; 16],
+}

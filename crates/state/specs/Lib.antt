@@ -1,0 +1,10 @@
+pub mod State
+pub mod SoundState
+pub mod Calls
+pub mod AllLaws
+pub mod Fit
+pub mod ViewLaws
+pub mod QueueLaws
+pub mod TidyLaws
+pub mod FitLaws
+pub mod KeptLaws
