@@ -55,17 +55,17 @@ ranges-passed m n separation budget offset f a =
     let r6 = firstMet-passed _ _ a in
     let r7 = firstMet-passed _ _ (r6 .1) in
     let r8 = firstMet-passed _ _ (r7 .1) in
-    record
-    { cores = f .cores-high
-    ; tasks = f .tasks-high
-    ; timed =
-        record
-        { separation-low = λ i h. outside-passed 1 100000 _ (lowest-passed 6 _ n (r6 .0) i h) .0
-        ; budget-low = λ i h. outside-passed 1 _ _ (lowest-passed 7 _ n (r7 .0) i h) .0
-        ; budget-high = λ i h. outside-passed 1 _ _ (lowest-passed 7 _ n (r7 .0) i h) .1
-        }
-    ; separation = λ i h. outside-passed 1 100000 _ (lowest-passed 6 _ n (r6 .0) i h) .1
-    ; offset = λ i h. ltb-false _ _ (lowest-passed 8 _ n (r8 .0) i h)
+    record {
+      cores = f .cores-high;
+      tasks = f .tasks-high;
+      timed =
+          record {
+            separation-low = λ i h. outside-passed 1 100000 _ (lowest-passed 6 _ n (r6 .0) i h) .0;
+            budget-low = λ i h. outside-passed 1 _ _ (lowest-passed 7 _ n (r7 .0) i h) .0;
+            budget-high = λ i h. outside-passed 1 _ _ (lowest-passed 7 _ n (r7 .0) i h) .1;
+          };
+      separation = λ i h. outside-passed 1 100000 _ (lowest-passed 6 _ n (r6 .0) i h) .1;
+      offset = λ i h. ltb-false _ _ (lowest-passed 8 _ n (r8 .0) i h);
     }
 
 pub settling-of :
@@ -74,15 +74,15 @@ pub settling-of :
     Settling (setFrom m n separation budget offset) (r .share) budget offset (r .multiple) (r .surplus) m n
 unfolding setFrom
 settling-of m n separation budget offset r h L f =
-    record
-    { limits = L
-    ; cores = refl
-    ; tasks = refl
-    ; multiple = f .multiple
-    ; surplus = f .surplus
-    ; share = λ i k. row-filled (r .share) _ n i h k (f .share)
-    ; budget = λ i k. refl
-    ; offset = λ i k. refl
+    record {
+      limits = L;
+      cores = refl;
+      tasks = refl;
+      multiple = f .multiple;
+      surplus = f .surplus;
+      share = λ i k. row-filled (r .share) _ n i h k (f .share);
+      budget = λ i k. refl;
+      offset = λ i k. refl;
     }
 
 below-not : (a b : ℕ) → ltb b a ≡ not (leb a b)
@@ -108,9 +108,9 @@ module _ (s : TaskSet) (shares budgets offsets : List ℕ) (h surpluses m n : �
   amount-row x k e =
       ap₂ (λ (a b : ℕ). a + b)
       (rw (e, g .cores, g .tasks)
-      ( sumOver-ext _ _ _
-        (λ i l. weight-row x i (largest-below (s .cores - 1) (weightRow shares offsets x) (s .count) i l))
-        ∙ ap (sumOver (weight s (row x))) (largest-ext (s .cores - 1) _ _ (s .count) (weight-row x))))
+      (sumOver-ext _ _ _
+      (λ i l. weight-row x i (largest-below (s .cores - 1) (weightRow shares offsets x) (s .count) i l))
+      ∙ ap (sumOver (weight s (row x))) (largest-ext (s .cores - 1) _ _ (s .count) (weight-row x))))
       (g .surplus)
 
   pub uncovered-test :

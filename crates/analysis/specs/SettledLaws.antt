@@ -43,15 +43,15 @@ pub columns-set :
 unfolding setFrom columnsOf contentOf noTask
 columns-set p h =
     λ j.
-    record
-    { cores = p .cores
-    ; count = p .tasks
-    ; task = λ i.
-        record
-        { separation = column (p .tasks) (p .task) (λ t. t .separation) refl h i j
-        ; budget = column (p .tasks) (p .task) (λ t. t .budget) refl h i j
-        ; offset = column (p .tasks) (p .task) (λ t. t .offset) refl h i j
-        }
+    record {
+      cores = p .cores;
+      count = p .tasks;
+      task = λ i.
+          record {
+            separation = column (p .tasks) (p .task) (λ t. t .separation) refl h i j;
+            budget = column (p .tasks) (p .task) (λ t. t .budget) refl h i j;
+            offset = column (p .tasks) (p .task) (λ t. t .offset) refl h i j;
+          };
     }
 
 -- the labels that a test looks at are in use
@@ -69,12 +69,12 @@ module _ (c : Content) where
   pub limits-split :
       limitTests c
       ≡ orNext (firstMet (test3 c ∷ test4 c ∷ test5 c ∷ []))
-        (orNext (firstMet (test6 c ∷ test7 c ∷ test8 c ∷ [])) (firstMet (test9 c ∷ test10 c ∷ [])))
+      (orNext (firstMet (test6 c ∷ test7 c ∷ test8 c ∷ [])) (firstMet (test9 c ∷ test10 c ∷ [])))
   unfolding limitTests
   limits-split =
       firstMet-append (test3 c ∷ test4 c ∷ test5 c ∷ []) (test6 c ∷ test7 c ∷ test8 c ∷ test9 c ∷ test10 c ∷ [])
       ∙ ap (orNext (firstMet (test3 c ∷ test4 c ∷ test5 c ∷ [])))
-        (firstMet-append (test6 c ∷ test7 c ∷ test8 c ∷ []) (test9 c ∷ test10 c ∷ []))
+      (firstMet-append (test6 c ∷ test7 c ∷ test8 c ∷ []) (test9 c ∷ test10 c ∷ []))
 
   module _ (m n : ℕ) (separation budget offset : List ℕ) (e : setFrom m n separation budget offset ≡ c .tasks) where
     pub fields-tests : fieldsTest (row separation) (row budget) (row offset) n ≡ firstMet (test6 c ∷ test7 c ∷ test8 c ∷ [])

@@ -54,19 +54,21 @@ add-result : tie.Need-add-result
 add-result c =
     let s = c .before .before .before .before in
     let g = c .before .before .before .weigh .ensures in
-    omega
-    ( arith
-    , c .largest-sum .ensures .total
-    , chosen-sum _ _ _ (s .pre .0 .sixteen) g (count (members (s .args .chosen .now)) (s .args .tasks))
-    , high _ _ _ (s .pre .0 .sixteen) g (count (members (s .args .chosen .now)) (s .args .tasks)))
+    omega (
+      arith,
+      c .largest-sum .ensures .total,
+      chosen-sum _ _ _ (s .pre .0 .sixteen) g (count (members (s .args .chosen .now)) (s .args .tasks)),
+      high _ _ _ (s .pre .0 .sixteen) g (count (members (s .args .chosen .now)) (s .args .tasks)),
+    )
 
 -- src/amount.rt:43:1
 returns : tie.Need-returns
 returns c =
-    let s = c .before .before .before .before in
-    ( ap (λ (v : ℕ). v + s .args .surplus)
-      (c .largest-sum .ensures .total ∙ chosen-sum _ _ _ (s .pre .0 .sixteen) (c .before .before .before .weigh .ensures) _)
-    , c .largest-sum .ensures .many)
+    let s = c .before .before .before .before in (
+      ap (λ (v : ℕ). v + s .args .surplus)
+          (c .largest-sum .ensures .total ∙ chosen-sum _ _ _ (s .pre .0 .sixteen) (c .before .before .before .weigh .ensures) _),
+      c .largest-sum .ensures .many,
+    )
 
 pub amount-spec : {M : Type 1} → statement M
 amount-spec = tie.close (tie.spec weigh-requires largest-sum-requires add-result returns)

@@ -103,10 +103,11 @@ loop-again c =
     let l = c .before .before .before .before .before .before .loop in
     let v = c .before .before .wide .result + c .wide2 .result in
     let w = weightRow (s .args .share .now) (s .args .offset .now) (s .args .slack .now) in
-    let e : getD (s .args .share .now) (l .i) 0 * v ≡ w (l .i) = rw (c .wide2 .ensures .0, c .before .before .wide .ensures .0) in
-    ( omega arith
-    , rw e (column-more (l .weight) w (l .i) (omega arith) (l .inv .1))
-    , below-more _ (l .i) (l .inv .2) (rw e at (high _ v (s .pre .million (l .i) (omega arith)) (omega arith))))
+    let e : getD (s .args .share .now) (l .i) 0 * v ≡ w (l .i) = rw (c .wide2 .ensures .0, c .before .before .wide .ensures .0) in (
+      omega arith,
+      rw e (column-more (l .weight) w (l .i) (omega arith) (l .inv .1)),
+      below-more _ (l .i) (l .inv .2) (rw e at (high _ v (s .pre .million (l .i) (omega arith)) (omega arith))),
+    )
 
 -- src/amount.rt:15:1
 returns : tie.Need-returns Inv-loop μ-loop
