@@ -1,8 +1,10 @@
 -- What settles a plan's slack, from what the stages have worked out.
 --     frame-passed, ranges-passed    what 3 to 8 leave
 --     settling-of                    the rates and columns of a task set past 3 to 10
+--     cores-low … amounts            what ties the arrays to a task set keeps every number small
 --     amount-row                     the amount that the code works out is A
 --     uncovered-test                 the code's test of one task is the condition's
+--     offered-refused, offered-passed, offered-slack    12 of offered slack
 --     row-of-filled                  an array that is filled up to n, as a row
 use Prim.Native.Nat.{ℕ, _+_, _*_, _-_, _≤_, _<_}
 use mathlib.Core.Path.{_≡_, refl, sym, _∙_, ap, ap₂, fun-ext}
@@ -11,6 +13,8 @@ use mathlib.Core.List.{List, [], _∷_}
 use native.Mathlib.Omega.{arith}
 use lib.Dec.{ltb, leb}
 use borrow.Author.Tests.{lt-ltb, le-ltb, leb-true, leb-false, ltb-false}
+use Rattle.laws.specs.First.{first}
+use Rattle.laws.specs.FirstLaws.{first-ext, first-le}
 use Rattle.laws.specs.Sum.{sum, sumOver}
 use Rattle.laws.specs.SumLaws.{sumOver-ext}
 use Rattle.laws.specs.Rank.{largest}
@@ -18,17 +22,20 @@ use Rattle.laws.specs.LargestLaws.{largest-ext, largest-below}
 use Rattle.laws.specs.Tab.{tab, cut}
 use Rattle.laws.specs.TabLaws.{getD-cut}
 use Rattle.tasks.specs.declared.Answer.{Answer}
-use Rattle.tasks.specs.declared.Answer.the-variants.{Accepted}
+use Rattle.tasks.specs.declared.Answer.the-variants.{Accepted, Refused}
 use Rattle.tasks.specs.TaskSet.{TaskSet, hyperperiod, share, surplus, weight, counted, amount, cover, covers, row}
 use Rattle.tasks.specs.Limits.{Limits}
+use Rattle.tasks.specs.ShareLaws.{share-high, surpluses-high, hyperperiod-low}
+use Rattle.tasks.specs.AmountLaws.{amount-high}
+use Rattle.tasks.specs.RisingLaws.{Rising, rising-high}
 use Rattle.tasks.specs.Tests.{refuse, lowest, firstMet, outside}
-use Rattle.tasks.specs.AnswerLaws.{refuse-passed, lowest-passed, firstMet-passed, outside-passed}
+use Rattle.tasks.specs.AnswerLaws.{refuse-passed, lowest-passed, lowest-found, lowest-none, firstMet-passed, outside-passed}
 use Rattle.analysis.specs.declared.rates.Rates.{Rates}
 use Rattle.analysis.specs.Columns.{setFrom}
 use Rattle.analysis.specs.Stages.{frameTest, fieldsTest}
 use Rattle.analysis.specs.Rates.{Ranges, Figures}
 use Rattle.analysis.specs.RatesLaws.{row-filled}
-use Rattle.analysis.specs.Weights.{weightRow}
+use Rattle.analysis.specs.Weights.{weightRow, Few}
 use Rattle.analysis.specs.Settling.{uncovered, Settling}
 
 pub record Framed (m n : ℕ) : Type 0 where
@@ -97,6 +104,40 @@ unfolding row
 row-of-filled n f h = fun-ext (λ i. getD-cut n 16 f 0 h i)
 
 module _ (s : TaskSet) (shares budgets offsets : List ℕ) (h surpluses m n : ℕ) (g : Settling s shares budgets offsets h surpluses m n) where
+  -- every number is small
+  pub cores-low : 2 ≤ m
+  cores-low = omega (arith, g .cores, g .limits .cores-low)
+
+  pub cores-high : m ≤ 8
+  cores-high = omega (arith, g .cores, g .limits .cores-high)
+
+  pub more : m < n
+  more = omega (arith, g .cores, g .tasks, g .limits .more-tasks)
+
+  pub tasks-high : n ≤ 16
+  tasks-high = omega (arith, g .tasks, g .limits .tasks-high)
+
+  pub multiple-low : 1 ≤ h
+  multiple-low = omega (arith, g .multiple, hyperperiod-low s)
+
+  pub multiple-high : h ≤ 1000000
+  multiple-high = omega (arith, g .multiple, g .limits .multiple-high)
+
+  pub few : Few shares n
+  few =
+      record {
+        sixteen = tasks-high;
+        million = λ i k.
+            let t : i < s .count = omega (arith, g .tasks) in
+            rw (g .share i t) (share-high s (g .limits) i t);
+      }
+
+  pub surplus-high : surpluses < 1000000000000000000
+  surplus-high = omega (arith, g .surplus, surpluses-high s (g .limits) (s .count) (omega arith))
+
+  pub amounts : (x : List ℕ) → Rising s (row x) → amount s (row x) ≤ 40000000000000000
+  amounts x z = amount-high s (g .limits) (row x) (λ i t. omega (arith, rising-high s (g .limits) (row x) z i t))
+
   weight-row : (x : List ℕ) (i : ℕ) → i < s .count → weightRow shares offsets x i ≡ weight s (row x) i
   unfolding weightRow weight
   weight-row x i l = rw (g .share i l, g .offset i l)
@@ -119,3 +160,23 @@ module _ (s : TaskSet) (shares budgets offsets : List ℕ) (h surpluses m n : �
   uncovered-test x a k e l =
       rw (g .cores, g .multiple, g .budget k l, e)
       (below-not (amount s (row x)) (s .cores * hyperperiod s * row x k + hyperperiod s * s .task k .budget))
+
+  module _ (slack used : List ℕ) (eu : used ≡ tab (cut n (row slack) 0) 16) (a : ℕ) (ea : a ≡ amount s (row used)) (bad : ℕ)
+      (eb : bad ≡ first (uncovered a h m budgets used) n)
+    where
+      used-row : row used ≡ cut (s .count) (row slack) 0
+      used-row = rw (← g .tasks) (ap row eu ∙ row-of-filled n (row slack) tasks-high)
+
+      first-bad : bad ≡ first (λ k. not (covers s (cut (s .count) (row slack) 0) k)) (s .count)
+      first-bad =
+          eb
+          ∙ rw (g .tasks, ← used-row) (first-ext _ _ (s .count) (λ k l. uncovered-test used a k ea l))
+
+      pub offered-refused : bad < n → lowest 12 (λ k. not (covers s (cut (s .count) (row slack) 0) k)) (s .count) ≡ Refused 12 bad
+      offered-refused l = lowest-found 12 _ (s .count) bad (sym first-bad) (omega (arith, g .tasks))
+
+      pub offered-passed : n ≤ bad → lowest 12 (λ k. not (covers s (cut (s .count) (row slack) 0) k)) (s .count) ≡ Accepted
+      offered-passed l = lowest-none 12 _ (s .count) (omega (arith, first-bad, g .tasks, first-le (λ k. not (covers s (cut (s .count) (row slack) 0) k)) (s .count)))
+
+      pub offered-slack : used ≡ tab (cut (s .count) (row slack) 0) 16
+      offered-slack = rw (← g .tasks) eu

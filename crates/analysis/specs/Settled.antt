@@ -4,11 +4,12 @@
 --     taskTests      6 to 12
 --     hadSlack       the slack: offered, or found
 --     Offered        12 of offered slack, and that slack with zeros in unused places
+--     RatesSettle    the answer by 9 to 12, and the slack
 --     TasksSettle    the answer by 6 to 12, and the slack
 --     Settles        the answer by 3 to 12, and the slack where none is met
 use Prim.Native.Nat.{ℕ}
 use mathlib.Core.Path.{_≡_}
-use mathlib.Core.Bool.{cond, not}
+use mathlib.Core.Bool.{cond, not, _||_}
 use mathlib.Core.List.{List, [], _∷_}
 use lib.Dec.{eqb}
 use Rattle.laws.specs.Tab.{tab, cut}
@@ -17,8 +18,9 @@ use Rattle.tasks.specs.declared.Answer.{Answer}
 use Rattle.tasks.specs.declared.Answer.the-variants.{Accepted}
 use Rattle.tasks.specs.TaskSet.{TaskSet, covers, found, row}
 use Rattle.tasks.specs.Content.{Content, contentOf}
-use Rattle.tasks.specs.Tests.{lowest, firstMet, orNext, test6, test7, test8, test9, test10, test11}
+use Rattle.tasks.specs.Tests.{refuse, lowest, firstMet, orNext, test6, test7, test8, test9, test10, test11}
 use Rattle.tasks.specs.LimitsLaws.{limitTests}
+use Rattle.analysis.specs.Rates.{ratesTest}
 use Rattle.analysis.specs.declared.settle.Settled.{Settled}
 
 unfoldable pub offering : Plan → ℕ → Content
@@ -42,6 +44,19 @@ hadSlack c = cond (eqb (c .offers) 0) (row (found (c .tasks))) (c .slack)
 pub record Offered (s : TaskSet) (slack : List ℕ) (r : Settled) : Type 0 where
   pub answer : r .answer ≡ lowest 12 (λ k. not (covers s (cut (s .count) (row slack) 0) k)) (s .count)
   pub had : r .answer ≡ Accepted → r .slack ≡ tab (cut (s .count) (row slack) 0) 16
+
+-- 11, and 12 of offered slack
+unfoldable pub slackTest : TaskSet → List ℕ → ℕ → Answer
+slackTest s slack k =
+    firstMet
+    (refuse 11 (not (eqb k 0 || eqb k (s .count)))
+    ∷ cond (eqb k 0) Accepted (lowest 12 (λ i. not (covers s (cut (s .count) (row slack) 0) i)) (s .count))
+    ∷ [])
+
+-- 9 to 12
+pub record RatesSettle (s : TaskSet) (slack : List ℕ) (k : ℕ) (r : Settled) : Type 0 where
+  pub answer : r .answer ≡ orNext (ratesTest s) (slackTest s slack k)
+  pub had : r .answer ≡ Accepted → r .slack ≡ tab (cond (eqb k 0) (row (found s)) (cut (s .count) (row slack) 0)) 16
 
 -- 6 to 12
 pub record TasksSettle (p : Plan) (k : ℕ) (r : Settled) : Type 0 where

@@ -2,29 +2,33 @@
 --     columns-set       the columns stand for the plan's task set
 --     frame-tests       3, 4 and 5 from the plan's own arrays
 --     limits-split      3 to 10 are the three stages
---     ranges-passed     what the first two stages leave
+--     limits-from       what the three stages leave
+--     stopped, passed-on                           a refusal is passed on, and a passed test leaves the next
+--     slack-none, slack-count, slack-offered       11 and 12 by the slack count
 use Prim.Native.Nat.{ℕ, _+_, _-_, _≤_, _<_}
 use mathlib.Core.Path.{_≡_, refl, sym, _∙_, ap, ap₂, fun-ext}
-use mathlib.Core.Bool.{Bool, true, false, cond, _&&_, _||_}
+use mathlib.Core.Bool.{Bool, true, false, not}
 use mathlib.Core.List.{List, [], _∷_}
 use native.Mathlib.Omega.{arith}
 use lib.Dec.{ltb, leb}
-use borrow.Author.Tests.{lt-ltb, le-ltb, ltb-true, ltb-false}
+use borrow.Author.Tests.{ltb-true, ltb-false, eq-eqb, ne-eqb}
 use Rattle.laws.specs.Tab.{tab, cut}
 use Rattle.laws.specs.TabLaws.{getD-cut, cut-below, cut-above}
 use Rattle.tasks.specs.declared.Task.{Task}
 use Rattle.tasks.specs.declared.Plan.{Plan}
 use Rattle.tasks.specs.declared.Answer.{Answer}
-use Rattle.tasks.specs.declared.Answer.the-variants.{Accepted}
-use Rattle.tasks.specs.TaskSet.{TaskSet, row}
+use Rattle.tasks.specs.declared.Answer.the-variants.{Accepted, Refused}
+use Rattle.tasks.specs.TaskSet.{TaskSet, covers, row}
 use Rattle.tasks.specs.Content.{Content, contentOf, taskOf, noTask}
 use Rattle.tasks.specs.Tests.{badLabel, lowest, firstMet, orNext, test3, test4, test5, test6, test7, test8, test9, test10}
-use Rattle.tasks.specs.AnswerLaws.{lowest-ext, firstMet-append}
+use Rattle.tasks.specs.AnswerLaws.{refuse-passed, lowest-ext, firstMet-append, firstMet-passed}
+use Rattle.tasks.specs.Limits.{Limits}
 use Rattle.tasks.specs.LimitsLaws.{limitTests}
 use Rattle.analysis.specs.Columns.{columnsOf, setFrom}
 use Rattle.analysis.specs.Stages.{frameTest, fieldsTest}
-use Rattle.analysis.specs.Rates.{ratesTest}
-use Rattle.analysis.specs.Settled.{offering}
+use Rattle.analysis.specs.Rates.{Ranges, ratesTest}
+use Rattle.analysis.specs.Settled.{offering, slackTest}
+use Rattle.analysis.specs.SettleLaws.{Framed}
 
 -- a field of a list's tasks, as a column has it
 column : (n : ℕ) (l : List Task) (field : Task → ℕ) → field noTask ≡ 0 → n ≤ 16 → (i : ℕ) →
@@ -84,3 +88,50 @@ module _ (c : Content) where
     pub rates-tests : ratesTest (setFrom m n separation budget offset) ≡ firstMet (test9 c ∷ test10 c ∷ [])
     unfolding ratesTest test9 test10
     rates-tests = rw e
+
+pub limits-from :
+    (m n : ℕ) (separation budget offset : List ℕ) → Framed m n → Ranges (setFrom m n separation budget offset) →
+    ratesTest (setFrom m n separation budget offset) ≡ Accepted → Limits (setFrom m n separation budget offset)
+unfolding ratesTest setFrom
+limits-from m n separation budget offset f g a =
+    let r9 = firstMet-passed _ _ a in
+    let r10 = firstMet-passed _ _ (r9 .1) in
+    record
+    { cores-low = f .cores-low
+    ; cores-high = f .cores-high
+    ; more-tasks = f .more-tasks
+    ; tasks-high = f .tasks-high
+    ; separation-low = g .timed .separation-low
+    ; separation-high = g .separation
+    ; budget-low = g .timed .budget-low
+    ; budget-high = g .timed .budget-high
+    ; offset-high = g .offset
+    ; multiple-high = ltb-false _ _ (refuse-passed 9 _ (r9 .0))
+    ; shares-high = ltb-false _ _ (refuse-passed 10 _ (r10 .0))
+    }
+
+-- a refusal is passed on, and a test that is passed leaves the next ones
+pub stopped : (a b : Answer) (k i : ℕ) → a ≡ Refused k i → orNext a b ≡ a
+stopped a b k i e = rw e
+
+pub passed-on : (a b : Answer) → a ≡ Accepted → orNext a b ≡ b
+passed-on a b e = rw e
+
+module _ (s : TaskSet) (slack : List ℕ) (k : ℕ) where
+  pub slack-none : k ≡ 0 → slackTest s slack k ≡ Accepted
+  unfolding slackTest firstMet
+  slack-none e = rw e
+
+  pub slack-count : (k ≡ 0 → ⊥) → (k ≡ s .count → ⊥) → slackTest s slack k ≡ Refused 11 0
+  unfolding slackTest firstMet
+  slack-count e f = rw (ne-eqb k 0 e, ne-eqb k (s .count) f)
+
+  pub slack-offered :
+      (k ≡ 0 → ⊥) → k ≡ s .count →
+      slackTest s slack k ≡ lowest 12 (λ i. not (covers s (cut (s .count) (row slack) 0) i)) (s .count)
+  unfolding slackTest firstMet
+  slack-offered e f = rw (ne-eqb k 0 e, eq-eqb k (s .count) f) (last _)
+    where
+      last : (a : Answer) → orNext a Accepted ≡ a
+      last Accepted = refl
+      last (Refused k i) = refl

@@ -1,7 +1,171 @@
-// x
+// A plan's tests 3 to 12 and the slack that it has: offered slack is tested, and slack that is not offered is found.
+use crate::amount::amount;
+use crate::amount::first_chosen;
+use crate::columns::split;
+use crate::fields::fields;
+use crate::frame::frame;
+use crate::rates::rate;
+use crate::slack::first_uncovered;
+use crate::slack::search;
 use tasks::Answer;
+use tasks::Plan;
+use tasks::refusal;
+ghost use mathlib.Core.Path.{_≡_};
+ghost use Prim.Native.Nat.{_≤_};
+ghost use Rattle.laws.specs.Tab.{tab, cut};
+ghost use Rattle.tasks.specs.TaskSet.{TaskSet, row};
+ghost use Rattle.analysis.specs.Settling.{Settling};
+ghost use Rattle.analysis.specs.SettleLaws.{Framed};
+ghost use Rattle.analysis.specs.Settled.{Settles, Offered, RatesSettle, TasksSettle};
+ghost use Rattle.analysis.specs.Columns.{setFrom};
+ghost use Rattle.analysis.specs.Rates.{Ranges};
 
+// The answer, and where it is no refusal the slack, offered or found, with zeros in unused places.
 pub struct Settled {
     pub answer: Answer,
     pub slack: [u32; 16],
+}
+
+fn unsettled(answer: Answer) -> Settled
+    ensures { λ r. ⌜ r .answer ≡ answer ⌝ }
+{
+    Settled {
+        answer,
+        slack: [0; 16],
+    }
+}
+
+// The slack of the first `tasks` places, zeros beyond.
+fn kept(slack: &[u32; 16], tasks: usize) -> [u32; 16]
+    requires { ⌜ tasks ≤ 16 ⌝ }
+    ensures { λ r. ⌜ r ≡ tab (cut tasks (row (now (slack .entry))) 0) 16 ⌝ }
+{
+    let mut used = [0u32; 16];
+    let mut i = 0;
+    while i < tasks {
+        used[i] = slack[i];
+        i += 1;
+    }
+    used
+}
+
+// Test 12 of offered slack.
+fn offered(
+    share: &[u64; 16],
+    budget: &[u32; 16],
+    offset: &[u32; 16],
+    slack: &[u32; 16],
+    multiple: u64,
+    surplus: u64,
+    cores: usize,
+    tasks: usize,
+) -> Settled
+    requires { ⌜ ((s : TaskSet) × Settling s (now share) (now budget) (now offset) multiple surplus cores tasks) ⌝ }
+    ensures { λ r. ⌜ ((s : TaskSet) → Settling s (now (share .entry)) (now (budget .entry)) (now (offset .entry)) multiple surplus cores tasks → Offered s (now (slack .entry)) r) ⌝ }
+{
+    let used = kept(slack, tasks);
+    let mut chosen = first_chosen(cores - 1);
+    let whole = amount(share, offset, &used, &mut chosen, surplus, tasks);
+    let bad = first_uncovered(&used, budget, whole, multiple, cores as u64, tasks);
+    if bad < tasks {
+        return unsettled(Answer::Refused {
+            number: refusal::SLACK,
+            index: bad as u16,
+        });
+    }
+    Settled {
+        answer: Answer::Accepted,
+        slack: used,
+    }
+}
+
+// Tests 9 to 12, of a task set that meets none of 3 to 8.
+fn settle_rated(
+    separation: &[u32; 16],
+    budget: &[u32; 16],
+    offset: &[u32; 16],
+    slack: &[u32; 16],
+    cores: usize,
+    tasks: usize,
+    offers: usize,
+) -> Settled
+    requires { ⌜ Framed cores tasks × Ranges (setFrom cores tasks (now separation) (now budget) (now offset)) ⌝ }
+    ensures { λ r. ⌜ RatesSettle (setFrom cores tasks (now (separation .entry)) (now (budget .entry)) (now (offset .entry))) (now (slack .entry)) offers r ⌝ }
+{
+    let rates = rate(separation, budget, offset, cores, tasks);
+    let rated = rates.answer;
+    let Answer::Accepted = rated else {
+        return unsettled(rated);
+    };
+    let share = rates.share;
+    if offers == 0 {
+        let found = search(
+            &share,
+            budget,
+            offset,
+            rates.multiple,
+            rates.surplus,
+            cores,
+            tasks,
+        );
+        return Settled {
+            answer: Answer::Accepted,
+            slack: found,
+        };
+    }
+    if offers != tasks {
+        return unsettled(Answer::Refused {
+            number: refusal::SLACK_COUNT,
+            index: 0,
+        });
+    }
+    offered(
+        &share,
+        budget,
+        offset,
+        slack,
+        rates.multiple,
+        rates.surplus,
+        cores,
+        tasks,
+    )
+}
+
+// Tests 6 to 12.
+fn settle_tasks(plan: Plan, offers: usize) -> Settled
+    requires { ⌜ Framed (plan .cores) (plan .tasks) ⌝ }
+    ensures { λ r. ⌜ TasksSettle plan offers r ⌝ }
+{
+    let tasks = plan.tasks;
+    let task = plan.task;
+    let columns = split(task, tasks);
+    let separation = columns.separation;
+    let budget = columns.budget;
+    let offset = columns.offset;
+    let fielded = fields(&separation, &budget, &offset, tasks);
+    let Answer::Accepted = fielded else {
+        return unsettled(fielded);
+    };
+    let slack = plan.slack;
+    settle_rated(
+        &separation,
+        &budget,
+        &offset,
+        &slack,
+        plan.cores,
+        tasks,
+        offers,
+    )
+}
+
+// Tests 3 to 12, with a slack count of `offers`: a table's count may be wrong, a plan's mark can't.
+pub fn settle(plan: Plan, offers: usize) -> Settled
+    ensures { λ r. ⌜ Settles plan offers r ⌝ }
+{
+    let labels = plan.labels;
+    let framed = frame(plan.cores, &labels, plan.tasks);
+    let Answer::Accepted = framed else {
+        return unsettled(framed);
+    };
+    settle_tasks(plan, offers)
 }

@@ -203,10 +203,10 @@ module _ (s : State) (S : Shaped s) (e : soundOf s ≡ true) where
 -- ---- to a sound state
 
 module _ (p : Plan) (M : Machine) (F : Fit p M) where
-  fit-limits : Limits (contentOf p .tasks)
+  pub fit-limits : Limits (contentOf p .tasks)
   fit-limits = plan-limits p (F .accepted)
 
-  fit-tasks : p .tasks ≤ 16
+  pub fit-tasks : p .tasks ≤ 16
   fit-tasks = omega (arith, fit-limits .tasks-high, in-count p)
 
   pub idle-lane : (i : ℕ) → p .tasks ≤ i → M .lane i ≡ opened .lane i
@@ -221,7 +221,7 @@ module _ (p : Plan) (M : Machine) (F : Fit p M) where
   pub shaped : Shaped (stateOf p M)
   shaped = shaped-state p M (tidied-shaped p (F .tidied))
 
-  known-lane : (i : ℕ) → i < p .tasks → SoundLane (taskOf (p .task) i .separation) (taskOf (p .task) i .budget) (M .clock) (M .lane i)
+  pub known-lane : (i : ℕ) → i < p .tasks → SoundLane (taskOf (p .task) i .separation) (taskOf (p .task) i .budget) (M .clock) (M .lane i)
   known-lane i h = rw (in-task p i h) at (F .sound .lanes i (omega (arith, in-count p)))
 
   no-jobs : (i : ℕ) → p .tasks ≤ i → length (M .lane i .queue) ≡ 0

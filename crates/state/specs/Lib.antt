@@ -8,3 +8,12 @@ pub mod QueueLaws
 pub mod TidyLaws
 pub mod FitLaws
 pub mod KeptLaws
+pub mod AdmitLaws
+pub mod Serve
+pub mod ServeLaws
+pub mod Pick
+pub mod PickLaws
+pub mod RankPickLaws
+pub mod TickLaws
+pub mod TurnLaws
+pub mod MoveLaws

@@ -3,7 +3,6 @@ use lib.ListN.{List·getD-eq-default}
 use native.Mathlib.Nat.{le-trans, div-le-self, mod-lt, mod-le}
 use borrow.Author.Tests.{ltb-true, ltb-false}
 use lib.Dec.{ltb}
-use Rattle.analysis.specs.Weights.{Few}
 use Rattle.analysis.specs.Settling.{lifted, upto}
 use mathlib.Core.Bool.{Bool, true, false}
 use mathlib.Core.List.{List}
@@ -13,11 +12,9 @@ use Rattle.laws.specs.Sum.{sum, count}
 use Rattle.laws.specs.Tab.{tab, cut}
 use Rattle.largest.specs.Passes.{members}
 use Rattle.tasks.specs.TaskSet.{TaskSet, amount, found, row}
-use Rattle.tasks.specs.AmountLaws.{amount-high}
-use Rattle.tasks.specs.ShareLaws.{share-high, surpluses-high, hyperperiod-low}
-use Rattle.tasks.specs.RisingLaws.{Rising, rising-start, rising-high}
+use Rattle.tasks.specs.RisingLaws.{Rising, rising-start}
 use Rattle.analysis.specs.Settling.{Settling}
-use Rattle.analysis.specs.SettleLaws.{amount-row}
+use Rattle.analysis.specs.SettleLaws.{cores-low, cores-high, more, tasks-high, multiple-low, multiple-high, few, surplus-high, amounts, amount-row}
 use Rattle.analysis.specs.SearchLaws.{chosen-first, turn-need, turn-rising, turn-length, turn-past, turn-over, turn-less}
 use borrow.Author.Needs.{needs}
 use native.Mathlib.Omega.{arith}
@@ -35,41 +32,6 @@ use Rattle.analysis.proofs.amount.first_chosen.Reads as first-chosen-re
 use Rattle.analysis.proofs.slack.quotients.Reads as quotients-reads
 use Rattle.analysis.proofs.slack.raise.Reads as raise-reads
 use Rattle.analysis.proofs.slack.remainders.Reads as remainders-reads
-
--- what ties the arrays to a task set keeps every number small
-module _ (s : TaskSet) (shares budgets offsets : List ℕ) (h surpluses m n : ℕ) (g : Settling s shares budgets offsets h surpluses m n) where
-  cores-low : 2 ≤ m
-  cores-low = omega (arith, g .cores, g .limits .cores-low)
-
-  cores-high : m ≤ 8
-  cores-high = omega (arith, g .cores, g .limits .cores-high)
-
-  more : m < n
-  more = omega (arith, g .cores, g .tasks, g .limits .more-tasks)
-
-  tasks-high : n ≤ 16
-  tasks-high = omega (arith, g .tasks, g .limits .tasks-high)
-
-  multiple-low : 1 ≤ h
-  multiple-low = omega (arith, g .multiple, hyperperiod-low s)
-
-  multiple-high : h ≤ 1000000
-  multiple-high = omega (arith, g .multiple, g .limits .multiple-high)
-
-  few : Few shares n
-  few =
-      record {
-        sixteen = tasks-high;
-        million = λ i k.
-            let t : i < s .count = omega (arith, g .tasks) in
-            rw (g .share i t) (share-high s (g .limits) i t);
-      }
-
-  surplus-high : surpluses < 1000000000000000000
-  surplus-high = omega (arith, g .surplus, surpluses-high s (g .limits) (s .count) (omega arith))
-
-  amounts : (x : List ℕ) → Rising s (row x) → amount s (row x) ≤ 40000000000000000
-  amounts x z = amount-high s (g .limits) (row x) (λ i t. omega (arith, rising-high s (g .limits) (row x) z i t))
 
 zeros : (k : ℕ) → row (replicate 16 0) k ≡ 0
 unfolding row
