@@ -12,3 +12,5 @@ pub mod Settled
 pub mod SettledLaws
 pub mod SettleLaws
 pub mod SearchLaws
+pub mod PlanTest
+pub mod PlanTestLaws

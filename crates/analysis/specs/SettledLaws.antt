@@ -4,13 +4,14 @@
 --     limits-split      3 to 10 are the three stages
 --     limits-from       what the three stages leave
 --     stopped, passed-on                           a refusal is passed on, and a passed test leaves the next
+--     slack-tests, slack-had                       11 and 12 of a plan, and the slack that it has
 --     slack-none, slack-count, slack-offered       11 and 12 by the slack count
 use Prim.Native.Nat.{ℕ, _+_, _-_, _≤_, _<_}
 use mathlib.Core.Path.{_≡_, refl, sym, _∙_, ap, ap₂, fun-ext}
-use mathlib.Core.Bool.{Bool, true, false, not}
+use mathlib.Core.Bool.{Bool, true, false, cond, not}
 use mathlib.Core.List.{List, [], _∷_}
 use native.Mathlib.Omega.{arith}
-use lib.Dec.{ltb, leb}
+use lib.Dec.{ltb, eqb}
 use borrow.Author.Tests.{ltb-true, ltb-false, eq-eqb, ne-eqb}
 use Rattle.laws.specs.Tab.{tab, cut}
 use Rattle.laws.specs.TabLaws.{getD-cut, cut-below, cut-above}
@@ -18,16 +19,16 @@ use Rattle.tasks.specs.declared.Task.{Task}
 use Rattle.tasks.specs.declared.Plan.{Plan}
 use Rattle.tasks.specs.declared.Answer.{Answer}
 use Rattle.tasks.specs.declared.Answer.the-variants.{Accepted, Refused}
-use Rattle.tasks.specs.TaskSet.{TaskSet, covers, row}
+use Rattle.tasks.specs.TaskSet.{TaskSet, covers, found, row}
 use Rattle.tasks.specs.Content.{Content, contentOf, taskOf, noTask}
-use Rattle.tasks.specs.Tests.{badLabel, lowest, firstMet, orNext, test3, test4, test5, test6, test7, test8, test9, test10}
+use Rattle.tasks.specs.Tests.{badLabel, lowest, firstMet, orNext, test3, test4, test5, test6, test7, test8, test9, test10, test11}
 use Rattle.tasks.specs.AnswerLaws.{refuse-passed, lowest-ext, firstMet-append, firstMet-passed}
 use Rattle.tasks.specs.Limits.{Limits}
 use Rattle.tasks.specs.LimitsLaws.{limitTests}
 use Rattle.analysis.specs.Columns.{columnsOf, setFrom}
 use Rattle.analysis.specs.Stages.{frameTest, fieldsTest}
 use Rattle.analysis.specs.Rates.{Ranges, ratesTest}
-use Rattle.analysis.specs.Settled.{offering, slackTest}
+use Rattle.analysis.specs.Settled.{offering, slackTest, offeredTest, hadSlack}
 use Rattle.analysis.specs.SettleLaws.{Framed}
 
 -- a field of a list's tasks, as a column has it
@@ -96,18 +97,18 @@ unfolding ratesTest setFrom
 limits-from m n separation budget offset f g a =
     let r9 = firstMet-passed _ _ a in
     let r10 = firstMet-passed _ _ (r9 .1) in
-    record
-    { cores-low = f .cores-low
-    ; cores-high = f .cores-high
-    ; more-tasks = f .more-tasks
-    ; tasks-high = f .tasks-high
-    ; separation-low = g .timed .separation-low
-    ; separation-high = g .separation
-    ; budget-low = g .timed .budget-low
-    ; budget-high = g .timed .budget-high
-    ; offset-high = g .offset
-    ; multiple-high = ltb-false _ _ (refuse-passed 9 _ (r9 .0))
-    ; shares-high = ltb-false _ _ (refuse-passed 10 _ (r10 .0))
+    record {
+      cores-low = f .cores-low;
+      cores-high = f .cores-high;
+      more-tasks = f .more-tasks;
+      tasks-high = f .tasks-high;
+      separation-low = g .timed .separation-low;
+      separation-high = g .separation;
+      budget-low = g .timed .budget-low;
+      budget-high = g .timed .budget-high;
+      offset-high = g .offset;
+      multiple-high = ltb-false _ _ (refuse-passed 9 _ (r9 .0));
+      shares-high = ltb-false _ _ (refuse-passed 10 _ (r10 .0));
     }
 
 -- a refusal is passed on, and a test that is passed leaves the next ones
@@ -135,3 +136,13 @@ module _ (s : TaskSet) (slack : List ℕ) (k : ℕ) where
       last : (a : Answer) → orNext a Accepted ≡ a
       last Accepted = refl
       last (Refused k i) = refl
+
+-- the last stage of a plan whose task set the columns stand for
+module _ (p : Plan) (k : ℕ) (s : TaskSet) (e : s ≡ contentOf p .tasks) where
+  pub slack-tests : slackTest s (p .slack) k ≡ firstMet (test11 (offering p k) ∷ offeredTest (offering p k) ∷ [])
+  unfolding slackTest test11 offeredTest offering contentOf
+  slack-tests = rw e
+
+  pub slack-had : (i : ℕ) → cond (eqb k 0) (row (found s)) (cut (s .count) (row (p .slack)) 0) i ≡ hadSlack (offering p k) i
+  unfolding hadSlack offering contentOf
+  slack-had i = rw e

@@ -4,6 +4,11 @@ mod bounds;
 mod columns;
 mod fields;
 mod frame;
+mod plan_test;
 mod rates;
-mod settle;
+pub mod settle;
 mod slack;
+
+pub use plan_test::plan_bounds;
+pub use plan_test::slack_count;
+pub use plan_test::test;

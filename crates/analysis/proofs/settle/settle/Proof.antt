@@ -1,3 +1,19 @@
+use mathlib.Core.Path.{_≡_, sym, _∙_, ap}
+use mathlib.Core.List.{[], _∷_}
+use Prim.Native.Nat.{ℕ}
+use Rattle.tasks.specs.declared.Plan.{Plan}
+use Rattle.tasks.specs.declared.Answer.{Answer}
+use Rattle.tasks.specs.declared.Answer.the-variants.{Accepted, Refused}
+use Rattle.tasks.specs.TaskSet.{row}
+use Rattle.tasks.specs.Tests.{firstMet, orNext, test3, test4, test5, test6, test7, test8, test9, test10, test11}
+use Rattle.tasks.specs.AnswerLaws.{orNext-assoc}
+use Rattle.tasks.specs.LimitsLaws.{limitTests}
+use Rattle.analysis.specs.declared.settle.Settled.{Settled}
+use Rattle.analysis.specs.Stages.{frameTest}
+use Rattle.analysis.specs.SettleLaws.{Framed, frame-passed}
+use Rattle.analysis.specs.Settled.{offering, offeredTest, taskTests, TasksSettle, Settles}
+use Rattle.analysis.specs.SettledLaws.{frame-tests, limits-split, stopped, passed-on}
+use Rattle.analysis.specs.StageLaws.{not-both}
 use native.Mathlib.Omega.{arith}
 use native.Mathlib.Numerals.{add-one}
 use Prim.Native.Nat.{ℕ, _≤_, _<_, _+_, _*_, _-_}
@@ -12,6 +28,36 @@ use Rattle.analysis.proofs.settle.settle.Lts as lts
 use Rattle.analysis.proofs.frame.frame.Reads as frame-reads
 use Rattle.analysis.proofs.settle.settle_tasks.Reads as settle-tasks-reads
 use Rattle.analysis.proofs.settle.unsettled.Reads as unsettled-reads
+
+regroup : (a b c d : Answer) → orNext (orNext a (orNext b c)) d ≡ orNext a (orNext b (orNext c d))
+regroup a b c d = orNext-assoc a (orNext b c) d ∙ ap (orNext a) (orNext-assoc b c d)
+
+module _ (p : Plan) (k : ℕ) (a : Answer) (ea : a ≡ frameTest (p .cores) (row (p .labels)) (p .tasks)) where
+  framed : a ≡ firstMet (test3 (offering p k) ∷ test4 (offering p k) ∷ test5 (offering p k) ∷ [])
+  framed = ea ∙ frame-tests p k
+
+  -- 3 to 12 are 3 to 5, and then 6 to 12
+  joined :
+      orNext (limitTests (offering p k)) (firstMet (test11 (offering p k) ∷ offeredTest (offering p k) ∷ []))
+      ≡ orNext (firstMet (test3 (offering p k) ∷ test4 (offering p k) ∷ test5 (offering p k) ∷ [])) (taskTests (offering p k))
+  unfolding taskTests
+  joined =
+      ap (λ (b : Answer). orNext b (firstMet (test11 (offering p k) ∷ offeredTest (offering p k) ∷ []))) (limits-split (offering p k))
+      ∙ regroup
+      (firstMet (test3 (offering p k) ∷ test4 (offering p k) ∷ test5 (offering p k) ∷ []))
+      (firstMet (test6 (offering p k) ∷ test7 (offering p k) ∷ test8 (offering p k) ∷ []))
+      (firstMet (test9 (offering p k) ∷ test10 (offering p k) ∷ []))
+      (firstMet (test11 (offering p k) ∷ offeredTest (offering p k) ∷ []))
+
+  refused : (t : Settled) (j i : ℕ) → a ≡ Refused j i → t .answer ≡ a → Settles p k t
+  refused t j i e u =
+      record {
+        answer = u ∙ framed ∙ sym (stopped _ _ j i (sym framed ∙ e)) ∙ sym joined;
+        slack = λ w. absurd (not-both _ j i (u ∙ e) w);
+      }
+
+  settled : (t : Settled) → a ≡ Accepted → TasksSettle p k t → Settles p k t
+  settled t e g = record { answer = g .answer ∙ sym (passed-on _ _ (sym framed ∙ e)) ∙ sym joined; slack = g .slack }
 
 -- src/settle.rt:166:9
 frame-requires : tie.Need-frame-requires
@@ -30,15 +76,19 @@ unsettled-requires c κs = search needs
 
 -- src/settle.rt:168:9
 returns : tie.Need-returns
-returns c = search needs
+returns c =
+    let s = c .before .before .before .before .before .before in
+    refused (s .args .plan) (s .args .offers) _ (c .before .before .before .frame .ensures) _ _ _ (c .before .enum-told2 .given .1) (c .unsettled .ensures)
 
 -- src/settle.rt:170:5
 settle-tasks-requires : tie.Need-settle-tasks-requires
-settle-tasks-requires c κs = search needs
+settle-tasks-requires c κs = frame-passed _ _ _ (sym (c .before .before .frame .ensures) ∙ c .enum-told .given .1)
 
 -- src/settle.rt:162:1
 returns-2 : tie.Need-returns-2
-returns-2 c = search needs
+returns-2 c =
+    let s = c .before .before .before .before .before .before in
+    settled (s .args .plan) (s .args .offers) _ (c .before .before .before .frame .ensures) _ (c .before .enum-told .given .1) (c .settle-tasks .ensures)
 
 pub settle-spec : {M : Type 1} → statement M
 settle-spec =

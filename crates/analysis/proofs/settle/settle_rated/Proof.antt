@@ -36,48 +36,48 @@ use Rattle.analysis.proofs.slack.search.Reads as search-reads
 module _ (m n : ℕ) (separation budget offset slack : List ℕ) (k : ℕ) (f : Framed m n) (g : Ranges (setFrom m n separation budget offset))
     (r : Rates) (e : Rated (setFrom m n separation budget offset) r)
   where
-  tied : r .answer ≡ Accepted → Settling (setFrom m n separation budget offset) (r .share) budget offset (r .multiple) (r .surplus) m n
-  tied a =
-      settling-of m n separation budget offset r (f .tasks-high) (limits-from m n separation budget offset f g (sym (e .answer) ∙ a)) (e .figures a)
+    tied : r .answer ≡ Accepted → Settling (setFrom m n separation budget offset) (r .share) budget offset (r .multiple) (r .surplus) m n
+    tied a =
+        settling-of m n separation budget offset r (f .tasks-high) (limits-from m n separation budget offset f g (sym (e .answer) ∙ a)) (e .figures a)
 
-  refused : (a : Answer) (t : Settled) (j i : ℕ) → a ≡ r .answer → a ≡ Refused j i → t .answer ≡ a → RatesSettle (setFrom m n separation budget offset) slack k t
-  refused a t j i o v u =
-      record
-      { answer = u ∙ o ∙ e .answer ∙ sym (stopped (ratesTest (setFrom m n separation budget offset)) _ j i (sym (e .answer) ∙ sym o ∙ v))
-      ; had = λ w. absurd (not-both _ j i (u ∙ v) w)
-      }
+    refused : (a : Answer) (t : Settled) (j i : ℕ) → a ≡ r .answer → a ≡ Refused j i → t .answer ≡ a → RatesSettle (setFrom m n separation budget offset) slack k t
+    refused a t j i o v u =
+        record {
+          answer = u ∙ o ∙ e .answer ∙ sym (stopped (ratesTest (setFrom m n separation budget offset)) _ j i (sym (e .answer) ∙ sym o ∙ v));
+          had = λ w. absurd (not-both _ j i (u ∙ v) w);
+        }
 
-  passed : r .answer ≡ Accepted → orNext (ratesTest (setFrom m n separation budget offset)) (slackTest (setFrom m n separation budget offset) slack k) ≡ slackTest (setFrom m n separation budget offset) slack k
-  passed a = passed-on (ratesTest (setFrom m n separation budget offset)) _ (sym (e .answer) ∙ a)
+    passed : r .answer ≡ Accepted → orNext (ratesTest (setFrom m n separation budget offset)) (slackTest (setFrom m n separation budget offset) slack k) ≡ slackTest (setFrom m n separation budget offset) slack k
+    passed a = passed-on (ratesTest (setFrom m n separation budget offset)) _ (sym (e .answer) ∙ a)
 
-  found-slack :
-      (x : List ℕ) → r .answer ≡ Accepted → k ≡ 0 → x ≡ tab (row (found (setFrom m n separation budget offset))) 16 →
-      RatesSettle (setFrom m n separation budget offset) slack k (record { answer = Accepted; slack = x })
-  found-slack x a z q =
-      record
-      { answer = sym (passed a ∙ slack-none (setFrom m n separation budget offset) slack k z)
-      ; had = λ _. rw z q
-      }
+    found-slack :
+        (x : List ℕ) → r .answer ≡ Accepted → k ≡ 0 → x ≡ tab (row (found (setFrom m n separation budget offset))) 16 →
+        RatesSettle (setFrom m n separation budget offset) slack k (record { answer = Accepted; slack = x })
+    found-slack x a z q =
+        record {
+          answer = sym (passed a ∙ slack-none (setFrom m n separation budget offset) slack k z);
+          had = λ _. rw z q;
+        }
 
-  wrong-count :
-      (t : Settled) → r .answer ≡ Accepted → (k ≡ 0 → ⊥) → (k ≡ n → ⊥) → t .answer ≡ Refused 11 0 →
-      RatesSettle (setFrom m n separation budget offset) slack k t
-  unfolding setFrom
-  wrong-count t a z w u =
-      record
-      { answer = u ∙ sym (passed a ∙ slack-count (setFrom m n separation budget offset) slack k z w)
-      ; had = λ v. absurd (not-both _ 11 0 u v)
-      }
+    wrong-count :
+        (t : Settled) → r .answer ≡ Accepted → (k ≡ 0 → ⊥) → (k ≡ n → ⊥) → t .answer ≡ Refused 11 0 →
+        RatesSettle (setFrom m n separation budget offset) slack k t
+    unfolding setFrom
+    wrong-count t a z w u =
+        record {
+          answer = u ∙ sym (passed a ∙ slack-count (setFrom m n separation budget offset) slack k z w);
+          had = λ v. absurd (not-both _ 11 0 u v);
+        }
 
-  offered-slack :
-      (t : Settled) → r .answer ≡ Accepted → (k ≡ 0 → ⊥) → k ≡ n → Offered (setFrom m n separation budget offset) slack t →
-      RatesSettle (setFrom m n separation budget offset) slack k t
-  unfolding setFrom
-  offered-slack t a z w o =
-      record
-      { answer = o .answer ∙ sym (passed a ∙ slack-offered (setFrom m n separation budget offset) slack k z w)
-      ; had = λ v. rw (ne-eqb k 0 z) (o .had v)
-      }
+    offered-slack :
+        (t : Settled) → r .answer ≡ Accepted → (k ≡ 0 → ⊥) → k ≡ n → Offered (setFrom m n separation budget offset) slack t →
+        RatesSettle (setFrom m n separation budget offset) slack k t
+    unfolding setFrom
+    offered-slack t a z w o =
+        record {
+          answer = o .answer ∙ sym (passed a ∙ slack-offered (setFrom m n separation budget offset) slack k z w);
+          had = λ v. rw (ne-eqb k 0 z) (o .had v);
+        }
 
 -- src/settle.rt:95:9
 rate-requires : tie.Need-rate-requires

@@ -1,7 +1,24 @@
+use mathlib.Core.List.{List, [], _∷_}
+use Rattle.laws.specs.TabLaws.{tab-ext}
+use Rattle.tasks.specs.declared.Plan.{Plan}
+use Rattle.tasks.specs.declared.Answer.{Answer}
+use Rattle.tasks.specs.declared.Answer.the-variants.{Accepted, Refused}
+use Rattle.tasks.specs.TaskSet.{row}
+use Rattle.tasks.specs.Content.{contentOf}
+use Rattle.tasks.specs.Tests.{firstMet, orNext, test6, test7, test8}
+use Rattle.analysis.specs.declared.columns.Columns.{Columns}
+use Rattle.analysis.specs.declared.settle.Settled.{Settled}
+use Rattle.analysis.specs.Columns.{columnsOf, setFrom}
+use Rattle.analysis.specs.Stages.{fieldsTest}
+use Rattle.analysis.specs.Rates.{Ranges}
+use Rattle.analysis.specs.SettleLaws.{Framed, ranges-passed}
+use Rattle.analysis.specs.Settled.{offering, taskTests, RatesSettle, TasksSettle}
+use Rattle.analysis.specs.SettledLaws.{columns-set, fields-tests, rates-tests, stopped, passed-on, slack-tests, slack-had}
+use Rattle.analysis.specs.StageLaws.{not-both}
 use native.Mathlib.Omega.{arith}
 use native.Mathlib.Numerals.{add-one}
 use Prim.Native.Nat.{ℕ, _≤_, _<_, _+_, _*_, _-_}
-use mathlib.Core.Path.{_≡_, refl, ap, sym, _∙_}
+use mathlib.Core.Path.{_≡_, refl, ap, ap₂, sym, _∙_}
 use mathlib.Core.Logic.{⊎-elim}
 use lib.ListN.{length, getD, set, length-set}
 use borrow.Author.Needs.{needs}
@@ -13,6 +30,38 @@ use Rattle.analysis.proofs.columns.split.Reads as split-reads
 use Rattle.analysis.proofs.fields.fields.Reads as fields-reads
 use Rattle.analysis.proofs.settle.settle_rated.Reads as settle-rated-reads
 use Rattle.analysis.proofs.settle.unsettled.Reads as unsettled-reads
+
+module _ (p : Plan) (k : ℕ) (f : Framed (p .cores) (p .tasks)) (l : Columns) (el : l ≡ columnsOf (p .tasks) (p .task)) (a : Answer)
+    (ea : a ≡ fieldsTest (row (l .separation)) (row (l .budget)) (row (l .offset)) (p .tasks))
+  where
+    stands : setFrom (p .cores) (p .tasks) (l .separation) (l .budget) (l .offset) ≡ offering p k .tasks
+    unfolding offering
+    stands = rw el (columns-set p (f .tasks-high))
+
+    fielded : a ≡ firstMet (test6 (offering p k) ∷ test7 (offering p k) ∷ test8 (offering p k) ∷ [])
+    fielded = ea ∙ fields-tests (offering p k) (p .cores) (p .tasks) (l .separation) (l .budget) (l .offset) stands
+
+    ranges : a ≡ Accepted → Ranges (setFrom (p .cores) (p .tasks) (l .separation) (l .budget) (l .offset))
+    ranges e = ranges-passed (p .cores) (p .tasks) (l .separation) (l .budget) (l .offset) f (sym ea ∙ e)
+
+    refused : (t : Settled) (j i : ℕ) → a ≡ Refused j i → t .answer ≡ a → TasksSettle p k t
+    unfolding taskTests
+    refused t j i e u =
+        record {
+          answer = u ∙ fielded ∙ sym (stopped _ _ j i (sym fielded ∙ e));
+          slack = λ w. absurd (not-both _ j i (u ∙ e) w);
+        }
+
+    settled : (t : Settled) → a ≡ Accepted → RatesSettle (setFrom (p .cores) (p .tasks) (l .separation) (l .budget) (l .offset)) (p .slack) k t → TasksSettle p k t
+    unfolding taskTests offering
+    settled t e g =
+        record {
+          answer =
+              g .answer
+              ∙ ap₂ orNext (rates-tests (offering p k) (p .cores) (p .tasks) (l .separation) (l .budget) (l .offset) stands) (slack-tests p k _ stands)
+              ∙ sym (passed-on _ _ (sym fielded ∙ e));
+          slack = λ w. g .had w ∙ tab-ext _ _ 16 (λ i h. slack-had p k _ stands i);
+        }
 
 -- src/settle.rt:141:9
 split-requires : tie.Need-split-requires
@@ -35,15 +84,21 @@ unsettled-requires c κs = search needs
 
 -- src/settle.rt:147:9
 returns : tie.Need-returns
-returns c = search needs
+returns c =
+    let s = c .before .before .before .before .before .before .before .before .before .before .before .before in
+    refused (s .args .plan) (s .args .offers) (s .pre) _ (c .before .before .before .before .before .before .before .before .before .before .split .ensures) _ (c .before .before .before .fields .ensures) _ _ _ (c .before .enum-told2 .given .1) (c .unsettled .ensures)
 
 -- src/settle.rt:150:5
 settle-rated-requires : tie.Need-settle-rated-requires
-settle-rated-requires c κs = search needs
+settle-rated-requires c κs =
+    let s = c .before .before .before .before .before .before .before .before .before .before .before .before .before .before .before .before in
+    (s .pre, ranges (s .args .plan) (s .args .offers) (s .pre) _ (c .before .before .before .before .before .before .before .before .before .before .before .before .before .before .split .ensures) _ (c .before .before .before .before .before .before .before .fields .ensures) (c .before .before .before .before .before .enum-told .given .1))
 
 -- src/settle.rt:135:1
 returns-2 : tie.Need-returns-2
-returns-2 c = search needs
+returns-2 c =
+    let s = c .before .before .before .before .before .before .before .before .before .before .before .before .before .before .before .before .before in
+    settled (s .args .plan) (s .args .offers) (s .pre) _ (c .before .before .before .before .before .before .before .before .before .before .before .before .before .before .before .split .ensures) _ (c .before .before .before .before .before .before .before .before .fields .ensures) _ (c .before .before .before .before .before .before .enum-told .given .1) (c .settle-rated .ensures)
 
 pub settle-tasks-spec : {M : Type 1} → statement M
 settle-tasks-spec =

@@ -1,0 +1,42 @@
+use Rattle.tasks.specs.Tests.{orNext}
+use Rattle.analysis.specs.PlanTest.{foundTest}
+use Rattle.analysis.specs.StageLaws.{scan-found, scan-none}
+use native.Mathlib.Omega.{arith}
+use native.Mathlib.Numerals.{add-one}
+use Prim.Native.Nat.{ℕ, _≤_, _<_, _+_, _*_, _-_}
+use mathlib.Core.Path.{_≡_, refl, ap, sym, _∙_}
+use mathlib.Core.Logic.{⊎-elim}
+use lib.ListN.{length, getD, set, length-set}
+use borrow.Author.Needs.{needs}
+use Rattle.analysis.proofs.plan_test.found_test.Statement.{statement}
+use Rattle.analysis.proofs.plan_test.found_test.Tie as tie
+use Rattle.analysis.proofs.plan_test.found_test.Reads as reads
+use Rattle.analysis.proofs.plan_test.found_test.Lts as lts
+use Rattle.analysis.proofs.plan_test.first_other.Reads as first-other-reads
+use Rattle.analysis.proofs.plan_test.plan_bounds.Reads as plan-bounds-reads
+
+-- src/plan_test.rt:53:9
+first-other-requires : tie.Need-first-other-requires
+first-other-requires c κs = search needs
+
+-- src/plan_test.rt:57:20
+cast-t10 : tie.Need-cast-t10
+cast-t10 c = search needs
+
+-- src/plan_test.rt:55:9
+returns : tie.Need-returns
+unfolding foundTest
+returns c = rw (scan-found 12 _ _ _ (c .before .first-other .ensures) (c .if1 .taken))
+
+-- src/plan_test.rt:60:5
+plan-bounds-requires : tie.Need-plan-bounds-requires
+plan-bounds-requires c κs = search needs
+
+-- src/plan_test.rt:47:1
+returns-2 : tie.Need-returns-2
+unfolding foundTest
+returns-2 c = rw (scan-none 12 _ _ _ (c .before .before .first-other .ensures) (c .before .if1 .left)) (c .plan-bounds .ensures)
+
+pub found-test-spec : {M : Type 1} → statement M
+found-test-spec =
+    tie.close (tie.spec first-other-requires cast-t10 returns plan-bounds-requires returns-2)

@@ -1,0 +1,16 @@
+pub mod Engine
+pub mod Log
+pub mod Report
+pub mod EngineLaws
+pub mod LogLaws
+pub mod OnMachine
+pub mod Balance
+pub mod Life
+pub mod Refusals
+pub mod Drain
+pub mod Demand
+pub mod Mirror
+pub mod MirrorLog
+pub mod LogClock
+pub mod Worked
+pub mod Owners
