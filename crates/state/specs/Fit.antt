@@ -1,9 +1,10 @@
 -- What soundness means for a machine, and the lengths of a state's arrays, which every value of its type has.
---     Shaped s     the arrays' lengths
+--     Shaped s     the arrays' lengths; length-mapped: a list is as long as what is made of its elements
 --     Fit p M      the plan p and the machine M are those of a sound state
 use Prim.Native.Nat.{ℕ, _≤_}
-use mathlib.Core.Path.{_≡_}
-use lib.ListN.{length}
+use mathlib.Core.Path.{_≡_, sym, _∙_}
+use mathlib.Core.List.{List, map}
+use lib.ListN.{length, length-map}
 use Rattle.tasks.specs.declared.Plan.{Plan}
 use Rattle.tasks.specs.declared.Answer.the-variants.{Accepted}
 use Rattle.tasks.specs.Content.{contentOf, tidy}
@@ -11,6 +12,9 @@ use Rattle.tasks.specs.Tests.{testPlan}
 use Rattle.machine.specs.Machine.{Machine}
 use Rattle.machine.specs.Sound.{Sound}
 use Rattle.state.specs.declared.State.{State}
+
+pub length-mapped : (X Y : Type 0) (f : X → Y) (l : List X) (n : ℕ) → length (map f l) ≡ n → length l ≡ n
+length-mapped X Y f l n e = sym (length-map l f) ∙ e
 
 pub record ShapedPlan (p : Plan) : Type 0 where
   pub labels : length (p .labels) ≡ 8

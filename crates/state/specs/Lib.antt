@@ -10,10 +10,12 @@ pub mod FitLaws
 pub mod KeptLaws
 pub mod AdmitLaws
 pub mod Serve
+pub mod MoveLaws
 pub mod ServeLaws
 pub mod Pick
 pub mod PickLaws
 pub mod RankPickLaws
 pub mod TickLaws
 pub mod TurnLaws
-pub mod MoveLaws
+pub mod CodeLaws
+pub mod StepLaws

@@ -1,10 +1,12 @@
 -- The places of a loop moved down, one store a turn.
---     movedTo i p l      the row of l with the first p places of loop i moved down
---     move-none, move-more, move-all      no store yet; one more; all fifteen, and the freed place zeroed
-use Prim.Native.Nat.{ℕ, _+_, _*_, _/_, _%_, _<_}
+--     moved-step           one store more, at p + 1
+--     movedRow i l         the row of l with the places of loop i moved down, the freed one 0; rowTo i p l: with the first p moved
+--     moved-row            the places moved down are that row's list
+use Prim.Native.Nat.{ℕ, zero, suc, _+_, _*_, _/_, _%_, _≤_, _<_}
 use mathlib.Core.Bool.{Bool, true, false, cond, _&&_}
 use mathlib.Core.Path.{_≡_, refl, sym, ap, _∙_}
 use mathlib.Core.List.{List}
+use native.Mathlib.Numerals.{add-one}
 use native.Mathlib.Omega.{arith}
 use lib.ListN.{length, getD, set}
 use lib.Dec.{ltb, eqb}
@@ -12,41 +14,44 @@ use borrow.Author.Tests.{ltb-true, ltb-false, lt-ltb, le-ltb, eqb-true, eqb-fals
 use Rattle.laws.specs.Tab.{tab}
 use Rattle.laws.specs.TabLaws.{getD-tab, ext-tab, set-tab, tab-ext}
 use Rattle.tasks.specs.TaskSet.{row}
-use Rattle.state.specs.Serve.{movedRow, moved}
+use Rattle.state.specs.Serve.{movedTo, moved}
 use Rattle.state.specs.AllLaws.{by-place, loop-of, place-in}
 
-unfoldable pub movedTo : ℕ → ℕ → List ℕ → ℕ → ℕ
-movedTo i p l k = cond (eqb (k / 16) i && ltb (k % 16) p) (row l (k + 1)) (row l k)
+unfoldable pub movedRow : ℕ → List ℕ → ℕ → ℕ
+movedRow i l k = cond (eqb (k / 16) i) (cond (eqb (k % 16) 15) 0 (row l (k + 1))) (row l k)
+
+unfoldable pub rowTo : ℕ → ℕ → List ℕ → ℕ → ℕ
+rowTo i p l k = cond (eqb (k / 16) i && ltb (k % 16) p) (row l (k + 1)) (row l k)
 
 -- the row at place q of loop j
-moved-at : (i p : ℕ) (l : List ℕ) (j q : ℕ) → q < 16 → movedTo i p l (16 * j + q) ≡ cond (eqb j i && ltb q p) (row l (16 * j + q + 1)) (row l (16 * j + q))
-unfolding movedTo
+moved-at : (i p : ℕ) (l : List ℕ) (j q : ℕ) → q < 16 → rowTo i p l (16 * j + q) ≡ cond (eqb j i && ltb q p) (row l (16 * j + q + 1)) (row l (16 * j + q))
+unfolding rowTo
 moved-at i p l j q h = rw (loop-of j q h, place-in j q h)
 
-pub move-none : (i : ℕ) (l : List ℕ) → length l ≡ 256 → l ≡ tab (movedTo i 0 l) 256
-unfolding movedTo row
-move-none i l e = ext-tab (movedTo i 0 l) l 256 0 e (λ k h. sym (rw (le-ltb (k % 16) 0 (omega arith)) (off (eqb (k / 16) i) k)))
+move-none : (i : ℕ) (l : List ℕ) → length l ≡ 256 → l ≡ tab (rowTo i 0 l) 256
+unfolding rowTo row
+move-none i l e = ext-tab (rowTo i 0 l) l 256 0 e (λ k h. sym (rw (le-ltb (k % 16) 0 (omega arith)) (off (eqb (k / 16) i) k)))
   where
     off : (b : Bool) (k : ℕ) → cond (b && false) (getD l (k + 1) 0) (getD l k 0) ≡ getD l k 0
     off true k = refl
     off false k = refl
 
 module _ (i : ℕ) (l now : List ℕ) (h : i < 16) where
-  pub move-more :
-      (p : ℕ) → p < 15 → now ≡ tab (movedTo i p l) 256
-      → set now (16 * i + p) (getD now (16 * i + p + 1) 0) ≡ tab (movedTo i (p + 1) l) 256
+  move-more :
+      (p : ℕ) → p < 15 → now ≡ tab (rowTo i p l) 256
+      → set now (16 * i + p) (getD now (16 * i + p + 1) 0) ≡ tab (rowTo i (p + 1) l) 256
   move-more p m e =
       rw (e, read)
-      (set-tab (movedTo i p l) 256 (16 * i + p) (row l (16 * i + p + 1))
-      ∙ tab-ext _ (movedTo i (p + 1) l) 256 (by-place (λ k. cond (eqb k (16 * i + p)) (row l (16 * i + p + 1)) (movedTo i p l k) ≡ movedTo i (p + 1) l k) at))
+      (set-tab (rowTo i p l) 256 (16 * i + p) (row l (16 * i + p + 1))
+      ∙ tab-ext _ (rowTo i (p + 1) l) 256 (by-place (λ k. cond (eqb k (16 * i + p)) (row l (16 * i + p + 1)) (rowTo i p l k) ≡ rowTo i (p + 1) l k) at))
     where
-      read : getD (tab (movedTo i p l) 256) (16 * i + p + 1) 0 ≡ row l (16 * i + p + 1)
+      read : getD (tab (rowTo i p l) 256) (16 * i + p + 1) 0 ≡ row l (16 * i + p + 1)
       read =
           let next : 16 * i + p + 1 ≡ 16 * i + (p + 1) = omega arith in
-          getD-tab (movedTo i p l) 256 (16 * i + p + 1) 0 (omega arith)
+          getD-tab (rowTo i p l) 256 (16 * i + p + 1) 0 (omega arith)
           ∙ rw (next, moved-at i p l i (p + 1) (omega arith), le-ltb (p + 1) p (omega arith), eq-eqb i i refl)
 
-      at : (j q : ℕ) → j < 16 → q < 16 → cond (eqb (16 * j + q) (16 * i + p)) (row l (16 * i + p + 1)) (movedTo i p l (16 * j + q)) ≡ movedTo i (p + 1) l (16 * j + q)
+      at : (j q : ℕ) → j < 16 → q < 16 → cond (eqb (16 * j + q) (16 * i + p)) (row l (16 * i + p + 1)) (rowTo i p l (16 * j + q)) ≡ rowTo i (p + 1) l (16 * j + q)
       at j q a b = rw (moved-at i p l j q b, moved-at i (p + 1) l j q b) (go (eqb j i) refl (eqb q p) refl (ltb q p) refl)
         where
           go :
@@ -70,14 +75,14 @@ module _ (i : ℕ) (l now : List ℕ) (h : i < 16) where
               let ne = eqb-false j i x in
               rw (x, ne-eqb (16 * j + q) (16 * i + p) (λ (f : 16 * j + q ≡ 16 * i + p). ne (omega arith)))
 
-  pub move-all : now ≡ tab (movedTo i 15 l) 256 → set now (16 * i + 15) 0 ≡ moved i l
-  unfolding moved movedRow
+  move-all : now ≡ tab (rowTo i 15 l) 256 → set now (16 * i + 15) 0 ≡ tab (movedRow i l) 256
+  unfolding movedRow
   move-all e =
       rw e
-      (set-tab (movedTo i 15 l) 256 (16 * i + 15) 0
-      ∙ tab-ext _ (movedRow i l) 256 (by-place (λ k. cond (eqb k (16 * i + 15)) 0 (movedTo i 15 l k) ≡ movedRow i l k) at))
+      (set-tab (rowTo i 15 l) 256 (16 * i + 15) 0
+      ∙ tab-ext _ (movedRow i l) 256 (by-place (λ k. cond (eqb k (16 * i + 15)) 0 (rowTo i 15 l k) ≡ movedRow i l k) at))
     where
-      at : (j q : ℕ) → j < 16 → q < 16 → cond (eqb (16 * j + q) (16 * i + 15)) 0 (movedTo i 15 l (16 * j + q)) ≡ movedRow i l (16 * j + q)
+      at : (j q : ℕ) → j < 16 → q < 16 → cond (eqb (16 * j + q) (16 * i + 15)) 0 (rowTo i 15 l (16 * j + q)) ≡ movedRow i l (16 * j + q)
       at j q a b = rw (moved-at i 15 l j q b, loop-of j q b, place-in j q b) (go (eqb j i) refl (eqb q 15) refl)
         where
           go :
@@ -95,3 +100,17 @@ module _ (i : ℕ) (l now : List ℕ) (h : i < 16) where
           go false x y w =
               let ne = eqb-false j i x in
               rw (x, ne-eqb (16 * j + q) (16 * i + 15) (λ (f : 16 * j + q ≡ 16 * i + 15). ne (omega arith)))
+
+pub moved-step : (i p : ℕ) (l : List ℕ) → movedTo i l (p + 1) ≡ set (movedTo i l p) (16 * i + p) (row (movedTo i l p) (16 * i + p + 1))
+unfolding movedTo
+moved-step i p l = rw add-one
+
+module _ (i : ℕ) (l : List ℕ) (h : i < 16) (e : length l ≡ 256) where
+  moved-to : (p : ℕ) → p ≤ 15 → movedTo i l p ≡ tab (rowTo i p l) 256
+  unfolding movedTo row
+  moved-to zero m = move-none i l e
+  moved-to (suc p) m = rw (add-one p) at (move-more i l (movedTo i l p) h p m (moved-to p (omega arith)))
+
+  pub moved-row : moved i l ≡ tab (movedRow i l) 256
+  unfolding moved
+  moved-row = move-all i l (movedTo i l 15) h (moved-to 15 (omega arith))

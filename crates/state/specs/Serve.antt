@@ -4,20 +4,22 @@
 --     lastTick i w         whether loop i's head finishes in this tick, by the array of remaining work
 --     workAfter, releaseAfter, jobsAfter, responseAfter        each array and the response after loop i has run
 --     ran, turnJobs, turnWork, turnRelease, turnResponses      whether loop i ran, and the arrays after its turn, whether it did or not
-use Prim.Native.Nat.{ℕ, _+_, _-_, _*_, _/_, _%_}
+--     Arrays, turnOf, turns      the four arrays together, one turn of all, and the turns of the loops below i
+use Prim.Native.Nat.{ℕ, zero, suc, _+_, _-_, _*_}
 use mathlib.Core.Bool.{Bool, cond, not, _&&_}
 use mathlib.Core.List.{List}
 use lib.ListN.{set}
-use lib.Dec.{leb, ltb, eqb}
-use Rattle.laws.specs.Tab.{tab}
+use lib.Dec.{leb, eqb}
 use Rattle.tasks.specs.TaskSet.{row}
 use Rattle.state.specs.Pick.{noKey}
 
-unfoldable pub movedRow : ℕ → List ℕ → ℕ → ℕ
-movedRow i l k = cond (eqb (k / 16) i) (cond (eqb (k % 16) 15) 0 (row l (k + 1))) (row l k)
+-- the first p of them moved, one after the other
+unfoldable pub movedTo : ℕ → List ℕ → ℕ → List ℕ
+movedTo i l zero = l
+movedTo i l (suc p) = set (movedTo i l p) (16 * i + p) (row (movedTo i l p) (16 * i + p + 1))
 
 unfoldable pub moved : ℕ → List ℕ → List ℕ
-moved i l = tab (movedRow i l) 256
+moved i l = set (movedTo i l 15) (16 * i + 15) 0
 
 unfoldable pub lastTick : ℕ → List ℕ → Bool
 lastTick i work = leb (row work (16 * i)) 1
@@ -49,5 +51,28 @@ turnWork i key jobs work = cond (ran i key jobs) (workAfter i work) work
 unfoldable pub turnRelease : ℕ → ℕ → List ℕ → List ℕ → List ℕ → List ℕ
 turnRelease i key jobs work release = cond (ran i key jobs) (releaseAfter i work release) release
 
+-- a loop that finished gets its response
 unfoldable pub turnResponses : ℕ → ℕ → ℕ → List ℕ → List ℕ → List ℕ → List ℕ → List ℕ
-turnResponses now i key jobs work release responses = cond (ran i key jobs) (set responses i (responseAfter now i work release)) responses
+turnResponses finish i key jobs work release responses =
+    cond (ran i key jobs && lastTick i work) (set responses i (finish - row release (16 * i))) responses
+
+-- the arrays that a tick works on
+pub record Arrays : Type 0 where
+  pub jobs : List ℕ
+  pub work : List ℕ
+  pub release : List ℕ
+  pub responses : List ℕ
+
+unfoldable pub turnOf : ℕ → ℕ → ℕ → Arrays → Arrays
+turnOf finish key i x =
+    record {
+      jobs = turnJobs i key (x .jobs) (x .work);
+      work = turnWork i key (x .jobs) (x .work);
+      release = turnRelease i key (x .jobs) (x .work) (x .release);
+      responses = turnResponses finish i key (x .jobs) (x .work) (x .release) (x .responses);
+    }
+
+-- after the turns of the loops below i, with the keys that the choice left
+unfoldable pub turns : ℕ → List ℕ → Arrays → ℕ → Arrays
+turns finish keys x zero = x
+turns finish keys x (suc i) = turnOf finish (row keys i) i (turns finish keys x i)

@@ -11,11 +11,12 @@ use lib.ListN.{length, getD, set, List·getD-eq-default}
 use lib.Dec.{ltb, leb, eqb}
 use borrow.Author.Tests.{eqb-true, eqb-false, eq-eqb, ne-eqb, le-leb, lt-leb}
 use Rattle.laws.specs.Tab.{tab}
-use Rattle.laws.specs.TabLaws.{set-tab, tab-ext}
+use Rattle.laws.specs.TabLaws.{length-tab, set-tab, tab-ext}
 use Rattle.tasks.specs.TaskSet.{row}
 use Rattle.machine.specs.Machine.{Job, job, releaseTick, remaining, Machine, served, response}
 use Rattle.state.specs.State.{noJob, jobAt, jobsIn, remainingIn, releaseIn}
-use Rattle.state.specs.Serve.{movedRow, moved, lastTick, workAfter, releaseAfter, jobsAfter, responseAfter}
+use Rattle.state.specs.Serve.{moved, lastTick, workAfter, releaseAfter, jobsAfter, responseAfter}
+use Rattle.state.specs.MoveLaws.{movedRow, moved-row}
 use Rattle.state.specs.AllLaws.{by-place, loop-of, place-in}
 use Rattle.state.specs.ViewLaws.{job-at, row-jobs, row-remaining, row-release}
 
@@ -102,12 +103,12 @@ module _ (i : ℕ) (M N : Machine) (S : Serves i M N) where
         at j q h m false e c g = rw (other-place j q m e) (sym (reads (16 * j + q) (omega arith)))
 
     done-work : remainingIn N ≡ moved i (remainingIn M)
-    unfolding moved remainingIn
-    done-work = tab-ext _ (movedRow i (remainingIn M)) 256 (moved-places remaining (remainingIn M) refl (row-remaining M))
+    unfolding remainingIn
+    done-work = rw (moved-row i (remainingIn M) (S .low) (length-tab _ 256)) (tab-ext _ (movedRow i (remainingIn M)) 256 (moved-places remaining (remainingIn M) refl (row-remaining M)))
 
     done-release : releaseIn N ≡ moved i (releaseIn M)
-    unfolding moved releaseIn
-    done-release = tab-ext _ (movedRow i (releaseIn M)) 256 (moved-places releaseTick (releaseIn M) refl (row-release M))
+    unfolding releaseIn
+    done-release = rw (moved-row i (releaseIn M) (S .low) (length-tab _ 256)) (tab-ext _ (movedRow i (releaseIn M)) 256 (moved-places releaseTick (releaseIn M) refl (row-release M)))
 
     done-jobs : jobsIn N ≡ set (jobsIn M) i (row (jobsIn M) i - 1)
     unfolding jobsIn

@@ -2,8 +2,9 @@
 --     turned p M i           the machine in which the loops below i have had their turn, at the old clock's end
 --     turned-jobs, turned-work, turned-release      before the first turn
 --     turn-jobs, turn-work, turn-release, turn-responses      one loop's turn, by the arrays
+--     turns-are              the four arrays together, turn after turn
 --     ticked-state, all-responses      all sixteen turns made, the arrays are those of the tick
-use Prim.Native.Nat.{ℕ, zero, suc, _+_, _*_, _≤_, _<_}
+use Prim.Native.Nat.{ℕ, zero, suc, _+_, _-_, _*_, _≤_, _<_}
 use mathlib.Core.Bool.{Bool, true, false, cond, not, _&&_, true≢false, false≢true, and-true}
 use mathlib.Core.Path.{_≡_, refl, sym, ap, _∙_}
 use mathlib.Core.List.{List, [], _∷_}
@@ -22,7 +23,7 @@ use Rattle.machine.specs.Choice.{earliest}
 use Rattle.state.specs.declared.State.{State}
 use Rattle.state.specs.State.{jobsIn, releasedIn, lastIn, remainingIn, releaseIn, stateOf}
 use Rattle.state.specs.Pick.{noKey, keysAfter, keysOf}
-use Rattle.state.specs.Serve.{ran, responseAfter, jobsAfter, workAfter, releaseAfter, turnJobs, turnWork, turnRelease, turnResponses}
+use Rattle.state.specs.Serve.{ran, lastTick, responseAfter, jobsAfter, workAfter, releaseAfter, turnJobs, turnWork, turnRelease, turnResponses, Arrays, turnOf, turns}
 use Rattle.state.specs.ServeLaws.{Serves, same-work, same-release, same-jobs, served-work, served-release, served-jobs, served-response}
 use Rattle.state.specs.Fit.{Fit}
 use Rattle.state.specs.FitLaws.{in-count, fit-tasks, known-lane}
@@ -148,27 +149,16 @@ module _ (p : Plan) (M : Machine) (F : Fit p M) where
         tab (cut (i + 1) (responses (runs s M) M) 0) 16
         ≡ turnResponses (suc (M .clock)) i (keyLeft i) (jobsIn (turned p M i)) (remainingIn (turned p M i)) (releaseIn (turned p M i))
         (tab (cut i (responses (runs s M) M) 0) 16)
-    unfolding turnResponses responses
-    turn-responses = rw ran-here (go (runs s M i) refl)
+    unfolding turnResponses responses responseAfter
+    turn-responses = rw ran-here (go (runs s M i) refl (lastTick i (remainingIn (turned p M i))) refl)
       where
         f : ℕ → ℕ
         f = responses (runs s M) M
 
-        go :
-            (b : Bool) → runs s M i ≡ b
-            → tab (cut (i + 1) f 0) 16
-            ≡ cond b
-            (set (tab (cut i f 0) 16) i (responseAfter (suc (M .clock)) i (remainingIn (turned p M i)) (releaseIn (turned p M i))))
-            (tab (cut i f 0) 16)
-        go true e =
-            let v : f i ≡ responseAfter (suc (M .clock)) i (remainingIn (turned p M i)) (releaseIn (turned p M i)) =
-            rw (e, ← ahead i) (served-response i (turned p M i) (turned p M (i + 1)) (serves e) (suc (M .clock))) in
-            rw (← v) (sym (filled-next f 0 i 16 h))
-        go false e = tab-ext (cut (i + 1) f 0) (cut i f 0) 16 (λ j l. at j (ltb j i) refl (eqb j i) refl)
+        -- a response of 0 leaves the array as it is
+        nothing : f i ≡ 0 → tab (cut (i + 1) f 0) 16 ≡ tab (cut i f 0) 16
+        nothing zero-at = tab-ext (cut (i + 1) f 0) (cut i f 0) 16 (λ j l. at j (ltb j i) refl (eqb j i) refl)
           where
-            zero-at : f i ≡ 0
-            zero-at = rw e
-
             at : (j : ℕ) (b : Bool) → ltb j i ≡ b → (c : Bool) → eqb j i ≡ c → cut (i + 1) f 0 j ≡ cut i f 0 j
             at j true q c r =
                 let m = ltb-true j i q in
@@ -180,6 +170,29 @@ module _ (p : Plan) (M : Machine) (F : Fit p M) where
                 let m = ltb-false j i q in
                 let ne = eqb-false j i r in
                 cut-above (i + 1) f 0 j (omega arith) ∙ sym (cut-above i f 0 j m)
+
+        value :
+            runs s M i ≡ true → (d : Bool) → lastTick i (remainingIn (turned p M i)) ≡ d
+            → f i ≡ cond d (suc (M .clock) - row (releaseIn (turned p M i)) (16 * i)) 0
+        value e d q =
+            rw (e, ← ahead i) (served-response i (turned p M i) (turned p M (i + 1)) (serves e) (suc (M .clock)))
+            ∙ after-value d q
+          where
+            after-value :
+                (d : Bool) → lastTick i (remainingIn (turned p M i)) ≡ d
+                → responseAfter (suc (M .clock)) i (remainingIn (turned p M i)) (releaseIn (turned p M i))
+                ≡ cond d (suc (M .clock) - row (releaseIn (turned p M i)) (16 * i)) 0
+            after-value d r = rw r
+
+        go :
+            (b : Bool) → runs s M i ≡ b → (d : Bool) → lastTick i (remainingIn (turned p M i)) ≡ d
+            → tab (cut (i + 1) f 0) 16
+            ≡ cond (b && d)
+            (set (tab (cut i f 0) 16) i (suc (M .clock) - row (releaseIn (turned p M i)) (16 * i)))
+            (tab (cut i f 0) 16)
+        go true e true q = rw (← value e true q) (sym (filled-next f 0 i 16 h))
+        go true e false q = nothing (value e false q)
+        go false e d q = nothing (rw e)
 
   -- before the first turn, and after the last
   start : (j : ℕ) → turned p M 0 .lane j .queue ≡ M .lane j .queue
@@ -233,3 +246,33 @@ module _ (p : Plan) (M : Machine) (F : Fit p M) where
 
   pub all-responses : tab (cut 16 (responses (runs s M) M) 0) 16 ≡ tab (responses (runs s M) M) 16
   all-responses = cut-all 16 (responses (runs s M) M) 0
+
+  -- all four arrays, turn after turn
+  pub turns-are :
+      (i : ℕ) → i ≤ 16
+      → turns (suc (M .clock)) (keysAfter (keysOf (jobsIn M) (releaseIn M) (p .task)) (p .cores))
+      (record { jobs = jobsIn M; work = remainingIn M; release = releaseIn M; responses = replicate 16 0 }) i
+      ≡ record {
+        jobs = jobsIn (turned p M i);
+        work = remainingIn (turned p M i);
+        release = releaseIn (turned p M i);
+        responses = tab (cut i (responses (runs s M) M) 0) 16;
+      }
+  unfolding turns turnOf
+  turns-are zero h =
+      λ k.
+      record {
+        jobs = turned-jobs k;
+        work = turned-work k;
+        release = turned-release k;
+        responses = filled-none (responses (runs s M) M) 0 16 k;
+      }
+  turns-are (suc i) h =
+      rw (turns-are i (omega arith), ← add-one i)
+      (λ k.
+      record {
+        jobs = sym (turn-jobs i h) k;
+        work = sym (turn-work i h) k;
+        release = sym (turn-release i h) k;
+        responses = sym (turn-responses i h) k;
+      })

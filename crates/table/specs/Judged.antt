@@ -2,16 +2,16 @@
 --     judged           the judgement of a table's bytes
 --     slackPart        the slack section's entries, without the count byte
 --     written          the writer's answer, `writtenTo` the bytes that it leaves behind
---     numberOf …       document 01's number and values for each case of an answer
-use Prim.Native.Nat.{ℕ, _+_, _*_}
-use mathlib.Core.Bool.{Bool, true, false}
+--     answerOfWritten  document 01's number and index for each case of the writer's answer
+use Prim.Native.Nat.{ℕ}
+use mathlib.Core.Bool.{false}
 use mathlib.Core.List.{List, [], _∷_, _++_}
 use lib.ListN.{length, drop, replicate}
 use lib.Dec.{ltb}
 use Rattle.tasks.specs.declared.Plan.{Plan}
 use Rattle.tasks.specs.declared.Answer.{Answer}
 use Rattle.tasks.specs.declared.Answer.the-variants.{Accepted, Refused}
-use Rattle.tasks.specs.Content.{Content, contentOf, planOf, noTask}
+use Rattle.tasks.specs.Content.{contentOf, planOf, noTask}
 use Rattle.tasks.specs.Tests.{refuse, firstMet, testPlan}
 use Rattle.table.specs.declared.Judgement.{Judgement}
 use Rattle.table.specs.declared.Written.{Written}
@@ -34,6 +34,9 @@ abbrev pub onAccepted : {A : Type 0} → Answer → A → A → A
 onAccepted Accepted x y = x
 onAccepted (Refused k i) x y = y
 
+unfoldable pub refusedWith : Answer → Judgement
+refusedWith a = record { answer = a; plan = zeroPlan }
+
 -- "A refused judgement … hands back a plan … of zeros"
 unfoldable pub judged : List ℕ → Judgement
 judged t = record { answer = verdict t; plan = onAccepted (verdict t) (planOf (contentIn t)) zeroPlan }
@@ -49,6 +52,10 @@ writeTest p room = firstMet (testPlan p ∷ refuse 24 (ltb room (length (bytesOf
 abbrev pub writtenAs : Answer → ℕ → Written
 writtenAs Accepted n = Length n
 writtenAs (Refused k i) n = NotWritten k i
+
+unfoldable pub answerOfWritten : Written → Answer
+answerOfWritten (Length n) = Accepted
+answerOfWritten (NotWritten k i) = Refused k i
 
 unfoldable pub written : Plan → ℕ → Written
 written p room = writtenAs (writeTest p room) (length (bytesOf (contentOf p)))

@@ -10,3 +10,4 @@ pub mod SectionLaws
 pub mod BackLaws
 pub mod RoundTrip
 pub mod LoadedLaws
+pub mod JudgeLaws

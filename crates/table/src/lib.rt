@@ -3,7 +3,11 @@ use tasks::Answer;
 use tasks::Plan;
 
 mod read;
+mod verdict;
 mod write;
+
+pub use verdict::judge;
+pub use verdict::slack_part;
 
 // A judgement's plan, of zeros where the table is refused.
 pub struct Judgement {

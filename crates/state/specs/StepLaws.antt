@@ -1,0 +1,100 @@
+-- What the code of a tick and of a release makes of a sound state is what the definitions say.
+--     tick-code       a tick: the keys, the picks, and the turns of all loops
+--     admit-code      a release
+--     sound-limits    a sound state's plan is within the limits
+use Prim.Native.Nat.{ℕ, suc, _+_, _*_, _≤_, _<_}
+use mathlib.Core.Bool.{Bool, true, false}
+use mathlib.Core.Path.{_≡_, refl, sym, ap, subst, _∙_}
+use mathlib.Core.List.{List}
+use native.Mathlib.Numerals.{add-one}
+use native.Mathlib.Omega.{arith}
+use lib.ListN.{length, set, replicate}
+use Rattle.laws.specs.Tab.{tab, cut}
+use Rattle.tasks.specs.declared.Plan.{Plan}
+use Rattle.tasks.specs.declared.Answer.the-variants.{Accepted}
+use Rattle.tasks.specs.TaskSet.{row}
+use Rattle.tasks.specs.Content.{contentOf}
+use Rattle.tasks.specs.Limits.{Limits}
+use Rattle.machine.specs.Machine as machine
+use Rattle.machine.specs.Machine.{Machine, admitted}
+use Rattle.state.specs.declared.State.{State}
+use Rattle.state.specs.declared.Stepped.{Stepped}
+use Rattle.state.specs.State.{jobsIn, releasedIn, lastIn, remainingIn, releaseIn, stateOf, machineOf}
+use Rattle.state.specs.SoundState.{soundOf}
+use Rattle.state.specs.Calls.{tasksOf, tickedOf}
+use Rattle.state.specs.Pick.{keysAfter, pickAt, keysOf}
+use Rattle.state.specs.Serve.{turns}
+use Rattle.state.specs.CodeLaws.{Are}
+use Rattle.state.specs.Fit.{Shaped, Fit}
+use Rattle.state.specs.FitLaws.{plan-limits, machine-back, state-back, sound-fit}
+use Rattle.state.specs.ViewLaws.{row-jobs}
+use Rattle.state.specs.TickLaws.{runs-picked}
+use Rattle.state.specs.TurnLaws.{turned, ticked-state, all-responses, turns-are}
+use Rattle.state.specs.AdmitLaws.{admitted-state}
+
+pub sound-limits : (s : State) → Shaped s → soundOf s ≡ true → Limits (contentOf (s .plan) .tasks)
+sound-limits s S e = plan-limits (s .plan) (sound-fit s S e .accepted)
+
+-- the code of a tick, on the state t
+unfoldable pub TickCode : State → Type 0
+TickCode t =
+    (keys left runs jobs work release responses : List ℕ)
+    → keys ≡ keysOf (t .jobs) (t .release) (t .plan .task)
+    → left ≡ keysAfter keys (t .plan .cores)
+    → runs ≡ tab (cut (t .plan .cores) (pickAt keys) 255) 8
+    → Are
+    (turns (t .clock + 1) left (record { jobs = t .jobs; work = t .remaining; release = t .release; responses = replicate 16 0 }) 16)
+    jobs work release responses
+    → _≡_ {A = Stepped}
+    (record {
+      answer = Accepted;
+      state =
+          record {
+            plan = t .plan;
+            clock = t .clock + 1;
+            jobs = jobs;
+            released = t .released;
+            last = t .last;
+            remaining = work;
+            release = release;
+          };
+      runs = runs;
+      responses = responses;
+    })
+    (tickedOf (t .plan) (tasksOf t) (machineOf t))
+
+module _ (p : Plan) (M : Machine) (F : Fit p M) where
+  tick-made : TickCode (stateOf p M)
+  unfolding TickCode stateOf tasksOf tickedOf
+  tick-made keys left runs jobs work release responses k l r A =
+      rw (machine-back p M F, ticked-state p M F, runs-picked p M F, ← k, ← r)
+      (λ i.
+      record {
+        answer = Accepted;
+        state =
+            record {
+              plan = p;
+              clock = M .clock + 1;
+              jobs = (A .jobs-are ∙ ap (λ x. x .jobs) all) i;
+              released = releasedIn M;
+              last = lastIn M;
+              remaining = (A .work-are ∙ ap (λ x. x .work) all) i;
+              release = (A .release-are ∙ ap (λ x. x .release) all) i;
+            };
+        runs = runs;
+        responses = (A .responses-are ∙ ap (λ x. x .responses) all ∙ all-responses p M F) i;
+      })
+    where
+      all :
+          turns (M .clock + 1) left (record { jobs = jobsIn M; work = remainingIn M; release = releaseIn M; responses = replicate 16 0 }) 16
+          ≡ record {
+            jobs = jobsIn (turned p M 16);
+            work = remainingIn (turned p M 16);
+            release = releaseIn (turned p M 16);
+            responses = tab (cut 16 (machine.responses (machine.runs (contentOf p .tasks) M) M) 0) 16;
+          }
+      all = rw (l, k, add-one (M .clock)) (turns-are p M F 16 (omega arith))
+
+module _ (s : State) (S : Shaped s) (e : soundOf s ≡ true) where
+  pub tick-code : TickCode s
+  tick-code = subst TickCode (state-back s S e) (tick-made (s .plan) (machineOf s) (sound-fit s S e))

@@ -1,0 +1,66 @@
+use native.Mathlib.Omega.{arith}
+use native.Mathlib.Numerals.{add-one}
+use Prim.Native.Nat.{ℕ, _≤_, _<_, _+_, _*_, _-_}
+use mathlib.Core.Path.{_≡_, refl, ap, sym, _∙_}
+use mathlib.Core.Logic.{⊎-elim}
+use lib.ListN.{length, getD, set, length-set}
+use borrow.Author.Needs.{needs}
+use Rattle.table.proofs.verdict.judge.Statement.{statement}
+use Rattle.table.proofs.verdict.judge.Tie as tie
+use Rattle.table.proofs.verdict.judge.Reads as reads
+use Rattle.table.proofs.verdict.judge.Lts as lts
+use Rattle.table.proofs.read.read_counts.Reads as read-counts-reads
+use Rattle.table.proofs.verdict.judge_plan.Reads as judge-plan-reads
+use Rattle.table.proofs.verdict.load.Reads as load-reads
+use Rattle.table.proofs.verdict.refused.Reads as refused-reads
+use Rattle.table.proofs.verdict.uncounted.Reads as uncounted-reads
+
+-- src/verdict.rt:82:9
+read-counts-requires : tie.Need-read-counts-requires
+read-counts-requires c κs = search needs
+
+-- src/verdict.rt:84:9
+enum-known-counts : tie.Need-enum-known-counts
+enum-known-counts c = search needs
+
+-- src/verdict.rt:89:24
+enum-told : tie.Need-enum-told
+enum-told c = search needs
+
+-- src/verdict.rt:89:24
+uncounted-requires : tie.Need-uncounted-requires
+uncounted-requires c κs = search needs
+
+-- src/verdict.rt:89:9
+refused-requires : tie.Need-refused-requires
+refused-requires c κs = search needs
+
+-- src/verdict.rt:89:9
+returns : tie.Need-returns
+returns c = search needs
+
+-- src/verdict.rt:91:9
+load-requires : tie.Need-load-requires
+load-requires c κs = search needs
+
+-- src/verdict.rt:92:5
+judge-plan-requires : tie.Need-judge-plan-requires
+judge-plan-requires c κs = search needs
+
+-- src/verdict.rt:79:1
+returns-2 : tie.Need-returns-2
+returns-2 c = search needs
+
+pub judge-spec : {M : Type 1} → statement M
+judge-spec =
+    tie.close
+    (tie.spec
+    read-counts-requires
+    enum-known-counts
+    enum-told
+    uncounted-requires
+    refused-requires
+    returns
+    load-requires
+    judge-plan-requires
+    returns-2)

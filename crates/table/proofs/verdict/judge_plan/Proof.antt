@@ -1,0 +1,121 @@
+use Prim.Native.Nat.{ℕ, _≤_}
+use mathlib.Core.Path.{_≡_, refl, sym, _∙_, ap}
+use Rattle.laws.specs.Tab.{tab}
+use Rattle.tasks.specs.declared.Plan.{Plan}
+use Rattle.tasks.specs.declared.Answer.{Answer}
+use Rattle.tasks.specs.declared.Answer.the-variants.{Accepted, Refused}
+use Rattle.tasks.specs.Content.{contentOf}
+use Rattle.analysis.specs.declared.settle.Settled.{Settled}
+use Rattle.analysis.specs.Settled.{Settles, offering, hadSlack}
+use Rattle.analysis.specs.SettledLaws.{stopped, passed-on}
+use Rattle.analysis.specs.PlanTest.{boundsOf}
+use Rattle.analysis.specs.PlanTestLaws.{few-tasks}
+use Rattle.table.specs.declared.Judgement.{Judgement}
+use Rattle.table.specs.Judged.{refusedWith, onAccepted, zeroPlan}
+use Rattle.table.specs.JudgeLaws.{Judges, judgedAnswer, withSlack}
+use native.Mathlib.Omega.{arith}
+use native.Mathlib.Numerals.{add-one}
+use Prim.Native.Nat.{ℕ, _≤_, _<_, _+_, _*_, _-_}
+use mathlib.Core.Path.{_≡_, refl, ap, sym, _∙_}
+use mathlib.Core.Logic.{⊎-elim}
+use lib.ListN.{length, getD, set, length-set}
+use borrow.Author.Needs.{needs}
+use Rattle.table.proofs.verdict.judge_plan.Statement.{statement}
+use Rattle.table.proofs.verdict.judge_plan.Tie as tie
+use Rattle.table.proofs.verdict.judge_plan.Reads as reads
+use Rattle.table.proofs.verdict.judge_plan.Lts as lts
+use Rattle.analysis.proofs.plan_bounds.Reads as plan-bounds-reads
+use Rattle.analysis.proofs.settle.settle.Reads as settle-reads
+use Rattle.table.proofs.verdict.refused.Reads as refused-reads
+
+module _ (p : Plan) (k : ℕ) (t : Settled) (g : Settles p k t) where
+  -- a refusal hands back a plan of zeros
+  refused : (r : Judgement) (a : Answer) (j i : ℕ) → r ≡ refusedWith a → a ≡ Refused j i → a ≡ judgedAnswer p k → Judges p k r
+  unfolding refusedWith
+  refused r a j i e q v =
+      record { answer = ap (λ (r : Judgement). r .answer) e ∙ v; plan = rw (e, q) }
+
+  unsettled : (r : Judgement) (j i : ℕ) → r ≡ refusedWith (t .answer) → t .answer ≡ Refused j i → Judges p k r
+  unfolding judgedAnswer
+  unsettled r j i e q = refused r (t .answer) j i e q (g .answer ∙ sym (stopped _ _ j i (sym (g .answer) ∙ q)))
+
+  module _ (e : t .answer ≡ Accepted) where
+    few : p .tasks ≤ 16
+    unfolding offering contentOf
+    few = few-tasks (offering p k) (sym (g .answer) ∙ e)
+
+    bounded : (b : Answer) → b ≡ boundsOf p (t .slack) → b ≡ judgedAnswer p k
+    unfolding judgedAnswer
+    bounded b q = q ∙ rw (g .slack e) (sym (passed-on _ _ (sym (g .answer) ∙ e)))
+
+    accepted : (b : Answer) → b ≡ boundsOf p (t .slack) → b ≡ Accepted → Judges p k (record { answer = Accepted; plan = withSlack p (t .slack) })
+    accepted b q v = record { answer = sym v ∙ bounded b q; plan = ap (withSlack p) (g .slack e) }
+
+-- src/verdict.rt:60:9
+settle-requires : tie.Need-settle-requires
+settle-requires c κs = search needs
+
+enum-told : tie.Need-enum-told
+enum-told c = search needs
+
+-- src/verdict.rt:63:9
+enum-told-2 : tie.Need-enum-told-2
+enum-told-2 c = search needs
+
+-- src/verdict.rt:63:9
+refused-requires : tie.Need-refused-requires
+refused-requires c κs = search needs
+
+-- src/verdict.rt:63:9
+returns : tie.Need-returns
+returns c =
+    let s = c .before .before .before .before in
+    unsettled (s .args .plan) (s .args .offers) _ (c .before .before .before .settle .ensures) _ _ _ (c .refused .ensures) (c .before .enum-told2 .given .1)
+
+-- src/verdict.rt:66:9
+plan-bounds-requires : tie.Need-plan-bounds-requires
+plan-bounds-requires c κs =
+    let s = c .before .before .before .before in
+    few (s .args .plan) (s .args .offers) _ (c .before .before .before .settle .ensures) (c .before .enum-told .given .1)
+
+enum-told-3 : tie.Need-enum-told-3
+enum-told-3 c = search needs
+
+-- src/verdict.rt:68:9
+enum-told-4 : tie.Need-enum-told-4
+enum-told-4 c = search needs
+
+-- src/verdict.rt:68:9
+refused-requires-2 : tie.Need-refused-requires-2
+refused-requires-2 c κs = search needs
+
+-- src/verdict.rt:68:9
+returns-2 : tie.Need-returns-2
+returns-2 c =
+    let s = c .before .before .before .before .before .before .before .before in
+    let g = c .before .before .before .before .before .before .before .settle .ensures in
+    refused (s .args .plan) (s .args .offers) _ g _ _ _ _ (c .refused2 .ensures) (c .before .enum-told4 .given .1)
+    (bounded (s .args .plan) (s .args .offers) _ g (c .before .before .before .before .before .enum-told .given .1) _ (c .before .before .before .plan-bounds .ensures))
+
+-- src/verdict.rt:57:1
+returns-3 : tie.Need-returns-3
+unfolding withSlack
+returns-3 c =
+    let s = c .before .before .before .before .before .before .before in
+    accepted (s .args .plan) (s .args .offers) _ (c .before .before .before .before .before .before .settle .ensures) (c .before .before .before .before .enum-told .given .1) _ (c .before .before .plan-bounds .ensures) (c .enum-told3 .given .1)
+
+pub judge-plan-spec : {M : Type 1} → statement M
+judge-plan-spec =
+    tie.close
+    (tie.spec
+    settle-requires
+    enum-told
+    enum-told-2
+    refused-requires
+    returns
+    plan-bounds-requires
+    enum-told-3
+    enum-told-4
+    refused-requires-2
+    returns-2
+    returns-3)

@@ -1,0 +1,21 @@
+use Rattle.tasks.specs.Content.{noTask}
+use Rattle.table.specs.Judged.{refusedWith, zeroPlan}
+use borrow.Author.Needs.{needs}
+use native.Mathlib.Omega.{arith}
+use native.Mathlib.Numerals.{add-one}
+use Prim.Native.Nat.{ℕ, _≤_, _<_, _+_, _*_, _-_}
+use mathlib.Core.Path.{_≡_, refl, ap, sym, _∙_}
+use mathlib.Core.Logic.{⊎-elim}
+use lib.ListN.{length, getD, set, length-set}
+use Rattle.table.proofs.verdict.refused.Statement.{statement}
+use Rattle.table.proofs.verdict.refused.Tie as tie
+use Rattle.table.proofs.verdict.refused.Reads as reads
+use Rattle.table.proofs.verdict.refused.Lts as lts
+
+-- src/verdict.rt:19:1
+returns : tie.Need-returns
+unfolding refusedWith zeroPlan noTask
+returns c = refl
+
+pub refused-spec : {M : Type 1} → statement M
+refused-spec = tie.close (tie.spec returns)

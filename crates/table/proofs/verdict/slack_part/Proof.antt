@@ -1,0 +1,76 @@
+use native.Mathlib.Omega.{arith}
+use native.Mathlib.Numerals.{add-one}
+use Prim.Native.Nat.{ℕ, _≤_, _<_, _+_, _*_, _-_}
+use mathlib.Core.Path.{_≡_, refl, ap, sym, _∙_}
+use mathlib.Core.Logic.{⊎-elim}
+use lib.ListN.{length, getD, set, length-set}
+use borrow.Author.Needs.{needs}
+use Rattle.table.proofs.verdict.slack_part.Statement.{statement}
+use Rattle.table.proofs.verdict.slack_part.Tie as tie
+use Rattle.table.proofs.verdict.slack_part.Reads as reads
+use Rattle.table.proofs.verdict.slack_part.Lts as lts
+use Rattle.table.proofs.verdict.judge.Reads as judge-reads
+
+-- src/verdict.rt:113:9
+judge-requires : tie.Need-judge-requires
+judge-requires c κs = search needs
+
+enum-told : tie.Need-enum-told
+enum-told c = search needs
+
+-- src/verdict.rt:116:16
+enum-told-2 : tie.Need-enum-told-2
+enum-told-2 c = search needs
+
+-- src/verdict.rt:116:9
+slice-aggregate-result : tie.Need-slice-aggregate-result
+slice-aggregate-result c = search needs
+
+-- src/verdict.rt:116:9
+returns : tie.Need-returns
+returns c = search needs
+
+-- src/verdict.rt:118:37
+mul-at : tie.Need-mul-at
+mul-at c = search needs
+
+-- src/verdict.rt:118:14
+add-at : tie.Need-add-at
+add-at c = search needs
+
+-- src/verdict.rt:118:14
+add-at-2 : tie.Need-add-at-2
+add-at-2 c = search needs
+
+-- src/verdict.rt:119:5
+sub-result : tie.Need-sub-result
+sub-result c = search needs
+
+-- src/verdict.rt:119:5
+part-result-start : tie.Need-part-result-start
+part-result-start c = search needs
+
+-- src/verdict.rt:119:5
+part-result-end : tie.Need-part-result-end
+part-result-end c = search needs
+
+-- src/verdict.rt:110:1
+returns-2 : tie.Need-returns-2
+returns-2 c = search needs
+
+pub slack-part-spec : {M : Type 1} → statement M
+slack-part-spec =
+    tie.close
+    (tie.spec
+    judge-requires
+    enum-told
+    enum-told-2
+    slice-aggregate-result
+    returns
+    mul-at
+    add-at
+    add-at-2
+    sub-result
+    part-result-start
+    part-result-end
+    returns-2)

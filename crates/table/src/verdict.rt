@@ -1,0 +1,120 @@
+// The judgement of a table's bytes, and the part of them that is its slack section.
+use crate::Judgement;
+use crate::read::Counts;
+use crate::read::load_labels;
+use crate::read::load_slack;
+use crate::read::load_tasks;
+use crate::read::read_counts;
+use analysis::plan_bounds;
+use analysis::settle::settle;
+use tasks::Answer;
+use tasks::Plan;
+use tasks::Task;
+ghost use mathlib.Core.Path.{_≡_};
+ghost use Rattle.table.specs.Judged.{judged, refusedWith, slackPart};
+ghost use Rattle.table.specs.Stages.{answerOfCounts};
+ghost use Rattle.table.specs.JudgeLaws.{Counted, loaded, Judges};
+
+// "A refused judgement … hands back a plan … of zeros"
+fn refused(answer: Answer) -> Judgement
+    ensures { λ r. ⌜ r ≡ refusedWith answer ⌝ }
+{
+    let none = Task {
+        separation: 0,
+        budget: 0,
+        offset: 0,
+    };
+    let plan = Plan {
+        offered: false,
+        cores: 0,
+        tasks: 0,
+        labels: [0; 8],
+        task: [none; 16],
+        slack: [0; 16],
+    };
+    Judgement { answer, plan }
+}
+
+// The plan that the table's sections fill.
+fn load(table: &[u8], cores: usize, tasks: usize, offers: usize) -> Plan
+    requires { ⌜ Counted (now table) cores tasks offers ⌝ }
+    ensures { λ r. ⌜ r ≡ loaded (now (table .entry)) ⌝ }
+{
+    let labels = load_labels(table, cores);
+    let task = load_tasks(table, cores + 3, tasks);
+    let slack = load_slack(table, cores + 12 * tasks + 4, offers);
+    Plan {
+        offered: offers != 0,
+        cores,
+        tasks,
+        labels,
+        task,
+        slack,
+    }
+}
+
+// Tests 3 to 13, of a table that meets neither 1 nor 2.
+fn judge_plan(plan: Plan, offers: usize) -> Judgement
+    ensures { λ r. ⌜ Judges plan offers r ⌝ }
+{
+    let settled = settle(plan, offers);
+    let answer = settled.answer;
+    let Answer::Accepted = answer else {
+        return refused(answer);
+    };
+    let slack = settled.slack;
+    let bounded = plan_bounds(plan, slack);
+    let Answer::Accepted = bounded else {
+        return refused(bounded);
+    };
+    let mut accepted = plan;
+    accepted.slack = slack;
+    Judgement {
+        answer: Answer::Accepted,
+        plan: accepted,
+    }
+}
+
+// The plan of a table, or the first of 1 to 13 that it meets.
+pub fn judge(table: &[u8]) -> Judgement
+    ensures { λ r. ⌜ r ≡ judged (now (table .entry)) ⌝ }
+{
+    let counts = read_counts(table);
+    let Counts::Read {
+        cores,
+        tasks,
+        offers,
+    } = counts
+    else {
+        return refused(uncounted(counts));
+    };
+    let plan = load(table, cores, tasks, offers);
+    judge_plan(plan, offers)
+}
+
+// The refusal of the first stage.
+fn uncounted(counts: Counts) -> Answer
+    ensures { λ r. ⌜ r ≡ answerOfCounts counts ⌝ }
+{
+    match counts {
+        Counts::Read {
+            cores: _,
+            tasks: _,
+            offers: _,
+        } => Answer::Accepted,
+        Counts::Refused { number, index } => Answer::Refused { number, index },
+    }
+}
+
+// "The slack section of a read table is handed back as the caller's own bytes"
+pub fn slack_part(table: &[u8]) -> &[u8]
+    ensures { λ r. ⌜ now r ≡ slackPart (now (table .entry)) ⌝ }
+{
+    let judgement = judge(table);
+    let answer = judgement.answer;
+    let Answer::Accepted = answer else {
+        return &table[..0];
+    };
+    let at = judgement.plan.cores + 12 * judgement.plan.tasks + 4;
+    &table[at..]
+}
