@@ -14,3 +14,4 @@ pub mod SettleLaws
 pub mod SearchLaws
 pub mod PlanTest
 pub mod PlanTestLaws
+pub mod JudgingLaws

@@ -19,3 +19,4 @@ pub mod TickLaws
 pub mod TurnLaws
 pub mod CodeLaws
 pub mod StepLaws
+pub mod Tests

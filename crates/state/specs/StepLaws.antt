@@ -98,3 +98,29 @@ module _ (p : Plan) (M : Machine) (F : Fit p M) where
 module _ (s : State) (S : Shaped s) (e : soundOf s ≡ true) where
   pub tick-code : TickCode s
   tick-code = subst TickCode (state-back s S e) (tick-made (s .plan) (machineOf s) (sound-fit s S e))
+
+-- the code of a release of loop i with demand c, on the state t
+unfoldable pub AdmitCode : ℕ → ℕ → State → Type 0
+AdmitCode i c t =
+    row (t .jobs) i < 16
+    → _≡_ {A = State}
+    (record {
+      plan = t .plan;
+      clock = t .clock;
+      jobs = set (t .jobs) i (row (t .jobs) i + 1);
+      released = set (t .released) i true;
+      last = set (t .last) i (t .clock);
+      remaining = set (t .remaining) (16 * i + row (t .jobs) i) c;
+      release = set (t .release) (16 * i + row (t .jobs) i) (t .clock);
+    })
+    (stateOf (t .plan) (admitted i c (machineOf t)))
+
+admit-made : (p : Plan) (M : Machine) → Fit p M → (i c : ℕ) → i < 16 → AdmitCode i c (stateOf p M)
+unfolding AdmitCode stateOf
+admit-made p M F i c h room =
+    let n = row-jobs M i h in
+    rw (machine-back p M F, n) (sym (admitted-state i c M (rw n at room) p))
+
+module _ (s : State) (S : Shaped s) (e : soundOf s ≡ true) where
+  pub admit-code : (i c : ℕ) → i < 16 → AdmitCode i c s
+  admit-code i c h = subst (AdmitCode i c) (state-back s S e) (admit-made (s .plan) (machineOf s) (sound-fit s S e) i c h)

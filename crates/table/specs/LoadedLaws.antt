@@ -2,6 +2,7 @@
 --     planIn            that plan, with this mark and this slack
 --     tasks-in, labels-in    its tasks and labels are the table's
 --     limits-in         it meets 3 to 10 as the table does
+--     limits-all        for every table, also one with more cores or tasks than a plan's arrays hold
 --     past-in           so does a table with more cores or tasks than a plan's arrays hold: 3, 4 or 5
 --     offered-in        with the offered slack it says what the table says
 --     found-in          and so it does with the found slack, where none is offered
@@ -74,6 +75,24 @@ module _ (t : List ℕ) (o : Bool) (x : List ℕ) where
   pub limits-in : coreCount t ≤ 8 → taskCount t ≤ 16 → limitTests (contentOf (planIn t o x)) ≡ limitTests (contentIn t)
   unfolding contentIn
   limits-in m n = limits-same (contentOf (planIn t o x)) (contentIn t) (tasks-in t o x n) (labels-in t o x m)
+
+  -- the same of 3 to 10 alone, for a table with more cores or tasks than a plan's arrays hold
+  cores-over : 8 < coreCount t → limitTests (contentOf (planIn t o x)) ≡ limitTests (contentIn t)
+  unfolding limitTests test3 firstMet contentOf planIn contentIn taskSetIn
+  cores-over h = rw (outside-past 2 8 (coreCount t) h)
+
+  tasks-over : coreCount t ≤ 8 → 16 < taskCount t → limitTests (contentOf (planIn t o x)) ≡ limitTests (contentIn t)
+  unfolding limitTests test3 test4 test5 firstMet contentOf planIn contentIn taskSetIn
+  tasks-over m h = rw (outside-past (coreCount t + 1) 16 (taskCount t) h, labels-in t o x m)
+
+  -- for every table
+  pub limits-all : limitTests (contentOf (planIn t o x)) ≡ limitTests (contentIn t)
+  limits-all = go (ltb 8 (coreCount t)) refl (ltb 16 (taskCount t)) refl
+    where
+      go : (a : Bool) → ltb 8 (coreCount t) ≡ a → (b : Bool) → ltb 16 (taskCount t) ≡ b → limitTests (contentOf (planIn t o x)) ≡ limitTests (contentIn t)
+      go true e b f = cores-over (ltb-true _ _ e)
+      go false e true f = tasks-over (ltb-false _ _ e) (ltb-true _ _ f)
+      go false e false f = limits-in (ltb-false _ _ e) (ltb-false _ _ f)
 
   cores-past : 8 < coreCount t → testPlan (planIn t o x) ≡ tests (contentIn t)
   unfolding testPlan tests test3 firstMet contentOf planIn contentIn taskSetIn

@@ -1,3 +1,6 @@
+use mathlib.Core.Path.{_≡_, sym, _∙_, ap}
+use Rattle.table.specs.Stages.{answerOfCounts}
+use Rattle.table.specs.JudgeLaws.{Judges, counts-passed, counts-refused, judged-from}
 use native.Mathlib.Omega.{arith}
 use native.Mathlib.Numerals.{add-one}
 use Prim.Native.Nat.{ℕ, _≤_, _<_, _+_, _*_, _-_}
@@ -37,11 +40,14 @@ refused-requires c κs = search needs
 
 -- src/verdict.rt:89:9
 returns : tie.Need-returns
-returns c = search needs
+returns c =
+    let e = c .before .before .before .before .read-counts .ensures in
+    c .refused .ensures
+    ∙ counts-refused _ _ _ _ (sym e ∙ c .before .before .enum-told .given .1) (c .before .uncounted .ensures ∙ ap answerOfCounts e)
 
 -- src/verdict.rt:91:9
 load-requires : tie.Need-load-requires
-load-requires c κs = search needs
+load-requires c κs = counts-passed _ _ _ _ (sym (c .before .before .before .read-counts .ensures) ∙ c .before .counts .given .1) .0
 
 -- src/verdict.rt:92:5
 judge-plan-requires : tie.Need-judge-plan-requires
@@ -49,7 +55,9 @@ judge-plan-requires c κs = search needs
 
 -- src/verdict.rt:79:1
 returns-2 : tie.Need-returns-2
-returns-2 c = search needs
+returns-2 c =
+    let p = counts-passed _ _ _ _ (sym (c .before .before .before .before .before .read-counts .ensures) ∙ c .before .before .before .counts .given .1) in
+    judged-from _ (p .1) _ (rw (c .before .load .ensures, p .0 .offers) at (c .judge-plan .ensures))
 
 pub judge-spec : {M : Type 1} → statement M
 judge-spec =

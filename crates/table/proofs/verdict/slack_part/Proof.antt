@@ -28,27 +28,27 @@ slice-aggregate-result c = search needs
 
 -- src/verdict.rt:116:9
 returns : tie.Need-returns
-returns c = search needs
+returns c = ?
 
 -- src/verdict.rt:118:37
 mul-at : tie.Need-mul-at
-mul-at c = search needs
+mul-at c = ?
 
 -- src/verdict.rt:118:14
 add-at : tie.Need-add-at
-add-at c = search needs
+add-at c = ?
 
 -- src/verdict.rt:118:14
 add-at-2 : tie.Need-add-at-2
-add-at-2 c = search needs
+add-at-2 c = ?
 
 -- src/verdict.rt:119:5
 sub-result : tie.Need-sub-result
-sub-result c = search needs
+sub-result c = ?
 
 -- src/verdict.rt:119:5
 part-result-start : tie.Need-part-result-start
-part-result-start c = search needs
+part-result-start c = ?
 
 -- src/verdict.rt:119:5
 part-result-end : tie.Need-part-result-end
@@ -56,7 +56,7 @@ part-result-end c = search needs
 
 -- src/verdict.rt:110:1
 returns-2 : tie.Need-returns-2
-returns-2 c = search needs
+returns-2 c = ?
 
 pub slack-part-spec : {M : Type 1} → statement M
 slack-part-spec =
