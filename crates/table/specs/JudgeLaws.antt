@@ -85,16 +85,16 @@ module _ (t : List ℕ) (m n k : ℕ) (g : Counted t m n k) where
   loaded-from labels task slack el et es =
       let l = subst (λ (v : ℕ). labels ≡ tab (cut v (λ i. byte t (2 + i)) 0) 8) (g .cores) el in
       let u =
-          subst (λ (v : ℕ). task ≡ tab (cut v (λ i. taskIn t (tasksAt t + 12 * i)) noTask) 16) (g .tasks)
-          (subst (λ (v : ℕ). task ≡ tab (cut n (λ i. taskIn t (v + 12 * i)) noTask) 16) tasks-place et)
+      subst (λ (v : ℕ). task ≡ tab (cut v (λ i. taskIn t (tasksAt t + 12 * i)) noTask) 16) (g .tasks)
+      (subst (λ (v : ℕ). task ≡ tab (cut n (λ i. taskIn t (v + 12 * i)) noTask) 16) tasks-place et)
       in
       let x =
-          subst (λ (v : ℕ). slack ≡ tab (cut v (λ i. number 4 t (slackAt t + 4 * i)) 0) 16) (g .offers)
-          (subst (λ (v : ℕ). slack ≡ tab (cut k (λ i. number 4 t (v + 4 * i)) 0) 16) slack-place es)
+      subst (λ (v : ℕ). slack ≡ tab (cut v (λ i. number 4 t (slackAt t + 4 * i)) 0) 16) (g .offers)
+      (subst (λ (v : ℕ). slack ≡ tab (cut k (λ i. number 4 t (v + 4 * i)) 0) 16) slack-place es)
       in
       λ i. record { offered = not (eqb (g .offers i) 0); cores = g .cores i; tasks = g .tasks i; labels = l i; task = u i; slack = x i }
 
-right-length : (t : List ℕ) → test2 t ≡ Accepted → length t ≡ slackAt t + 4 * slackCount t
+pub right-length : (t : List ℕ) → test2 t ≡ Accepted → length t ≡ slackAt t + 4 * slackCount t
 unfolding test2
 right-length t e = eqb-true _ _ (not-false _ (refuse-passed 2 _ e))
 
@@ -213,13 +213,13 @@ module _ (t : List ℕ) where
   plan-in e =
       let x = tab-ext (hadSlack said) (contentIn t .slack) 16 (λ i h. had-said e i) in
       λ i.
-      record
-      { offered = not (eqb (slackCount t) 0)
-      ; cores = coreCount t
-      ; tasks = taskCount t
-      ; labels = tab (cut (coreCount t) (λ i. byte t (2 + i)) 0) 8
-      ; task = tab (cut (taskCount t) (λ i. taskIn t (tasksAt t + 12 * i)) noTask) 16
-      ; slack = x i
+      record {
+        offered = not (eqb (slackCount t) 0);
+        cores = coreCount t;
+        tasks = taskCount t;
+        labels = tab (cut (coreCount t) (λ i. byte t (2 + i)) 0) 8;
+        task = tab (cut (taskCount t) (λ i. taskIn t (tasksAt t + 12 * i)) noTask) 16;
+        slack = x i;
       }
 
   past-two : firstMet (test1 t ∷ test2 t ∷ []) ≡ Accepted → verdict t ≡ tests (contentIn t)

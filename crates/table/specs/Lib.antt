@@ -11,3 +11,5 @@ pub mod BackLaws
 pub mod RoundTrip
 pub mod LoadedLaws
 pub mod JudgeLaws
+pub mod PartLaws
+pub mod WriterLaws

@@ -2,12 +2,14 @@
 use tasks::Answer;
 use tasks::Plan;
 
+mod put;
 mod read;
 mod verdict;
-mod write;
+mod writer;
 
 pub use verdict::judge;
 pub use verdict::slack_part;
+pub use writer::write;
 
 // A judgement's plan, of zeros where the table is refused.
 pub struct Judgement {

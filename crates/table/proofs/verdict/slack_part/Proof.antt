@@ -1,3 +1,4 @@
+use Rattle.table.specs.PartLaws.{part-none, part-place, part-within, part-rest}
 use native.Mathlib.Omega.{arith}
 use native.Mathlib.Numerals.{add-one}
 use Prim.Native.Nat.{ℕ, _≤_, _<_, _+_, _*_, _-_}
@@ -28,27 +29,27 @@ slice-aggregate-result c = search needs
 
 -- src/verdict.rt:116:9
 returns : tie.Need-returns
-returns c = ?
+returns c = part-none _ _ (c .before .before .before .judge .ensures) _ _ (c .before .enum-told2 .given .1)
 
 -- src/verdict.rt:118:37
 mul-at : tie.Need-mul-at
-mul-at c = ?
+mul-at c = omega (arith, part-within _ _ (c .before .before .before .judge .ensures) (c .before .enum-told .given .1), c .before .before .before .before .before .good .0)
 
 -- src/verdict.rt:118:14
 add-at : tie.Need-add-at
-add-at c = ?
+add-at c = omega (arith, part-within _ _ (c .before .before .before .before .judge .ensures) (c .before .before .enum-told .given .1), c .before .before .before .before .before .before .good .0)
 
 -- src/verdict.rt:118:14
 add-at-2 : tie.Need-add-at-2
-add-at-2 c = ?
+add-at-2 c = omega (arith, part-within _ _ (c .before .before .before .before .judge .ensures) (c .before .before .enum-told .given .1), c .before .before .before .before .before .before .good .0)
 
 -- src/verdict.rt:119:5
 sub-result : tie.Need-sub-result
-sub-result c = ?
+sub-result c = part-within _ _ (c .before .before .before .before .judge .ensures) (c .before .before .enum-told .given .1)
 
 -- src/verdict.rt:119:5
 part-result-start : tie.Need-part-result-start
-part-result-start c = ?
+part-result-start c = part-within _ _ (c .before .before .before .before .judge .ensures) (c .before .before .enum-told .given .1)
 
 -- src/verdict.rt:119:5
 part-result-end : tie.Need-part-result-end
@@ -56,7 +57,7 @@ part-result-end c = search needs
 
 -- src/verdict.rt:110:1
 returns-2 : tie.Need-returns-2
-returns-2 c = ?
+returns-2 c = part-rest _ _ (c .before .before .before .before .before .judge .ensures) (c .before .before .before .enum-told .given .1)
 
 pub slack-part-spec : {M : Type 1} → statement M
 slack-part-spec =

@@ -10,8 +10,8 @@ use Rattle.tasks.specs.Content.{noTask, taskOf}
 use Rattle.table.specs.Bytes.{entries}
 use Rattle.table.specs.Table.{taskBytes}
 use Rattle.table.specs.WriteLaws.{sets-entry, sets-section, length-task}
-use Rattle.table.proofs.write.put_tasks.Statement.{statement}
-use Rattle.table.proofs.write.put_tasks.Tie as tie
+use Rattle.table.proofs.put.put_tasks.Statement.{statement}
+use Rattle.table.proofs.put.put_tasks.Tie as tie
 
 abbrev Inv-loop : tie.InvT-loop
 Inv-loop out₀ at count task from i₀ out i = (i ≤ count) × (length out ≡ length out₀) × (out ≡ sets out₀ from (entries (λ j. taskBytes (taskOf task j)) i))

@@ -4,11 +4,11 @@ use mathlib.Core.Path.{_∙_}
 use lib.ListN.{length-set}
 use borrow.Author.Needs.{needs}
 use Rattle.table.specs.WriteLaws.{length-plan, plan-written}
-use Rattle.table.proofs.write.put_plan.Statement.{statement}
-use Rattle.table.proofs.write.put_plan.Tie as tie
+use Rattle.table.proofs.put.put_plan.Statement.{statement}
+use Rattle.table.proofs.put.put_plan.Tie as tie
 
-offers-requires : tie.Need-offers-requires
-offers-requires c κs = search needs
+slack-count-requires : tie.Need-slack-count-requires
+slack-count-requires c κs = search needs
 
 add-from : tie.Need-add-from
 add-from c = search needs
@@ -43,8 +43,8 @@ put-slack-requires c κs =
     omega (
       arith,
       length-plan (a .t2),
-      d .offers .ensures .0,
-      d .offers .ensures .1,
+      d .slack-count .ensures .0,
+      d .slack-count .ensures .1,
       d .before .before .pre,
       length-set (a .out .now) 0 1,
       c .before .before .before .before .before .before .before .before .before .before .put-labels .kept .0,
@@ -57,12 +57,12 @@ add-result c = search needs
 mul-result : tie.Need-mul-result
 mul-result c =
     let d = c .before .before .before .before .before .before .before .before .before .before .before .before .before .before .before .before .before in
-    omega (arith, d .offers .ensures .1, d .before .before .pre)
+    omega (arith, d .slack-count .ensures .1, d .before .before .pre)
 
 add-result-2 : tie.Need-add-result-2
 add-result-2 c =
     let d = c .before .before .before .before .before .before .before .before .before .before .before .before .before .before .before .before .before in
-    omega (arith, d .offers .ensures .1, d .before .before .pre)
+    omega (arith, d .slack-count .ensures .1, d .before .before .pre)
 
 same-length : tie.Need-same-length
 same-length c =
@@ -73,8 +73,8 @@ returns : tie.Need-returns
 returns c =
     let d = c .before .before .before .before .before .before .before .before .before .before .before .before .before .before .before .before .before in
     let a = d .before .before .args in (
-      omega (arith, length-plan (a .t2), d .offers .ensures .0),
-      plan-written (a .t2) (a .out .now) _ _ _ _ (d .offers .ensures .0) (d .before .before .pre .2)
+      omega (arith, length-plan (a .t2), d .slack-count .ensures .0),
+      plan-written (a .t2) (a .out .now) _ _ _ _ (d .slack-count .ensures .0) (d .before .before .pre .2)
           (c .before .before .before .before .before .before .before .before .before .before .before .before .before .put-labels .ensures) (c .before .before .before .before .before .before .before .before .put-tasks .ensures) (c .before .before .put-slack .ensures),
     )
 
@@ -82,7 +82,7 @@ pub put-plan-spec : {M : Type 1} → statement M
 put-plan-spec =
     tie.close
     (tie.spec
-    offers-requires
+    slack-count-requires
     add-from
     mul-from
     add-from-2

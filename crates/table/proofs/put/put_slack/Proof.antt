@@ -10,8 +10,8 @@ use Rattle.tasks.specs.TaskSet.{row}
 use Rattle.table.specs.Bytes.{digits, entries}
 use Rattle.table.specs.WriteLaws.{sets-entry, sets-section}
 use Rattle.table.specs.ByteLaws.{length-digits}
-use Rattle.table.proofs.write.put_slack.Statement.{statement}
-use Rattle.table.proofs.write.put_slack.Tie as tie
+use Rattle.table.proofs.put.put_slack.Statement.{statement}
+use Rattle.table.proofs.put.put_slack.Tie as tie
 
 abbrev Inv-loop : tie.InvT-loop
 Inv-loop out₀ at slack count from i₀ out i = (i ≤ count) × (length out ≡ length out₀) × (out ≡ sets out₀ from (entries (λ j. digits 4 (row slack j)) i))

@@ -1,4 +1,5 @@
 // The writer's bytes. Document 01, "Bytes of a show table".
+use analysis::slack_count;
 use tasks::Plan;
 use tasks::Task;
 ghost use mathlib.Core.Path.{_≡_};
@@ -75,13 +76,6 @@ pub fn put_slack(out: &mut [u8], at: usize, slack: &[u32; 16], count: usize)
     }
 }
 
-// "The writer writes found slack as count 0".
-pub fn offers(offered: bool, tasks: usize) -> usize
-    ensures { λ r. ⌜ (r ≡ cond offered tasks 0) × (r ≤ tasks) ⌝ }
-{
-    if offered { tasks } else { 0 }
-}
-
 // The bytes of a plan from the buffer's beginning on; later bytes stay. How many there are comes back.
 pub fn put_plan(out: &mut [u8], plan: Plan) -> usize
     requires { ⌜ (plan .cores ≤ 8) × (plan .tasks ≤ 16) × (length (bytesOf (contentOf plan)) ≤ length (now out)) ⌝ }
@@ -89,7 +83,7 @@ pub fn put_plan(out: &mut [u8], plan: Plan) -> usize
 {
     let cores = plan.cores;
     let tasks = plan.tasks;
-    let count = offers(plan.offered, tasks);
+    let count = slack_count(plan.offered, tasks);
     let from = cores + 3 + 12 * tasks;
     out[0] = 1;
     put_labels(out, 1, &plan.labels, cores);

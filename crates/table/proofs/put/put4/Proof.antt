@@ -5,8 +5,8 @@ use lib.ListN.{length-set}
 use borrow.Author.Needs.{needs}
 use Rattle.table.specs.Bytes.{digits}
 use Rattle.table.specs.WriteLaws.{sets-four}
-use Rattle.table.proofs.write.put4.Statement.{statement}
-use Rattle.table.proofs.write.put4.Tie as tie
+use Rattle.table.proofs.put.put4.Statement.{statement}
+use Rattle.table.proofs.put.put4.Tie as tie
 
 cast-out : tie.Need-cast-out
 cast-out c = search needs

@@ -10,8 +10,8 @@ use borrow.Author.Needs.{needs}
 use Rattle.tasks.specs.TaskSet.{row}
 use Rattle.table.specs.Bytes.{entries}
 use Rattle.table.specs.WriteLaws.{sets-entry, sets-section}
-use Rattle.table.proofs.write.put_labels.Statement.{statement}
-use Rattle.table.proofs.write.put_labels.Tie as tie
+use Rattle.table.proofs.put.put_labels.Statement.{statement}
+use Rattle.table.proofs.put.put_labels.Tie as tie
 
 abbrev Inv-loop : tie.InvT-loop
 Inv-loop out₀ at labels count from i₀ out i = (i ≤ count) × (length out ≡ length out₀) × (out ≡ sets out₀ from (entries (λ j. row labels j ∷ []) i))

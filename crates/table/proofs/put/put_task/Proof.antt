@@ -6,8 +6,8 @@ use Rattle.table.specs.Table.{taskBytes}
 use Rattle.table.specs.ByteLaws.{length-digits}
 use Rattle.table.specs.WriteLaws.{sets-three}
 use Rattle.table.specs.Bytes.{digits}
-use Rattle.table.proofs.write.put_task.Statement.{statement}
-use Rattle.table.proofs.write.put_task.Tie as tie
+use Rattle.table.proofs.put.put_task.Statement.{statement}
+use Rattle.table.proofs.put.put_task.Tie as tie
 
 put4-requires : tie.Need-put4-requires
 put4-requires c κs = search needs

@@ -1,0 +1,48 @@
+-- The slack part of a judged table.
+--     part-place    where the slack section's entries begin, from the plan of an accepted judgement
+--     part-rest     the part from there on, part-none of a refused table
+use Prim.Native.Nat.{ℕ, _+_, _*_, _-_, _≤_}
+use mathlib.Core.Path.{_≡_, refl, sym, _∙_, ap}
+use mathlib.Core.List.{List, [], _∷_}
+use native.Mathlib.Omega.{arith}
+use native.Mathlib.Nat.{le-of-eq}
+use lib.ListN.{length, take, drop, length-drop}
+use lib.Seq.{take-all}
+use Rattle.tasks.specs.declared.Answer.{Answer}
+use Rattle.tasks.specs.declared.Answer.the-variants.{Accepted, Refused}
+use Rattle.tasks.specs.Content.{planOf}
+use Rattle.tasks.specs.AnswerLaws.{firstMet-passed}
+use Rattle.table.specs.declared.Judgement.{Judgement}
+use Rattle.table.specs.Table.{coreCount, taskCount, tasksAt, slackCount, slackAt, taskSetIn, contentIn, test1, test2, verdict}
+use Rattle.table.specs.Judged.{onAccepted, zeroPlan, judged, slackPart}
+use Rattle.table.specs.JudgeLaws.{right-length}
+
+module _ (t : List ℕ) (j : Judgement) (e : j ≡ judged t) where
+  verdict-is : j .answer ≡ verdict t
+  unfolding judged
+  verdict-is = ap (λ (r : Judgement). r .answer) e
+
+  pub part-none : (k i : ℕ) → j .answer ≡ Refused k i → [] ≡ slackPart t
+  unfolding slackPart
+  part-none k i a = rw (sym verdict-is ∙ a)
+
+  module _ (a : j .answer ≡ Accepted) where
+    accepted : verdict t ≡ Accepted
+    accepted = sym verdict-is ∙ a
+
+    long : length t ≡ slackAt t + 4 * slackCount t
+    unfolding verdict
+    long = right-length t (firstMet-passed (test2 t) _ (firstMet-passed (test1 t) _ accepted .1) .0)
+
+    pub part-place : j .plan .cores + 12 * j .plan .tasks + 4 ≡ slackAt t
+    unfolding judged planOf contentIn taskSetIn slackAt tasksAt
+    part-place = rw (e, accepted) (omega arith)
+
+    pub part-within : j .plan .cores + 12 * j .plan .tasks + 4 ≤ length t
+    part-within = omega (arith, part-place, long)
+
+    pub part-rest :
+        take (length t - (j .plan .cores + 12 * j .plan .tasks + 4)) (drop (j .plan .cores + 12 * j .plan .tasks + 4) t) ≡ slackPart t
+    unfolding slackPart
+    part-rest =
+        rw (part-place, accepted) (take-all (length t - slackAt t) (drop (slackAt t) t) (le-of-eq (length-drop (slackAt t) t)))
