@@ -1,11 +1,14 @@
 // Whether a state is sound, clause by clause; its table part's test by 3 to 13 is the analysis's.
+use analysis::test;
+use state::State;
+use tasks::Answer;
 use tasks::Task;
 ghost use mathlib.Core.Path.{_≡_};
 ghost use mathlib.Core.Bool.{not, _&&_, _||_};
 ghost use Prim.Native.Nat.{_+_, _-_, _/_, _%_, _<_};
 ghost use Rattle.tasks.specs.TaskSet.{row};
 ghost use lib.Dec.{ltb, leb, eqb};
-ghost use Rattle.state.specs.SoundState.{allOf, loopTest, placeTest};
+ghost use Rattle.state.specs.SoundState.{allOf, loopTest, placeTest, soundOf};
 ghost use Rattle.state.specs.Tests.{labelZero, taskZero, loopHolds, placeHolds};
 
 fn pred(k: usize) -> usize
@@ -264,4 +267,39 @@ fn places(
         k += 1;
     }
     true
+}
+
+// "A state is sound if …"
+pub fn sound(state: State) -> bool
+    ensures { λ r. ⌜ r ≡ soundOf state ⌝ }
+{
+    let plan = state.plan;
+    let clock = state.clock;
+    let cores = plan.cores;
+    let tasks = plan.tasks;
+    let labels = plan.labels;
+    let task = plan.task;
+    let slack = plan.slack;
+    let jobs = state.jobs;
+    let released = state.released;
+    let last = state.last;
+    let remaining = state.remaining;
+    let release = state.release;
+    let answer = test(plan);
+    let Answer::Accepted = answer else {
+        return false;
+    };
+    if !labels_zero(&labels, cores) {
+        return false;
+    }
+    if !tasks_zero(task, &slack, tasks) {
+        return false;
+    }
+    if 4_000_000_000 < clock {
+        return false;
+    }
+    if !loops(tasks, clock, &jobs, &released, &last, &release) {
+        return false;
+    }
+    places(task, clock, &jobs, &release, &remaining)
 }

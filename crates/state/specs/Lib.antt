@@ -20,3 +20,4 @@ pub mod TurnLaws
 pub mod CodeLaws
 pub mod StepLaws
 pub mod Tests
+pub mod CallLaws

@@ -2,6 +2,7 @@
 --     tidy-from         a plan that the test of unused places passes is its tidied plan; tidy-to: and back
 --     tidied-shaped     such a plan has its arrays' lengths
 --     content-tidy      a tidied plan says what the plan says
+--     tidied-code       the tidied plan, array by array
 --     tidy-accepted     so it passes what the plan passes; tidy-tidy: and has no more to lose
 use Prim.Native.Nat.{ℕ, zero, suc, _≤_, _<_}
 use mathlib.Core.Bool.{Bool, true, false, cond, not, _&&_, _||_}
@@ -156,3 +157,21 @@ module _ (p : Plan) (m : p .cores ≤ 8) (n : p .tasks ≤ 16) where
   pub tidy-accepted : testPlan p ≡ Accepted → testPlan (tidy p) ≡ Accepted
   unfolding testPlan
   tidy-accepted a = rw content-tidy a
+
+pub tidied-code :
+    (p : Plan) (labels slack : List ℕ) (task : List Task) → 1 ≤ p .tasks
+    → labels ≡ tab (cut (p .cores) (row (p .labels)) 0) 8
+    → task ≡ tab (cut (p .tasks) (taskOf (p .task)) noTask) 16
+    → slack ≡ tab (cut (p .tasks) (row (p .slack)) 0) 16
+    → _≡_ {A = Plan} (record { offered = p .offered; cores = p .cores; tasks = p .tasks; labels = labels; task = task; slack = slack }) (tidy p)
+unfolding tidy planOf contentOf
+tidied-code p labels slack task n e f g =
+    λ i.
+    record {
+      offered = sym (mark (p .offered) (p .tasks) n) i;
+      cores = p .cores;
+      tasks = p .tasks;
+      labels = e i;
+      task = f i;
+      slack = g i;
+    }

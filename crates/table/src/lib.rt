@@ -7,6 +7,7 @@ mod read;
 mod verdict;
 mod writer;
 
+pub use put::put4;
 pub use verdict::judge;
 pub use verdict::slack_part;
 pub use writer::write;

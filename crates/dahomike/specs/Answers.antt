@@ -1,0 +1,53 @@
+-- What the C functions answer and leave behind, for every input.
+--     answerNumber    the 64-bit number of an answer
+--     judgeTest       1 to 13, and then 24
+--     judgeNumber     the judgement's answer
+--     reportBytes     slack and bound for each loop
+--     judgeLeaves     the lent buffer afterwards
+--     pairOf, Reportable    one task's eight bytes from a plan, and what the plan keeps to so that they fit
+use Prim.Native.Nat.{ℕ, _+_, _*_, _≤_, _<_}
+use mathlib.Core.List.{List, [], _∷_, _++_}
+use lib.ListN.{length, drop}
+use lib.Dec.{ltb}
+use Rattle.tasks.specs.declared.Plan.{Plan}
+use Rattle.tasks.specs.declared.Answer.{Answer}
+use Rattle.tasks.specs.declared.Answer.the-variants.{Accepted, Refused}
+use Rattle.tasks.specs.TaskSet.{bound, row}
+use Rattle.tasks.specs.Content.{Content, taskOf}
+use Rattle.tasks.specs.Tests.{refuse, firstMet}
+use Rattle.table.specs.Bytes.{digits, entries}
+use Rattle.table.specs.Table.{taskCount, contentIn, verdict}
+use Rattle.table.specs.Judged.{onAccepted}
+
+-- "Each of the two answers one 64-bit number: n for judgement, … and 4,294,967,296 × refusal number + index for a refused call."
+unfoldable pub answerNumber : Answer → ℕ → ℕ
+answerNumber Accepted n = n
+answerNumber (Refused k i) n = 4294967296 * k + i
+
+-- "24. The buffer lent … to the C judgement is too short, tested after 3 to 13."
+unfoldable pub judgeTest : List ℕ → ℕ → Answer
+judgeTest t room = firstMet (verdict t ∷ refuse 24 (ltb room (8 * taskCount t)) ∷ [])
+
+unfoldable pub judgeNumber : List ℕ → ℕ → ℕ
+judgeNumber t room = answerNumber (judgeTest t room) (taskCount t)
+
+-- "slack and bound for each loop, 4 bytes each"
+unfoldable pub reportBytes : Content → List ℕ
+reportBytes c = entries (λ i. digits 4 (c .slack i) ++ digits 4 (bound (c .tasks) (c .slack) i)) (c .tasks .count)
+
+-- "to a lent buffer; bytes beyond stay." "Nothing lent is written" on a refusal.
+unfoldable pub judgeLeaves : List ℕ → List ℕ → List ℕ
+judgeLeaves t out =
+    onAccepted (judgeTest t (length out)) (reportBytes (contentIn t) ++ drop (8 * taskCount t) out) out
+
+-- the sum that is a task's bound, from a plan's own arrays
+unfoldable pub boundIn : Plan → ℕ → ℕ
+boundIn p i = taskOf (p .task) i .offset + row (p .slack) i + taskOf (p .task) i .budget
+
+unfoldable pub pairOf : Plan → ℕ → List ℕ
+pairOf p i = digits 4 (row (p .slack) i) ++ digits 4 (boundIn p i)
+
+pub record Reportable (p : Plan) (room : ℕ) : Type 0 where
+  pub few : p .tasks ≤ 16
+  pub fits : 8 * p .tasks ≤ room
+  pub small : (i : ℕ) → i < p .tasks → boundIn p i < 4294967296

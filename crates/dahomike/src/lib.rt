@@ -1,0 +1,72 @@
+// The functions that the desktop planner calls as C functions, over byte slices: a pointer and a length each.
+use table::judge;
+use table::put4;
+use tasks::Answer;
+use tasks::Plan;
+use tasks::refusal;
+ghost use mathlib.Core.Path.{_≡_};
+ghost use mathlib.Core.List.{_++_};
+ghost use Prim.Native.Nat.{ℕ, _+_, _*_, _≤_, _<_};
+ghost use lib.ListN.{length};
+ghost use lib.Seq.{sets};
+ghost use Rattle.tasks.specs.TaskSet.{row};
+ghost use Rattle.tasks.specs.Content.{taskOf};
+ghost use Rattle.table.specs.Bytes.{digits, entries};
+ghost use Rattle.dahomike.specs.Answers.{answerNumber, judgeNumber, judgeLeaves, pairOf, Reportable};
+
+// "4,294,967,296 × refusal number + index for a refused call"
+fn refused(answer: Answer) -> u64
+    ensures { λ r. ⌜ r ≡ answerNumber answer 0 ⌝ }
+{
+    match answer {
+        Answer::Accepted => 0,
+        Answer::Refused { number, index } => 4294967296 * (number as u64) + (index as u64),
+    }
+}
+
+// A task's slack and bound, 4 bytes each, from `at` on.
+fn put_pair(out: &mut [u8], at: usize, slack: u32, bound: u32)
+    requires { ⌜ at + 8 ≤ length (now out) ⌝ }
+    ensures { λ _. ⌜ now (out .exit) ≡ sets (now (out .entry)) at (digits 4 slack ++ digits 4 bound) ⌝ }
+{
+    put4(out, at, slack);
+    put4(out, at + 4, bound);
+}
+
+// "The C judgement writes slack and bound for each loop"
+fn report(plan: Plan, out: &mut [u8])
+    requires { ⌜ Reportable plan (length (now out)) ⌝ }
+    ensures { λ _. ⌜ now (out .exit) ≡ sets (now (out .entry)) 0 (entries (pairOf plan) (plan .tasks)) ⌝ }
+{
+    let tasks = plan.tasks;
+    let task = plan.task;
+    let slack = plan.slack;
+    let mut i = 0;
+    while i < tasks {
+        let t = task[i];
+        put_pair(out, 8 * i, slack[i], t.offset + slack[i] + t.budget);
+        i += 1;
+    }
+}
+
+// The judgement of a table: n and each task's slack and bound, or the refusal.
+#[no_mangle]
+pub extern "C" fn dahomike_judge(table: &[u8], out: &mut [u8]) -> u64
+    ensures { λ r. ⌜ (r ≡ judgeNumber (now (table .entry)) (length (now (out .entry)))) × (now (out .exit) ≡ judgeLeaves (now (table .entry)) (now (out .entry))) ⌝ }
+{
+    let judgement = judge(table);
+    let answer = judgement.answer;
+    let Answer::Accepted = answer else {
+        return refused(answer);
+    };
+    let plan = judgement.plan;
+    let tasks = plan.tasks;
+    if out.len() < 8 * tasks {
+        return refused(Answer::Refused {
+            number: refusal::BUFFER,
+            index: 0,
+        });
+    }
+    report(plan, out);
+    tasks as u64
+}

@@ -1,0 +1,41 @@
+use Rattle.state.specs.CallLaws.{step-passed, step-refused, step-taken}
+use native.Mathlib.Omega.{arith}
+use native.Mathlib.Numerals.{add-one}
+use Prim.Native.Nat.{ℕ, _≤_, _<_, _+_, _*_, _-_}
+use mathlib.Core.Path.{_≡_, refl, ap, sym, _∙_}
+use mathlib.Core.Logic.{⊎-elim}
+use lib.ListN.{length, getD, set, length-set}
+use borrow.Author.Needs.{needs}
+use Rattle.engine.proofs.calls.step.Statement.{statement}
+use Rattle.engine.proofs.calls.step.Tie as tie
+use Rattle.engine.proofs.calls.step.Reads as reads
+use Rattle.engine.proofs.calls.step.Lts as lts
+use Rattle.engine.proofs.calls.step_test.Reads as step-test-reads
+use Rattle.engine.proofs.tick.tick.Reads as tick-reads
+
+-- src/calls.rt:166:9
+step-test-requires : tie.Need-step-test-requires
+step-test-requires c κs = search needs
+
+enum-told : tie.Need-enum-told
+enum-told c = search needs
+
+-- src/calls.rt:171:19
+enum-told-2 : tie.Need-enum-told-2
+enum-told-2 c = search needs
+
+-- src/calls.rt:168:9
+returns : tie.Need-returns
+returns c = step-refused (c .before .before .before .args .state) _ _ _ (c .before .before .step-test .ensures) (c .enum-told2 .given .1)
+
+-- src/calls.rt:175:5
+tick-requires : tie.Need-tick-requires
+tick-requires c κs = step-passed (c .before .before .before .args .state) (sym (c .before .before .step-test .ensures) ∙ c .enum-told .given .1)
+
+-- src/calls.rt:163:1
+returns-2 : tie.Need-returns-2
+returns-2 c = step-taken (c .before .before .before .before .args .state) _ _ (c .before .before .before .step-test .ensures) (c .before .enum-told .given .1) (c .tick .ensures)
+
+pub step-spec : {M : Type 1} → statement M
+step-spec =
+    tie.close (tie.spec step-test-requires enum-told enum-told-2 returns tick-requires returns-2)

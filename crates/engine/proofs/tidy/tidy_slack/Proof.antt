@@ -1,0 +1,80 @@
+use Rattle.tasks.specs.Content.{noTask, taskOf}
+use Rattle.tasks.specs.TaskSet.{row}
+use Rattle.laws.specs.TabLaws.{filled-none, filled-next}
+use Rattle.laws.specs.Tab.{tab, cut}
+use borrow.Author.Needs.{needs}
+use native.Mathlib.Omega.{arith}
+use native.Mathlib.Numerals.{add-one}
+use Prim.Native.Nat.{ℕ, _≤_, _<_, _+_, _*_, _-_}
+use mathlib.Core.Path.{_≡_, refl, ap, sym, _∙_}
+use mathlib.Core.Logic.{⊎-elim}
+use lib.ListN.{length, getD, set, length-set}
+use Rattle.engine.proofs.tidy.tidy_slack.Statement.{statement}
+use Rattle.engine.proofs.tidy.tidy_slack.Tie as tie
+use Rattle.engine.proofs.tidy.tidy_slack.Reads as reads
+use Rattle.engine.proofs.tidy.tidy_slack.Lts as lts
+
+abbrev Inv-loop : tie.InvT-loop
+Inv-loop slack tasks out₀ i₀ out i = (i ≤ tasks) × (out ≡ tab (cut i (row slack) 0) 16)
+
+abbrev μ-loop : tie.MeasureT-loop
+μ-loop slack tasks out₀ i₀ out i = tasks - i
+
+-- src/tidy.rt:32:5
+loop-holds : tie.Need-loop-holds Inv-loop μ-loop
+loop-holds c = (omega arith, filled-none _ 0 16)
+
+-- src/tidy.rt:33:18
+mul-out : tie.Need-mul-out Inv-loop μ-loop
+mul-out c = search needs
+
+-- src/tidy.rt:33:18
+element-copy-out-out : tie.Need-element-copy-out-out Inv-loop μ-loop
+element-copy-out-out c = search needs
+
+-- src/tidy.rt:33:9
+mul-out-2 : tie.Need-mul-out-2 Inv-loop μ-loop
+mul-out-2 c = search needs
+
+-- src/tidy.rt:33:9
+array-write-out : tie.Need-array-write-out Inv-loop μ-loop
+array-write-out c = search needs
+
+-- src/tidy.rt:34:9
+add-i : tie.Need-add-i Inv-loop μ-loop
+add-i c = search needs
+
+-- src/tidy.rt:32:5
+loop-less : tie.Need-loop-less Inv-loop μ-loop
+loop-less c = search needs
+
+-- src/tidy.rt:32:5
+loop-again : tie.Need-loop-again Inv-loop μ-loop
+unfolding row
+loop-again c =
+    let l = c .before .before .loop in
+    let a = c .before .before .before .args in
+    (omega arith, rw (l .inv .1) (filled-next (row (a .slack .now)) 0 (l .i) 16 (omega arith)))
+
+-- src/tidy.rt:26:1
+returns : tie.Need-returns Inv-loop μ-loop
+returns c =
+    let l = c .before .loop in
+    let e : l .i ≡ c .before .before .args .tasks = omega arith in
+    rw e at (l .inv .1)
+
+pub tidy-slack-spec : {M : Type 1} → statement M
+tidy-slack-spec =
+    tie.close
+    (tie.spec
+    Inv-loop
+    μ-loop
+    loop-holds
+    mul-out
+    element-copy-out-out
+    mul-out-2
+    array-write-out
+    add-i
+    loop-less
+    loop-again
+    returns)

@@ -1,0 +1,176 @@
+// The calls on a state that are offered to others: each tests what it is handed, and answers for every input.
+use crate::sound::sound;
+use crate::tick::admit;
+use crate::tick::tick;
+use crate::tidy::empty;
+use crate::tidy::tidied;
+use crate::tidy::zeros;
+use analysis::test;
+use state::Opened;
+use state::Released;
+use state::State;
+use state::Stepped;
+use tasks::Answer;
+use tasks::Plan;
+ghost use mathlib.Core.Path.{_≡_};
+ghost use Rattle.machine.specs.Machine.{within};
+ghost use Rattle.state.specs.State.{lastOf};
+ghost use Rattle.state.specs.Calls.{openOf, stepTests, releaseOf, stepOf};
+ghost use Rattle.state.specs.CallLaws.{admission};
+
+// Document 01's refusal numbers of a state and of a release.
+const SOUND: u8 = 18;
+
+const CLOCK: u8 = 19;
+
+const KNOWN: u8 = 20;
+
+const DEMAND: u8 = 21;
+
+const APART: u8 = 22;
+
+const ROOM: u8 = 23;
+
+// 18 and 19.
+fn step_test(state: State) -> Answer
+    ensures { λ r. ⌜ r ≡ stepTests state ⌝ }
+{
+    if !sound(state) {
+        return Answer::Refused {
+            number: SOUND,
+            index: 0,
+        };
+    }
+    if state.clock == 4_000_000_000 {
+        return Answer::Refused {
+            number: CLOCK,
+            index: 0,
+        };
+    }
+    Answer::Accepted
+}
+
+// "The loop's last taken release is less than T ticks ago."
+fn too_soon(separation: u32, clock: u32, flag: bool, last: u32) -> bool
+    ensures { λ r. ⌜ r ≡ within separation clock (lastOf flag last) ⌝ }
+{
+    if !flag {
+        return false;
+    }
+    (clock as u64) < last as u64 + separation as u64
+}
+
+// 21, 22 and 23, for a task of the table.
+fn admission_test(
+    separation: u32,
+    budget: u32,
+    clock: u32,
+    demand: u32,
+    jobs: usize,
+    flag: bool,
+    last: u32,
+) -> Answer
+    ensures { λ r. ⌜ r ≡ admission separation budget clock demand jobs flag last ⌝ }
+{
+    if demand < 1 {
+        return Answer::Refused {
+            number: DEMAND,
+            index: 0,
+        };
+    }
+    if budget < demand {
+        return Answer::Refused {
+            number: DEMAND,
+            index: 0,
+        };
+    }
+    if too_soon(separation, clock, flag, last) {
+        return Answer::Refused {
+            number: APART,
+            index: 0,
+        };
+    }
+    if 16 <= jobs {
+        return Answer::Refused {
+            number: ROOM,
+            index: 0,
+        };
+    }
+    Answer::Accepted
+}
+
+// Opens the engine on a plan.
+pub fn open(plan: Plan) -> Opened
+    ensures { λ r. ⌜ r ≡ openOf plan ⌝ }
+{
+    let answer = test(plan);
+    let Answer::Accepted = answer else {
+        let state = zeros();
+        return Opened { answer, state };
+    };
+    let tidy = tidied(plan);
+    let state = empty(tidy);
+    Opened {
+        answer: Answer::Accepted,
+        state,
+    }
+}
+
+// Hands the engine a release of a task, with its demand.
+pub fn release(state: State, task: usize, demand: u32) -> Released
+    ensures { λ r. ⌜ r ≡ releaseOf state task demand ⌝ }
+{
+    let answer = step_test(state);
+    let Answer::Accepted = answer else {
+        return Released { answer, state };
+    };
+    let plan = state.plan;
+    let tasks = plan.tasks;
+    if tasks <= task {
+        return Released {
+            answer: Answer::Refused {
+                number: KNOWN,
+                index: 0,
+            },
+            state,
+        };
+    }
+    let all = plan.task;
+    let t = all[task];
+    let jobs = state.jobs;
+    let released = state.released;
+    let last = state.last;
+    let answer = admission_test(
+        t.separation,
+        t.budget,
+        state.clock,
+        demand,
+        jobs[task],
+        released[task],
+        last[task],
+    );
+    let Answer::Accepted = answer else {
+        return Released { answer, state };
+    };
+    let next = admit(state, task, demand);
+    Released {
+        answer: Answer::Accepted,
+        state: next,
+    }
+}
+
+// Steps the engine by one tick.
+pub fn step(state: State) -> Stepped
+    ensures { λ r. ⌜ r ≡ stepOf state ⌝ }
+{
+    let answer = step_test(state);
+    let Answer::Accepted = answer else {
+        return Stepped {
+            answer,
+            state,
+            runs: [255u8; 8],
+            responses: [0u32; 16],
+        };
+    };
+    tick(state)
+}

@@ -1,0 +1,184 @@
+// Plans handed to `write`, also those that `judge` would never make: P1's, P8's and P9's plans, changed.
+use crate::draft::Draft;
+use crate::draft::front;
+use crate::draft::on_cores;
+use crate::draft::p1;
+use crate::judged;
+use crate::say;
+use crate::written;
+use tasks::Plan;
+use tasks::Task;
+
+// A plan that comes out as the given table in `room` bytes.
+fn accepted(name: &[u8], plan: Plan, room: usize, table: Draft) {
+    say::case(b"plan ", name);
+    let held = table.bytes;
+    written::outcome(plan, room, front(&held, table.length));
+}
+
+fn refused(name: &[u8], plan: Plan, room: usize) {
+    say::case(b"plan ", name);
+    written::outcome(plan, room, b"");
+}
+
+fn p1_plan() -> Plan {
+    judged::plan(p1().found())
+}
+
+// The mark and the slack changed.
+fn offering(offered: bool, x: u32, y: u32, z: u32) -> Plan {
+    let mut plan = p1_plan();
+    plan.offered = offered;
+    plan.slack[0] = x;
+    plan.slack[1] = y;
+    plan.slack[2] = z;
+    plan
+}
+
+fn counting(cores: usize, tasks: usize) -> Plan {
+    let mut plan = p1_plan();
+    plan.cores = cores;
+    plan.tasks = tasks;
+    plan
+}
+
+// The second label changed.
+fn labelled(label: u8) -> Plan {
+    let mut plan = p1_plan();
+    plan.labels[1] = label;
+    plan
+}
+
+// The third loop changed.
+fn with_third(separation: u32, budget: u32, offset: u32) -> Plan {
+    let mut plan = p1_plan();
+    plan.task[2] = Task {
+        separation,
+        budget,
+        offset,
+    };
+    plan
+}
+
+// Numbers in places that two cores and three loops don't use.
+fn littered() -> Plan {
+    let mut plan = p1_plan();
+    plan.labels[2] = 1;
+    plan.labels[7] = 200;
+    plan.task[3] = Task {
+        separation: 0,
+        budget: 7,
+        offset: 9,
+    };
+    plan.slack[3] = 4294967295;
+    plan.slack[15] = 1;
+    plan
+}
+
+// P9 with separation 1001.
+fn p9() -> Plan {
+    let mut plan = judged::plan(
+        on_cores(2, 3)
+            .task(1000, 1, 0)
+            .task(999, 1, 0)
+            .task(1, 1, 1)
+            .found(),
+    );
+    plan.task[1].separation = 1001;
+    plan
+}
+
+// P8 with budgets of 30, of which the found slack is 15, 0, 0. The first loop's is changed.
+fn p8(slack: u32) -> Plan {
+    let mut plan = judged::plan(on_cores(2, 3).task(1, 1, 1).tasks(2, 100, 29, 100).found());
+    plan.task[1].budget = 30;
+    plan.task[2].budget = 30;
+    plan.slack[0] = slack;
+    plan
+}
+
+fn rooms() {
+    let p5 = offering(true, 6, 6, 1);
+    accepted(b"accepted: P1 to its 42 bytes", p1_plan(), 42, p1().found());
+    refused(b"24: P1 to 41 bytes", p1_plan(), 41);
+    refused(b"24: P1 to no bytes", p1_plan(), 0);
+    accepted(
+        b"accepted: P5 to its 54 bytes",
+        p5,
+        54,
+        p1().offering(6, 6, 1),
+    );
+    refused(b"24: P5 to 53 bytes", p5, 53);
+    accepted(
+        b"accepted: unused places that are not zero",
+        littered(),
+        400,
+        p1().found(),
+    );
+}
+
+fn frames() {
+    refused(b"3: 0 cores", counting(0, 3), 400);
+    refused(b"3: 9 cores", counting(9, 16), 400);
+    refused(
+        b"3: 18446744073709551615 cores",
+        counting(18446744073709551615, 3),
+        400,
+    );
+    refused(b"4: labels 0 and 64", labelled(64), 400);
+    refused(b"4: labels 0 and 0", labelled(0), 400);
+    refused(b"5: 2 loops on 2 cores", counting(2, 2), 400);
+    refused(b"5: 17 loops", counting(2, 17), 400);
+    refused(
+        b"5: 18446744073709551615 loops",
+        counting(2, 18446744073709551615),
+        400,
+    );
+}
+
+fn fields() {
+    refused(b"6: a fourth loop of zeros", counting(2, 4), 400);
+    refused(b"6: separation 100001", with_third(100001, 20, 90), 400);
+    refused(b"7: budget 0", with_third(100, 0, 90), 400);
+    refused(
+        b"8: offset above its separation",
+        with_third(100, 20, 101),
+        400,
+    );
+    refused(b"9: P9 with separation 1001", p9(), 400);
+    refused(b"10: P7", with_third(100, 21, 90), 400);
+}
+
+fn slacks() {
+    refused(
+        b"12: found, with less at the first loop",
+        offering(false, 5, 6, 0),
+        400,
+    );
+    refused(
+        b"12: found, with more at the second loop",
+        offering(false, 6, 7, 0),
+        400,
+    );
+    refused(b"12: found, with P5's slack", offering(false, 6, 6, 1), 400);
+    refused(b"12: P4", offering(true, 5, 6, 0), 400);
+    refused(
+        b"13: offered, with a bound above 16 separations",
+        offering(true, 141, 142, 141),
+        400,
+    );
+}
+
+fn orders() {
+    refused(b"12 before 13", p8(16), 400);
+    refused(b"13 before 24", p8(15), 0);
+    refused(b"3 before 24", counting(0, 0), 0);
+}
+
+pub fn cases() {
+    rooms();
+    frames();
+    fields();
+    slacks();
+    orders();
+}
