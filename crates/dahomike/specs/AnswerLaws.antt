@@ -107,7 +107,7 @@ module _ (t out : List ℕ) (j : Judgement) (e : j ≡ judged t) where
 
     report-is : entries (pairOf (j .plan)) (j .plan .tasks) ≡ reportBytes (contentIn t)
     unfolding reportBytes contentIn taskSetIn
-    report-is = rw count-is (entries-same _ _ (taskCount t) pair-at)
+    report-is = ap (entries (pairOf (j .plan))) count-is ∙ entries-same _ _ (taskCount t) pair-at
 
     report-long : length (entries (pairOf (j .plan)) (j .plan .tasks)) ≡ 8 * taskCount t
     unfolding pairOf
