@@ -1,17 +1,5 @@
-pub mod Columns
-pub mod Stages
-pub mod StageLaws
-pub mod Rates
-pub mod RatesLaws
-pub mod Settling
-pub mod SettlingLaws
-pub mod NeedLaws
-pub mod Weights
-pub mod Bounds
 pub mod Settled
 pub mod SettledLaws
-pub mod SettleLaws
-pub mod SearchLaws
 pub mod PlanTest
 pub mod PlanTestLaws
 pub mod JudgingLaws

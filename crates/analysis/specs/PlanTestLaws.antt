@@ -21,9 +21,9 @@ use Rattle.tasks.specs.Content.{Content, contentOf}
 use Rattle.tasks.specs.Tests.{lowest, firstMet, orNext, test11, test12, test13, tests, testPlan}
 use Rattle.tasks.specs.AnswerLaws.{lowest-ext, lowest-passed, orNext-passed, firstMet-passed}
 use Rattle.tasks.specs.LimitsLaws.{limitTests, slackTests, tests-split, limits-passed}
-use Rattle.analysis.specs.declared.columns.Columns.{Columns}
-use Rattle.analysis.specs.Columns.{columnsOf, setFrom}
-use Rattle.analysis.specs.Bounds.{overBound, boundsTest}
+use Rattle.fields.specs.declared.columns.Columns.{Columns}
+use Rattle.fields.specs.Columns.{columnsOf, setFrom}
+use Rattle.fields.specs.Bounds.{overBound, boundsTest}
 use Rattle.analysis.specs.Settled.{offering, offeredTest, hadSlack}
 use Rattle.analysis.specs.SettledLaws.{columns-set}
 use Rattle.analysis.specs.PlanTest.{boundsOf, foundTest}

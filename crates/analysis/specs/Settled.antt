@@ -20,7 +20,7 @@ use Rattle.tasks.specs.TaskSet.{TaskSet, covers, found, row}
 use Rattle.tasks.specs.Content.{Content, contentOf}
 use Rattle.tasks.specs.Tests.{refuse, lowest, firstMet, orNext, test6, test7, test8, test9, test10, test11}
 use Rattle.tasks.specs.LimitsLaws.{limitTests}
-use Rattle.analysis.specs.Rates.{ratesTest}
+use Rattle.slack.specs.Rates.{ratesTest}
 use Rattle.analysis.specs.declared.settle.Settled.{Settled}
 
 unfoldable pub offering : Plan → ℕ → Content

@@ -25,11 +25,11 @@ use Rattle.tasks.specs.Tests.{badLabel, lowest, firstMet, orNext, test3, test4,
 use Rattle.tasks.specs.AnswerLaws.{refuse-passed, lowest-ext, firstMet-append, firstMet-passed}
 use Rattle.tasks.specs.Limits.{Limits}
 use Rattle.tasks.specs.LimitsLaws.{limitTests}
-use Rattle.analysis.specs.Columns.{columnsOf, setFrom}
-use Rattle.analysis.specs.Stages.{frameTest, fieldsTest}
-use Rattle.analysis.specs.Rates.{Ranges, ratesTest}
+use Rattle.fields.specs.Columns.{columnsOf, setFrom}
+use Rattle.fields.specs.Stages.{frameTest, fieldsTest}
+use Rattle.slack.specs.Rates.{Ranges, ratesTest}
 use Rattle.analysis.specs.Settled.{offering, slackTest, offeredTest, hadSlack}
-use Rattle.analysis.specs.SettleLaws.{Framed}
+use Rattle.slack.specs.SettleLaws.{Framed}
 
 -- a field of a list's tasks, as a column has it
 column : (n : ℕ) (l : List Task) (field : Task → ℕ) → field noTask ≡ 0 → n ≤ 16 → (i : ℕ) →

@@ -1,7 +1,7 @@
 // The test of a plan that is handed in unchecked, by 3 to 13: the writer's and the opening's.
-use crate::bounds::bounds;
-use crate::columns::split;
 use crate::settle::settle;
+use fields::bounds::bounds;
+use fields::columns::split;
 use tasks::Answer;
 use tasks::Plan;
 use tasks::refusal;

@@ -1,12 +1,12 @@
 // A plan's tests 3 to 12 and the slack that it has: offered slack is tested, and slack that is not offered is found.
-use crate::amount::amount;
-use crate::amount::first_chosen;
-use crate::columns::split;
-use crate::fields::fields;
-use crate::frame::frame;
-use crate::rates::rate;
-use crate::slack::first_uncovered;
-use crate::slack::search;
+use fields::columns::split;
+use fields::fields::fields;
+use fields::frame::frame;
+use slack::amount::amount;
+use slack::amount::first_chosen;
+use slack::rates::rate;
+use slack::slack::first_uncovered;
+use slack::slack::search;
 use tasks::Answer;
 use tasks::Plan;
 use tasks::refusal;
@@ -14,11 +14,11 @@ ghost use mathlib.Core.Path.{_≡_};
 ghost use Prim.Native.Nat.{_≤_};
 ghost use Rattle.laws.specs.Tab.{tab, cut};
 ghost use Rattle.tasks.specs.TaskSet.{TaskSet, row};
-ghost use Rattle.analysis.specs.Settling.{Settling};
-ghost use Rattle.analysis.specs.SettleLaws.{Framed};
+ghost use Rattle.slack.specs.Settling.{Settling};
+ghost use Rattle.slack.specs.SettleLaws.{Framed};
 ghost use Rattle.analysis.specs.Settled.{Settles, Offered, RatesSettle, TasksSettle};
-ghost use Rattle.analysis.specs.Columns.{setFrom};
-ghost use Rattle.analysis.specs.Rates.{Ranges};
+ghost use Rattle.fields.specs.Columns.{setFrom};
+ghost use Rattle.slack.specs.Rates.{Ranges};
 
 // The answer, and where it is no refusal the slack, offered or found, with zeros in unused places.
 pub struct Settled {

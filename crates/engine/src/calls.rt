@@ -1,11 +1,11 @@
 // The calls on a state that are offered to others: each tests what it is handed, and answers for every input.
-use crate::sound::sound;
-use crate::tick::admit;
-use crate::tick::tick;
+use crate::advance::admit;
+use crate::advance::tick;
 use crate::tidy::empty;
 use crate::tidy::tidied;
 use crate::tidy::zeros;
 use analysis::test;
+use soundness::sound;
 use state::Opened;
 use state::Released;
 use state::State;

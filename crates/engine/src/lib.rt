@@ -1,11 +1,11 @@
-// The engine: opening, release and step on the state, each as document 01 says. Definitions are in the crate state.
+// The engine: opening, release and step on the state, each as document 01 says; definitions are in the crate state. `tick` and `admit` assume
+// a sound state, for callers that keep soundness by proof.
+mod advance;
 mod calls;
-mod choose;
-mod serve;
-mod sound;
-mod tick;
 mod tidy;
 
+pub use advance::admit;
+pub use advance::tick;
 pub use calls::open;
 pub use calls::release;
 pub use calls::step;

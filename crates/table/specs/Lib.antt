@@ -5,10 +5,6 @@ pub mod ByteLaws
 pub mod Stages
 pub mod StageLaws
 pub mod WriteLaws
-pub mod KeptLaws
-pub mod SectionLaws
-pub mod BackLaws
-pub mod RoundTrip
 pub mod LoadedLaws
 pub mod JudgeLaws
 pub mod PartLaws

@@ -1,4 +1,10 @@
 // Tables in the making: bytes are added in the order that document 01 gives them, right or wrong.
+
+// The loops of P1, and of P7, which has another third budget.
+pub const P1: [u32; 9] = [10, 9, 10, 10, 9, 10, 100, 20, 90];
+
+pub const P7: [u32; 9] = [10, 9, 10, 10, 9, 10, 100, 21, 90];
+
 // The first `length` of the bytes are the table.
 pub struct Draft {
     pub bytes: [u8; 300],
@@ -60,11 +66,6 @@ impl Draft {
     pub fn found(self) -> Draft {
         self.byte(0)
     }
-
-    // The slack section of a table of three loops.
-    pub fn offering(self, x: u32, y: u32, z: u32) -> Draft {
-        self.byte(3).number(x).number(y).number(z)
-    }
 }
 
 // The table up to its loops, of which there will be `tasks`, on `cores` cores labelled 0, 1, and so on.
@@ -78,22 +79,17 @@ pub fn on_cores(cores: u8, tasks: u8) -> Draft {
     draft.byte(tasks)
 }
 
-// Two loops like P1's first two and the one given, on the cores labelled 0 and 1.
-pub fn with_third(separation: u32, budget: u32, offset: u32) -> Draft {
+// Three loops, T, C and Y of each in turn, on the cores labelled 0 and 1.
+pub fn three(t: [u32; 9]) -> Draft {
     on_cores(2, 3)
-        .task(10, 9, 10)
-        .task(10, 9, 10)
-        .task(separation, budget, offset)
+        .task(t[0], t[1], t[2])
+        .task(t[3], t[4], t[5])
+        .task(t[6], t[7], t[8])
 }
 
-// The loops of P1.
-pub fn p1() -> Draft {
-    with_third(100, 20, 90)
-}
-
-// The loops of P7: P1 with third budget 21.
-pub fn p7() -> Draft {
-    with_third(100, 21, 90)
+// The same with a slack section of three entries.
+pub fn offering(t: [u32; 9], x: [u32; 3]) -> Draft {
+    three(t).byte(3).number(x[0]).number(x[1]).number(x[2])
 }
 
 // Three equal loops, on two cores with these labels. Their found slack is zeros.

@@ -1,6 +1,8 @@
 // A table's case: what `judge` and `slack_part` answer to it, and what comes of writing the plan.
 use crate::draft::Draft;
 use crate::draft::front;
+use crate::draft::offering;
+use crate::draft::three;
 use crate::same::all_zero;
 use crate::same::unused_zero;
 use crate::say;
@@ -68,9 +70,20 @@ pub fn draft(name: &[u8], draft: Draft) {
     bytes(name, front(&held, draft.length));
 }
 
-// The plan of an accepted table, for a case that changes it.
-pub fn plan(draft: Draft) -> Plan {
-    let held = draft.bytes;
-    let judgement = table::judge(front(&held, draft.length));
+// A table of three loops that offers no slack.
+pub fn found(name: &[u8], t: [u32; 9]) {
+    draft(name, three(t).found());
+}
+
+// A table of three loops that offers slack.
+pub fn offered(name: &[u8], t: [u32; 9], x: [u32; 3]) {
+    draft(name, offering(t, x));
+}
+
+// The plan of three loops that are accepted, for a case that changes it.
+pub fn plan(t: [u32; 9]) -> Plan {
+    let table = three(t).found();
+    let held = table.bytes;
+    let judgement = table::judge(front(&held, table.length));
     judgement.plan
 }

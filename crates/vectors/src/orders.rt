@@ -1,8 +1,9 @@
 // Tables that meet two numbers: the lower is answered, and each is tested over all entries before the next.
 use crate::draft::Draft;
+use crate::draft::P1;
+use crate::draft::P7;
 use crate::draft::on_cores;
-use crate::draft::p1;
-use crate::draft::p7;
+use crate::draft::three;
 use crate::judged;
 
 fn counts() {
@@ -24,44 +25,22 @@ fn counts() {
 }
 
 fn fields() {
-    judged::draft(
+    judged::found(
         b"6 over all loops before 7",
-        on_cores(2, 3)
-            .task(10, 0, 10)
-            .task(10, 9, 10)
-            .task(0, 20, 90)
-            .found(),
+        [10, 0, 10, 10, 9, 10, 0, 20, 90],
     );
-    judged::draft(
+    judged::found(
         b"7 over all loops before 8",
-        on_cores(2, 3)
-            .task(10, 9, 11)
-            .task(10, 9, 10)
-            .task(100, 0, 90)
-            .found(),
+        [10, 9, 11, 10, 9, 10, 100, 0, 90],
     );
-    judged::draft(
-        b"8 before 9",
-        on_cores(2, 3)
-            .task(1000, 1, 0)
-            .task(1001, 1, 0)
-            .task(1, 1, 2)
-            .found(),
-    );
+    judged::found(b"8 before 9", [1000, 1, 0, 1001, 1, 0, 1, 1, 2]);
 }
 
 fn sums() {
-    judged::draft(
-        b"9 before 10",
-        on_cores(2, 3)
-            .task(1000, 1000, 0)
-            .task(1001, 1001, 0)
-            .task(1, 1, 1)
-            .found(),
-    );
-    judged::draft(b"10 before 11", p7().byte(2).number(6).number(6));
-    judged::draft(b"11 before 12", p1().byte(2).number(0).number(0));
-    judged::draft(b"12 before 13", p1().offering(0, 200, 0));
+    judged::found(b"9 before 10", [1000, 1000, 0, 1001, 1001, 0, 1, 1, 1]);
+    judged::draft(b"10 before 11", three(P7).byte(2).number(6).number(6));
+    judged::draft(b"11 before 12", three(P1).byte(2).number(0).number(0));
+    judged::offered(b"12 before 13", P1, [0, 200, 0]);
 }
 
 pub fn cases() {

@@ -1,8 +1,9 @@
 // Plans handed to `write`, also those that `judge` would never make: P1's, P8's and P9's plans, changed.
 use crate::draft::Draft;
+use crate::draft::P1;
 use crate::draft::front;
-use crate::draft::on_cores;
-use crate::draft::p1;
+use crate::draft::offering;
+use crate::draft::three;
 use crate::judged;
 use crate::say;
 use crate::written;
@@ -22,11 +23,11 @@ fn refused(name: &[u8], plan: Plan, room: usize) {
 }
 
 fn p1_plan() -> Plan {
-    judged::plan(p1().found())
+    judged::plan(P1)
 }
 
 // The mark and the slack changed.
-fn offering(offered: bool, x: u32, y: u32, z: u32) -> Plan {
+fn with_slack(offered: bool, x: u32, y: u32, z: u32) -> Plan {
     let mut plan = p1_plan();
     plan.offered = offered;
     plan.slack[0] = x;
@@ -35,6 +36,7 @@ fn offering(offered: bool, x: u32, y: u32, z: u32) -> Plan {
     plan
 }
 
+// The counts changed.
 fn counting(cores: usize, tasks: usize) -> Plan {
     let mut plan = p1_plan();
     plan.cores = cores;
@@ -77,20 +79,14 @@ fn littered() -> Plan {
 
 // P9 with separation 1001.
 fn p9() -> Plan {
-    let mut plan = judged::plan(
-        on_cores(2, 3)
-            .task(1000, 1, 0)
-            .task(999, 1, 0)
-            .task(1, 1, 1)
-            .found(),
-    );
+    let mut plan = judged::plan([1000, 1, 0, 999, 1, 0, 1, 1, 1]);
     plan.task[1].separation = 1001;
     plan
 }
 
 // P8 with budgets of 30, of which the found slack is 15, 0, 0. The first loop's is changed.
 fn p8(slack: u32) -> Plan {
-    let mut plan = judged::plan(on_cores(2, 3).task(1, 1, 1).tasks(2, 100, 29, 100).found());
+    let mut plan = judged::plan([1, 1, 1, 100, 29, 100, 100, 29, 100]);
     plan.task[1].budget = 30;
     plan.task[2].budget = 30;
     plan.slack[0] = slack;
@@ -98,22 +94,27 @@ fn p8(slack: u32) -> Plan {
 }
 
 fn rooms() {
-    let p5 = offering(true, 6, 6, 1);
-    accepted(b"accepted: P1 to its 42 bytes", p1_plan(), 42, p1().found());
+    let p5 = with_slack(true, 6, 6, 1);
+    accepted(
+        b"accepted: P1 to its 42 bytes",
+        p1_plan(),
+        42,
+        three(P1).found(),
+    );
     refused(b"24: P1 to 41 bytes", p1_plan(), 41);
     refused(b"24: P1 to no bytes", p1_plan(), 0);
     accepted(
         b"accepted: P5 to its 54 bytes",
         p5,
         54,
-        p1().offering(6, 6, 1),
+        offering(P1, [6, 6, 1]),
     );
     refused(b"24: P5 to 53 bytes", p5, 53);
     accepted(
         b"accepted: unused places that are not zero",
         littered(),
         400,
-        p1().found(),
+        three(P1).found(),
     );
 }
 
@@ -152,19 +153,23 @@ fn fields() {
 fn slacks() {
     refused(
         b"12: found, with less at the first loop",
-        offering(false, 5, 6, 0),
+        with_slack(false, 5, 6, 0),
         400,
     );
     refused(
         b"12: found, with more at the second loop",
-        offering(false, 6, 7, 0),
+        with_slack(false, 6, 7, 0),
         400,
     );
-    refused(b"12: found, with P5's slack", offering(false, 6, 6, 1), 400);
-    refused(b"12: P4", offering(true, 5, 6, 0), 400);
+    refused(
+        b"12: found, with P5's slack",
+        with_slack(false, 6, 6, 1),
+        400,
+    );
+    refused(b"12: P4", with_slack(true, 5, 6, 0), 400);
     refused(
         b"13: offered, with a bound above 16 separations",
-        offering(true, 141, 142, 141),
+        with_slack(true, 141, 142, 141),
         400,
     );
 }

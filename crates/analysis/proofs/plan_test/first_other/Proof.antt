@@ -8,9 +8,7 @@ use Rattle.laws.specs.FirstLaws.{none-more, found-at}
 use Rattle.laws.specs.Tab.{tab, cut}
 use Rattle.laws.specs.TabLaws.{filled-none, getD-tab, tab-getD}
 use Rattle.tasks.specs.TaskSet.{row}
-use Rattle.analysis.specs.StageLaws.{column-more}
-use Rattle.analysis.specs.Settling.{uncovered, lifted, upto}
-use Rattle.analysis.specs.SettlingLaws.{upto-above, upto-more, upto-same, changed-more, changed-same}
+use Rattle.fields.specs.StageLaws.{column-more}
 use borrow.Author.Needs.{needs}
 use native.Mathlib.Omega.{arith}
 use native.Mathlib.Numerals.{add-one}

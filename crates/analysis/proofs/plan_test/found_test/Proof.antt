@@ -1,6 +1,6 @@
 use Rattle.tasks.specs.Tests.{orNext}
 use Rattle.analysis.specs.PlanTest.{foundTest}
-use Rattle.analysis.specs.StageLaws.{scan-found, scan-none}
+use Rattle.fields.specs.StageLaws.{scan-found, scan-none}
 use native.Mathlib.Omega.{arith}
 use native.Mathlib.Numerals.{add-one}
 use Prim.Native.Nat.{ℕ, _≤_, _<_, _+_, _*_, _-_}

@@ -10,8 +10,8 @@ use Rattle.analysis.proofs.plan_test.plan_bounds.Statement.{statement}
 use Rattle.analysis.proofs.plan_test.plan_bounds.Tie as tie
 use Rattle.analysis.proofs.plan_test.plan_bounds.Reads as reads
 use Rattle.analysis.proofs.plan_test.plan_bounds.Lts as lts
-use Rattle.analysis.proofs.bounds.bounds.Reads as bounds-reads
-use Rattle.analysis.proofs.columns.split.Reads as split-reads
+use Rattle.fields.proofs.bounds.bounds.Reads as bounds-reads
+use Rattle.fields.proofs.columns.split.Reads as split-reads
 
 -- src/plan_test.rt:39:9
 split-requires : tie.Need-split-requires

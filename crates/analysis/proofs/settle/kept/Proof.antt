@@ -1,7 +1,7 @@
 use Rattle.laws.specs.Tab.{tab, cut}
 use Rattle.laws.specs.TabLaws.{filled-none}
 use Rattle.tasks.specs.TaskSet.{row}
-use Rattle.analysis.specs.StageLaws.{column-more}
+use Rattle.fields.specs.StageLaws.{column-more}
 use borrow.Author.Needs.{needs}
 use native.Mathlib.Omega.{arith}
 use native.Mathlib.Numerals.{add-one}

@@ -3,13 +3,13 @@ use Rattle.laws.specs.Sum.{count}
 use Rattle.laws.specs.Tab.{tab, cut}
 use Rattle.largest.specs.Passes.{members}
 use Rattle.laws.specs.TabLaws.{getD-cut}
-use Rattle.analysis.specs.SettleLaws.{offered-refused, offered-passed, offered-slack}
-use Rattle.analysis.specs.SearchLaws.{chosen-first}
-use Rattle.analysis.specs.StageLaws.{not-both}
+use Rattle.slack.specs.SettleLaws.{offered-refused, offered-passed, offered-slack}
+use Rattle.slack.specs.SearchLaws.{chosen-first}
+use Rattle.fields.specs.StageLaws.{not-both}
 use mathlib.Core.List.{List}
 use Rattle.tasks.specs.TaskSet.{TaskSet, row}
-use Rattle.analysis.specs.Settling.{Settling}
-use Rattle.analysis.specs.SettleLaws.{cores-low, cores-high, more, tasks-high, multiple-high, few, surplus-high, amount-row, uncovered-test, row-of-filled}
+use Rattle.slack.specs.Settling.{Settling}
+use Rattle.slack.specs.SettleLaws.{cores-low, cores-high, more, tasks-high, multiple-high, few, surplus-high, amount-row, uncovered-test, row-of-filled}
 use Rattle.analysis.specs.Settled.{Offered}
 use native.Mathlib.Omega.{arith}
 use native.Mathlib.Numerals.{add-one}
@@ -22,11 +22,11 @@ use Rattle.analysis.proofs.settle.offered.Statement.{statement}
 use Rattle.analysis.proofs.settle.offered.Tie as tie
 use Rattle.analysis.proofs.settle.offered.Reads as reads
 use Rattle.analysis.proofs.settle.offered.Lts as lts
-use Rattle.analysis.proofs.amount.amount.Reads as amount-reads
-use Rattle.analysis.proofs.amount.first_chosen.Reads as first-chosen-reads
+use Rattle.slack.proofs.amount.amount.Reads as amount-reads
+use Rattle.slack.proofs.amount.first_chosen.Reads as first-chosen-reads
 use Rattle.analysis.proofs.settle.kept.Reads as kept-reads
 use Rattle.analysis.proofs.settle.unsettled.Reads as unsettled-reads
-use Rattle.analysis.proofs.slack.first_uncovered.Reads as first-uncovered-reads
+use Rattle.slack.proofs.slack.first_uncovered.Reads as first-uncovered-reads
 
 -- as many are chosen at first as are counted
 starts : (s : TaskSet) (shares budgets offsets : List ℕ) (h surpluses m n : ℕ) → Settling s shares budgets offsets h surpluses m n →

@@ -9,11 +9,11 @@ use Rattle.tasks.specs.Tests.{firstMet, orNext, test3, test4, test5, test6, tes
 use Rattle.tasks.specs.AnswerLaws.{orNext-assoc}
 use Rattle.tasks.specs.LimitsLaws.{limitTests}
 use Rattle.analysis.specs.declared.settle.Settled.{Settled}
-use Rattle.analysis.specs.Stages.{frameTest}
-use Rattle.analysis.specs.SettleLaws.{Framed, frame-passed}
+use Rattle.fields.specs.Stages.{frameTest}
+use Rattle.slack.specs.SettleLaws.{Framed, frame-passed}
 use Rattle.analysis.specs.Settled.{offering, offeredTest, taskTests, TasksSettle, Settles}
 use Rattle.analysis.specs.SettledLaws.{frame-tests, limits-split, stopped, passed-on}
-use Rattle.analysis.specs.StageLaws.{not-both}
+use Rattle.fields.specs.StageLaws.{not-both}
 use native.Mathlib.Omega.{arith}
 use native.Mathlib.Numerals.{add-one}
 use Prim.Native.Nat.{ℕ, _≤_, _<_, _+_, _*_, _-_}
@@ -25,7 +25,7 @@ use Rattle.analysis.proofs.settle.settle.Statement.{statement}
 use Rattle.analysis.proofs.settle.settle.Tie as tie
 use Rattle.analysis.proofs.settle.settle.Reads as reads
 use Rattle.analysis.proofs.settle.settle.Lts as lts
-use Rattle.analysis.proofs.frame.frame.Reads as frame-reads
+use Rattle.fields.proofs.frame.frame.Reads as frame-reads
 use Rattle.analysis.proofs.settle.settle_tasks.Reads as settle-tasks-reads
 use Rattle.analysis.proofs.settle.unsettled.Reads as unsettled-reads
 

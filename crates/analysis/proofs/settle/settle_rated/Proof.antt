@@ -6,17 +6,17 @@ use Rattle.laws.specs.Tab.{tab, cut}
 use Rattle.tasks.specs.declared.Answer.{Answer}
 use Rattle.tasks.specs.TaskSet.{TaskSet, found, row}
 use Rattle.tasks.specs.Tests.{orNext}
-use Rattle.analysis.specs.declared.rates.Rates.{Rates}
+use Rattle.slack.specs.declared.rates.Rates.{Rates}
 use Rattle.analysis.specs.declared.settle.Settled.{Settled}
-use Rattle.analysis.specs.Rates.{Ranges, Rated, ratesTest}
-use Rattle.analysis.specs.Settling.{Settling}
-use Rattle.analysis.specs.SettleLaws.{Framed}
+use Rattle.slack.specs.Rates.{Ranges, Rated, ratesTest}
+use Rattle.slack.specs.Settling.{Settling}
+use Rattle.slack.specs.SettleLaws.{Framed}
 use Rattle.analysis.specs.Settled.{Offered, RatesSettle, slackTest}
 use Rattle.tasks.specs.declared.Answer.the-variants.{Accepted, Refused}
-use Rattle.analysis.specs.Columns.{setFrom}
-use Rattle.analysis.specs.SettleLaws.{settling-of}
+use Rattle.fields.specs.Columns.{setFrom}
+use Rattle.slack.specs.SettleLaws.{settling-of}
 use Rattle.analysis.specs.SettledLaws.{limits-from, stopped, passed-on, slack-none, slack-count, slack-offered}
-use Rattle.analysis.specs.StageLaws.{not-both}
+use Rattle.fields.specs.StageLaws.{not-both}
 use native.Mathlib.Omega.{arith}
 use native.Mathlib.Numerals.{add-one}
 use Prim.Native.Nat.{ℕ, _≤_, _<_, _+_, _*_, _-_}
@@ -28,10 +28,10 @@ use Rattle.analysis.proofs.settle.settle_rated.Statement.{statement}
 use Rattle.analysis.proofs.settle.settle_rated.Tie as tie
 use Rattle.analysis.proofs.settle.settle_rated.Reads as reads
 use Rattle.analysis.proofs.settle.settle_rated.Lts as lts
-use Rattle.analysis.proofs.rates.rate.Reads as rate-reads
+use Rattle.slack.proofs.rates.rate.Reads as rate-reads
 use Rattle.analysis.proofs.settle.offered.Reads as offered-reads
 use Rattle.analysis.proofs.settle.unsettled.Reads as unsettled-reads
-use Rattle.analysis.proofs.slack.search.Reads as search-reads
+use Rattle.slack.proofs.slack.search.Reads as search-reads
 
 module _ (m n : ℕ) (separation budget offset slack : List ℕ) (k : ℕ) (f : Framed m n) (g : Ranges (setFrom m n separation budget offset))
     (r : Rates) (e : Rated (setFrom m n separation budget offset) r)

@@ -6,15 +6,15 @@ use Rattle.tasks.specs.declared.Answer.the-variants.{Accepted, Refused}
 use Rattle.tasks.specs.TaskSet.{row}
 use Rattle.tasks.specs.Content.{contentOf}
 use Rattle.tasks.specs.Tests.{firstMet, orNext, test6, test7, test8}
-use Rattle.analysis.specs.declared.columns.Columns.{Columns}
+use Rattle.fields.specs.declared.columns.Columns.{Columns}
 use Rattle.analysis.specs.declared.settle.Settled.{Settled}
-use Rattle.analysis.specs.Columns.{columnsOf, setFrom}
-use Rattle.analysis.specs.Stages.{fieldsTest}
-use Rattle.analysis.specs.Rates.{Ranges}
-use Rattle.analysis.specs.SettleLaws.{Framed, ranges-passed}
+use Rattle.fields.specs.Columns.{columnsOf, setFrom}
+use Rattle.fields.specs.Stages.{fieldsTest}
+use Rattle.slack.specs.Rates.{Ranges}
+use Rattle.slack.specs.SettleLaws.{Framed, ranges-passed}
 use Rattle.analysis.specs.Settled.{offering, taskTests, RatesSettle, TasksSettle}
 use Rattle.analysis.specs.SettledLaws.{columns-set, fields-tests, rates-tests, stopped, passed-on, slack-tests, slack-had}
-use Rattle.analysis.specs.StageLaws.{not-both}
+use Rattle.fields.specs.StageLaws.{not-both}
 use native.Mathlib.Omega.{arith}
 use native.Mathlib.Numerals.{add-one}
 use Prim.Native.Nat.{ℕ, _≤_, _<_, _+_, _*_, _-_}
@@ -26,8 +26,8 @@ use Rattle.analysis.proofs.settle.settle_tasks.Statement.{statement}
 use Rattle.analysis.proofs.settle.settle_tasks.Tie as tie
 use Rattle.analysis.proofs.settle.settle_tasks.Reads as reads
 use Rattle.analysis.proofs.settle.settle_tasks.Lts as lts
-use Rattle.analysis.proofs.columns.split.Reads as split-reads
-use Rattle.analysis.proofs.fields.fields.Reads as fields-reads
+use Rattle.fields.proofs.columns.split.Reads as split-reads
+use Rattle.fields.proofs.fields.fields.Reads as fields-reads
 use Rattle.analysis.proofs.settle.settle_rated.Reads as settle-rated-reads
 use Rattle.analysis.proofs.settle.unsettled.Reads as unsettled-reads
 

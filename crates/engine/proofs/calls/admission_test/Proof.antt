@@ -14,31 +14,25 @@ use Rattle.engine.proofs.calls.admission_test.Reads as reads
 use Rattle.engine.proofs.calls.admission_test.Lts as lts
 use Rattle.engine.proofs.calls.too_soon.Reads as too-soon-reads
 
--- src/calls.rt:76:9
 returns : tie.Need-returns
 unfolding admission firstMet outside
 returns c = rw (lt-ltb _ _ (c .if1 .taken))
 
--- src/calls.rt:82:9
 returns-2 : tie.Need-returns-2
 unfolding admission firstMet outside
 returns-2 c = rw (le-ltb _ _ (c .before .if1 .left), lt-ltb _ _ (c .if2 .taken))
 
--- src/calls.rt:87:8
 too-soon-requires : tie.Need-too-soon-requires
 too-soon-requires c κs = search needs
 
--- src/calls.rt:88:9
 returns-3 : tie.Need-returns-3
 unfolding admission firstMet outside
 returns-3 c = rw (le-ltb _ _ (c .before .before .before .if1 .left), le-ltb _ _ (c .before .before .if2 .left), sym (c .before .too-soon .ensures) ∙ c .if3 .taken)
 
--- src/calls.rt:94:9
 returns-4 : tie.Need-returns-4
 unfolding admission firstMet outside
 returns-4 c = rw (le-ltb _ _ (c .before .before .before .before .if1 .left), le-ltb _ _ (c .before .before .before .if2 .left), sym (c .before .before .too-soon .ensures) ∙ c .before .if3 .left, le-leb _ _ (c .if4 .taken))
 
--- src/calls.rt:64:1
 returns-5 : tie.Need-returns-5
 unfolding admission firstMet outside
 returns-5 c = rw (le-ltb _ _ (c .before .before .before .before .if1 .left), le-ltb _ _ (c .before .before .before .if2 .left), sym (c .before .before .too-soon .ensures) ∙ c .before .if3 .left, lt-leb _ _ (c .if4 .left))

@@ -18,34 +18,27 @@ use Rattle.engine.proofs.tidy.empty.Reads as empty-reads
 use Rattle.engine.proofs.tidy.tidied.Reads as tidied-reads
 use Rattle.engine.proofs.tidy.zeros.Reads as zeros-reads
 
--- src/calls.rt:106:9
 test-requires : tie.Need-test-requires
 test-requires c κs = search needs
 
 enum-told : tie.Need-enum-told
 enum-told c = search needs
 
--- src/calls.rt:108:13
 enum-told-2 : tie.Need-enum-told-2
 enum-told-2 c = search needs
 
--- src/calls.rt:108:13
 zeros-requires : tie.Need-zeros-requires
 zeros-requires c κs = search needs
 
--- src/calls.rt:109:9
 returns : tie.Need-returns
 returns c = open-refused (c .before .before .before .before .args .plan) _ (c .before .before .before .test .ensures) _ _ _ (c .before .enum-told2 .given .1) (c .zeros .ensures)
 
--- src/calls.rt:111:9
 tidied-requires : tie.Need-tidied-requires
 tidied-requires c κs = open-limits (c .before .before .before .args .plan) (sym (c .before .before .test .ensures) ∙ c .enum-told .given .1)
 
--- src/calls.rt:112:9
 empty-requires : tie.Need-empty-requires
 empty-requires c κs = search needs
 
--- src/calls.rt:103:1
 returns-2 : tie.Need-returns-2
 returns-2 c =
     open-accepted (c .before .before .before .before .before .args .plan) _ (c .before .before .before .before .test .ensures) _ (c .before .before .enum-told .given .1)

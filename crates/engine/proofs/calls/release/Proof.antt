@@ -16,72 +16,57 @@ use Rattle.engine.proofs.calls.release.Reads as reads
 use Rattle.engine.proofs.calls.release.Lts as lts
 use Rattle.engine.proofs.calls.admission_test.Reads as admission-test-reads
 use Rattle.engine.proofs.calls.step_test.Reads as step-test-reads
-use Rattle.engine.proofs.tick.admit.Reads as admit-reads
+use Rattle.engine.proofs.advance.admit.Reads as admit-reads
 
--- src/calls.rt:123:9
 step-test-requires : tie.Need-step-test-requires
 step-test-requires c κs = search needs
 
 enum-told : tie.Need-enum-told
 enum-told c = search needs
 
--- src/calls.rt:125:9
 enum-told-2 : tie.Need-enum-told-2
 enum-told-2 c = search needs
 
--- src/calls.rt:125:9
 returns : tie.Need-returns
 returns c = release-unsound (c .before .before .before .args .state) (c .before .before .before .args .task) (c .before .before .before .args .demand) _ _ _ (c .before .before .step-test .ensures) (c .enum-told2 .given .1)
 
--- src/calls.rt:130:9
 returns-2 : tie.Need-returns-2
 returns-2 c = release-not (c .before .before .before .before .before .args .state) (c .before .before .before .before .before .args .task) (c .before .before .before .before .before .args .demand) (sym (c .before .before .before .before .step-test .ensures) ∙ c .before .before .enum-told .given .1) (Refused 20 0) 20 0 (sym (admit-none (c .before .before .before .before .before .args .state) (c .before .before .before .before .before .args .task) (c .before .before .before .before .before .args .demand) (c .if1 .taken))) refl
 
--- src/calls.rt:139:13
 mul-t : tie.Need-mul-t
 mul-t c = omega (arith, step-tasks (c .before .before .before .before .before .before .args .state) (sym (c .before .before .before .before .before .step-test .ensures) ∙ c .before .before .before .enum-told .given .1))
 
--- src/calls.rt:139:13
 array-copy-out-t : tie.Need-array-copy-out-t
 array-copy-out-t c = omega (arith, step-tasks (c .before .before .before .before .before .before .args .state) (sym (c .before .before .before .before .before .step-test .ensures) ∙ c .before .before .before .enum-told .given .1))
 
--- src/calls.rt:148:9
 mul-admission-test : tie.Need-mul-admission-test
 mul-admission-test c = omega (arith, step-tasks (c .before .before .before .before .before .before .before .before .before .before .args .state) (sym (c .before .before .before .before .before .before .before .before .before .step-test .ensures) ∙ c .before .before .before .before .before .before .before .enum-told .given .1))
 
--- src/calls.rt:148:9
 array-read-admission-test : tie.Need-array-read-admission-test
 array-read-admission-test c = omega (arith, step-tasks (c .before .before .before .before .before .before .before .before .before .before .args .state) (sym (c .before .before .before .before .before .before .before .before .before .step-test .ensures) ∙ c .before .before .before .before .before .before .before .enum-told .given .1))
 
--- src/calls.rt:149:9
 array-read-admission-test-2 : tie.Need-array-read-admission-test-2
 array-read-admission-test-2 c = omega (arith, step-tasks (c .before .before .before .before .before .before .before .before .before .before .args .state) (sym (c .before .before .before .before .before .before .before .before .before .step-test .ensures) ∙ c .before .before .before .before .before .before .before .enum-told .given .1))
 
--- src/calls.rt:150:9
 mul-admission-test-2 : tie.Need-mul-admission-test-2
 mul-admission-test-2 c = omega (arith, step-tasks (c .before .before .before .before .before .before .before .before .before .before .args .state) (sym (c .before .before .before .before .before .before .before .before .before .step-test .ensures) ∙ c .before .before .before .before .before .before .before .enum-told .given .1))
 
--- src/calls.rt:150:9
 array-read-admission-test-3 : tie.Need-array-read-admission-test-3
 array-read-admission-test-3 c = omega (arith, step-tasks (c .before .before .before .before .before .before .before .before .before .before .args .state) (sym (c .before .before .before .before .before .before .before .before .before .step-test .ensures) ∙ c .before .before .before .before .before .before .before .enum-told .given .1))
 
--- src/calls.rt:143:9
 admission-test-requires : tie.Need-admission-test-requires
 admission-test-requires c κs = search needs
 
 enum-told-3 : tie.Need-enum-told-3
 enum-told-3 c = search needs
 
--- src/calls.rt:153:9
 enum-told-4 : tie.Need-enum-told-4
 enum-told-4 c = search needs
 
--- src/calls.rt:153:9
 returns-3 : tie.Need-returns-3
 unfolding taskOf noTask row flagAt
 returns-3 c = release-not (c .before .before .before .before .before .before .before .before .before .before .before .before .before .args .state) (c .before .before .before .before .before .before .before .before .before .before .before .before .before .args .task) (c .before .before .before .before .before .before .before .before .before .before .before .before .before .args .demand) (sym (c .before .before .before .before .before .before .before .before .before .before .before .before .step-test .ensures) ∙ c .before .before .before .before .before .before .before .before .before .before .enum-told .given .1) _ _ _ (c .before .before .admission-test .ensures ∙ sym (admit-some (c .before .before .before .before .before .before .before .before .before .before .before .before .before .args .state) (c .before .before .before .before .before .before .before .before .before .before .before .before .before .args .task) (c .before .before .before .before .before .before .before .before .before .before .before .before .before .args .demand) (c .before .before .before .before .before .before .before .before .if1 .left))) (c .enum-told4 .given .1)
 
--- src/calls.rt:155:9
 admit-requires : tie.Need-admit-requires
 unfolding row
 admit-requires c κs = (
@@ -90,7 +75,6 @@ admit-requires c κs = (
   admission-room _ _ _ _ _ _ _ (sym (c .before .before .admission-test .ensures) ∙ c .enum-told3 .given .1),
 )
 
--- src/calls.rt:120:1
 returns-4 : tie.Need-returns-4
 unfolding taskOf noTask row flagAt
 returns-4 c =

@@ -11,28 +11,23 @@ use Rattle.engine.proofs.calls.step.Tie as tie
 use Rattle.engine.proofs.calls.step.Reads as reads
 use Rattle.engine.proofs.calls.step.Lts as lts
 use Rattle.engine.proofs.calls.step_test.Reads as step-test-reads
-use Rattle.engine.proofs.tick.tick.Reads as tick-reads
+use Rattle.engine.proofs.advance.tick.Reads as tick-reads
 
--- src/calls.rt:166:9
 step-test-requires : tie.Need-step-test-requires
 step-test-requires c κs = search needs
 
 enum-told : tie.Need-enum-told
 enum-told c = search needs
 
--- src/calls.rt:171:19
 enum-told-2 : tie.Need-enum-told-2
 enum-told-2 c = search needs
 
--- src/calls.rt:168:9
 returns : tie.Need-returns
 returns c = step-refused (c .before .before .before .args .state) _ _ _ (c .before .before .step-test .ensures) (c .enum-told2 .given .1)
 
--- src/calls.rt:175:5
 tick-requires : tie.Need-tick-requires
 tick-requires c κs = step-passed (c .before .before .before .args .state) (sym (c .before .before .step-test .ensures) ∙ c .enum-told .given .1)
 
--- src/calls.rt:163:1
 returns-2 : tie.Need-returns-2
 returns-2 c = step-taken (c .before .before .before .before .args .state) _ _ (c .before .before .before .step-test .ensures) (c .before .enum-told .given .1) (c .tick .ensures)
 

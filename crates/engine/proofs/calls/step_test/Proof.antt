@@ -12,23 +12,18 @@ use Rattle.engine.proofs.calls.step_test.Statement.{statement}
 use Rattle.engine.proofs.calls.step_test.Tie as tie
 use Rattle.engine.proofs.calls.step_test.Reads as reads
 use Rattle.engine.proofs.calls.step_test.Lts as lts
-use Rattle.engine.proofs.sound.sound.Reads as sound-reads
 
--- src/calls.rt:38:9
 sound-requires : tie.Need-sound-requires
 sound-requires c κs = search needs
 
--- src/calls.rt:39:9
 returns : tie.Need-returns
 unfolding stepTests firstMet
 returns c = rw (sym (c .before .sound .ensures) ∙ not-true _ (c .if1 .taken))
 
--- src/calls.rt:45:9
 returns-2 : tie.Need-returns-2
 unfolding stepTests firstMet
 returns-2 c = rw (sym (c .before .before .before .sound .ensures) ∙ not-false _ (c .before .before .if1 .left), eq-eqb _ _ (c .if2 .taken))
 
--- src/calls.rt:35:1
 returns-3 : tie.Need-returns-3
 unfolding stepTests firstMet
 returns-3 c = rw (sym (c .before .before .before .sound .ensures) ∙ not-false _ (c .before .before .if1 .left), ne-eqb _ _ (c .if2 .left))

@@ -11,15 +11,12 @@ use Rattle.engine.proofs.calls.too_soon.Tie as tie
 use Rattle.engine.proofs.calls.too_soon.Reads as reads
 use Rattle.engine.proofs.calls.too_soon.Lts as lts
 
--- src/calls.rt:58:9
 returns : tie.Need-returns
 returns c = rw (not-true (c .before .args .flag) (c .if1 .taken))
 
--- src/calls.rt:60:22
 add-result : tie.Need-add-result
 add-result c = search needs
 
--- src/calls.rt:54:1
 returns-2 : tie.Need-returns-2
 returns-2 c = rw (not-false (c .before .args .flag) (c .if1 .left))
 

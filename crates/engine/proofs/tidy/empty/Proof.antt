@@ -11,7 +11,6 @@ use Rattle.engine.proofs.tidy.empty.Tie as tie
 use Rattle.engine.proofs.tidy.empty.Reads as reads
 use Rattle.engine.proofs.tidy.empty.Lts as lts
 
--- src/tidy.rt:82:1
 returns : tie.Need-returns
 returns c = opened-empty _
 

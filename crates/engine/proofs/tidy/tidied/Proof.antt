@@ -14,19 +14,15 @@ use Rattle.engine.proofs.tidy.tidy_labels.Reads as tidy-labels-reads
 use Rattle.engine.proofs.tidy.tidy_slack.Reads as tidy-slack-reads
 use Rattle.engine.proofs.tidy.tidy_tasks.Reads as tidy-tasks-reads
 
--- src/tidy.rt:68:9
 tidy-labels-requires : tie.Need-tidy-labels-requires
 tidy-labels-requires c κs = search needs
 
--- src/tidy.rt:69:9
 tidy-tasks-requires : tie.Need-tidy-tasks-requires
 tidy-tasks-requires c κs = search needs
 
--- src/tidy.rt:70:9
 tidy-slack-requires : tie.Need-tidy-slack-requires
 tidy-slack-requires c κs = search needs
 
--- src/tidy.rt:58:1
 returns : tie.Need-returns
 returns c = tidied-code (c .before .before .before .before .before .before .before .before .args .plan) _ _ _ (c .before .before .before .before .before .before .before .before .pre .1) (c .before .before .before .tidy-labels .ensures) (c .before .before .tidy-tasks .ensures) (c .tidy-slack .ensures)
 

@@ -20,27 +20,21 @@ Inv-loop labels cores out₀ i₀ out i = (i ≤ cores) × (out ≡ tab (cut i (
 abbrev μ-loop : tie.MeasureT-loop
 μ-loop labels cores out₀ i₀ out i = cores - i
 
--- src/tidy.rt:19:5
 loop-holds : tie.Need-loop-holds Inv-loop μ-loop
 loop-holds c = (omega arith, filled-none _ 0 8)
 
--- src/tidy.rt:20:18
 element-copy-out-out : tie.Need-element-copy-out-out Inv-loop μ-loop
 element-copy-out-out c = search needs
 
--- src/tidy.rt:20:9
 array-write-out : tie.Need-array-write-out Inv-loop μ-loop
 array-write-out c = search needs
 
--- src/tidy.rt:21:9
 add-i : tie.Need-add-i Inv-loop μ-loop
 add-i c = search needs
 
--- src/tidy.rt:19:5
 loop-less : tie.Need-loop-less Inv-loop μ-loop
 loop-less c = search needs
 
--- src/tidy.rt:19:5
 loop-again : tie.Need-loop-again Inv-loop μ-loop
 unfolding row
 loop-again c =
@@ -48,7 +42,6 @@ loop-again c =
     let a = c .before .before .before .args in
     (omega arith, rw (l .inv .1) (filled-next (row (a .labels .now)) 0 (l .i) 8 (omega arith)))
 
--- src/tidy.rt:13:1
 returns : tie.Need-returns Inv-loop μ-loop
 returns c =
     let l = c .before .loop in

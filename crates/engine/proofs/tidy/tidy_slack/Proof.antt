@@ -20,35 +20,27 @@ Inv-loop slack tasks out₀ i₀ out i = (i ≤ tasks) × (out ≡ tab (cut i (r
 abbrev μ-loop : tie.MeasureT-loop
 μ-loop slack tasks out₀ i₀ out i = tasks - i
 
--- src/tidy.rt:32:5
 loop-holds : tie.Need-loop-holds Inv-loop μ-loop
 loop-holds c = (omega arith, filled-none _ 0 16)
 
--- src/tidy.rt:33:18
 mul-out : tie.Need-mul-out Inv-loop μ-loop
 mul-out c = search needs
 
--- src/tidy.rt:33:18
 element-copy-out-out : tie.Need-element-copy-out-out Inv-loop μ-loop
 element-copy-out-out c = search needs
 
--- src/tidy.rt:33:9
 mul-out-2 : tie.Need-mul-out-2 Inv-loop μ-loop
 mul-out-2 c = search needs
 
--- src/tidy.rt:33:9
 array-write-out : tie.Need-array-write-out Inv-loop μ-loop
 array-write-out c = search needs
 
--- src/tidy.rt:34:9
 add-i : tie.Need-add-i Inv-loop μ-loop
 add-i c = search needs
 
--- src/tidy.rt:32:5
 loop-less : tie.Need-loop-less Inv-loop μ-loop
 loop-less c = search needs
 
--- src/tidy.rt:32:5
 loop-again : tie.Need-loop-again Inv-loop μ-loop
 unfolding row
 loop-again c =
@@ -56,7 +48,6 @@ loop-again c =
     let a = c .before .before .before .args in
     (omega arith, rw (l .inv .1) (filled-next (row (a .slack .now)) 0 (l .i) 16 (omega arith)))
 
--- src/tidy.rt:26:1
 returns : tie.Need-returns Inv-loop μ-loop
 returns c =
     let l = c .before .loop in

@@ -20,36 +20,28 @@ Inv-loop tasks task out₀ i₀ out i = (i ≤ tasks) × (out ≡ tab (cut i (ta
 abbrev μ-loop : tie.MeasureT-loop
 μ-loop tasks task out₀ i₀ out i = tasks - i
 
--- src/tidy.rt:49:5
 loop-holds : tie.Need-loop-holds Inv-loop μ-loop
 unfolding noTask
 loop-holds c = (omega arith, filled-none _ noTask 16)
 
--- src/tidy.rt:50:17
 mul-t : tie.Need-mul-t Inv-loop μ-loop
 mul-t c = search needs
 
--- src/tidy.rt:50:17
 array-copy-out-t : tie.Need-array-copy-out-t Inv-loop μ-loop
 array-copy-out-t c = search needs
 
--- src/tidy.rt:51:9
 mul-out : tie.Need-mul-out Inv-loop μ-loop
 mul-out c = search needs
 
--- src/tidy.rt:51:9
 array-set-from-out : tie.Need-array-set-from-out Inv-loop μ-loop
 array-set-from-out c = search needs
 
--- src/tidy.rt:52:9
 add-i : tie.Need-add-i Inv-loop μ-loop
 add-i c = search needs
 
--- src/tidy.rt:49:5
 loop-less : tie.Need-loop-less Inv-loop μ-loop
 loop-less c = search needs
 
--- src/tidy.rt:49:5
 loop-again : tie.Need-loop-again Inv-loop μ-loop
 unfolding taskOf noTask
 loop-again c =
@@ -57,7 +49,6 @@ loop-again c =
     let a = c .before .before .before .args in
     (omega arith, rw (l .inv .1) (filled-next (taskOf (a .t1)) noTask (l .i) 16 (omega arith)))
 
--- src/tidy.rt:39:1
 returns : tie.Need-returns Inv-loop μ-loop
 returns c =
     let l = c .before .loop in

@@ -14,11 +14,9 @@ use Rattle.engine.proofs.tidy.zeros.Reads as reads
 use Rattle.engine.proofs.tidy.zeros.Lts as lts
 use Rattle.engine.proofs.tidy.empty.Reads as empty-reads
 
--- src/tidy.rt:105:5
 empty-requires : tie.Need-empty-requires
 empty-requires c κs = search needs
 
--- src/tidy.rt:97:1
 returns : tie.Need-returns
 unfolding zeroPlan noTask
 returns c = c .empty .ensures ∙ sym zero-empty

@@ -1,0 +1,26 @@
+use borrow.Author.Tests.{lt-ltb, le-ltb}
+use Rattle.tasks.specs.Tests.{outside}
+use borrow.Author.Needs.{needs}
+use native.Mathlib.Omega.{arith}
+use native.Mathlib.Numerals.{add-one}
+use Prim.Native.Nat.{ℕ, _≤_, _<_, _+_, _*_, _-_}
+use mathlib.Core.Path.{_≡_, refl, ap, sym, _∙_}
+use mathlib.Core.Logic.{⊎-elim}
+use lib.ListN.{length, getD, set, length-set}
+use Rattle.fields.proofs.fields.is_outside.Statement.{statement}
+use Rattle.fields.proofs.fields.is_outside.Tie as tie
+use Rattle.fields.proofs.fields.is_outside.Reads as reads
+use Rattle.fields.proofs.fields.is_outside.Lts as lts
+
+-- src/fields.rt:16:9
+returns : tie.Need-returns
+unfolding outside
+returns c = rw (lt-ltb _ _ (c .if1 .taken))
+
+-- src/fields.rt:12:1
+returns-2 : tie.Need-returns-2
+unfolding outside
+returns-2 c = rw (le-ltb _ _ (c .if1 .left))
+
+pub is-outside-spec : {M : Type 1} → statement M
+is-outside-spec = tie.close (tie.spec returns returns-2)

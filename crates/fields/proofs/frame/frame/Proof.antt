@@ -1,0 +1,85 @@
+use Rattle.tasks.specs.AnswerLaws.{pass-outside}
+use Rattle.fields.specs.StageLaws.{outside-low, outside-high, scan-found, scan-none}
+use borrow.Author.Tests.{lt-ltb, le-ltb}
+use Rattle.laws.specs.First.{first}
+use Rattle.tasks.specs.TaskSet.{row}
+use Rattle.tasks.specs.Tests.{badLabel, firstMet, lowest, outside}
+use Rattle.fields.specs.Stages.{frameTest}
+use native.Mathlib.Omega.{arith}
+use native.Mathlib.Numerals.{add-one}
+use Prim.Native.Nat.{ℕ, _≤_, _<_, _+_, _*_, _-_}
+use mathlib.Core.Path.{_≡_, refl, ap, sym, _∙_}
+use mathlib.Core.Logic.{⊎-elim}
+use lib.ListN.{length, getD, set, length-set}
+use borrow.Author.Needs.{needs}
+use Rattle.fields.proofs.frame.frame.Statement.{statement}
+use Rattle.fields.proofs.frame.frame.Tie as tie
+use Rattle.fields.proofs.frame.frame.Reads as reads
+use Rattle.fields.proofs.frame.frame.Lts as lts
+use Rattle.fields.proofs.frame.bad_label.Reads as bad-label-reads
+
+-- src/frame.rt:45:9
+returns : tie.Need-returns
+unfolding frameTest firstMet
+returns c = rw (outside-low 2 8 _ (c .if1 .taken))
+
+-- src/frame.rt:51:9
+returns-2 : tie.Need-returns-2
+unfolding frameTest firstMet
+returns-2 c = rw (outside-high 2 8 _ (c .before .if1 .left) (c .if2 .taken))
+
+-- src/frame.rt:56:9
+bad-label-requires : tie.Need-bad-label-requires
+bad-label-requires c κs = search needs
+
+-- src/frame.rt:60:20
+cast-t6 : tie.Need-cast-t6
+cast-t6 c = search needs
+
+-- src/frame.rt:58:9
+returns-3 : tie.Need-returns-3
+unfolding frameTest firstMet
+returns-3 c =
+    let a = c .before .before .before .before .args in
+    rw (
+      pass-outside 2 8 (a .cores) (omega arith) (omega arith),
+      scan-found 4 (badLabel (row (a .labels .now))) (a .cores) _ (c .before .bad-label .ensures) (c .if3 .taken),
+    )
+
+-- src/frame.rt:64:9
+returns-4 : tie.Need-returns-4
+unfolding frameTest firstMet
+returns-4 c =
+    let a = c .before .before .before .before .before .args in
+    rw (
+      pass-outside 2 8 (a .cores) (omega arith) (omega arith),
+      scan-none 4 (badLabel (row (a .labels .now))) (a .cores) _ (c .before .before .bad-label .ensures) (c .before .if3 .left),
+      outside-low (a .cores + 1) 16 (a .tasks) (omega arith),
+    )
+
+-- src/frame.rt:70:9
+returns-5 : tie.Need-returns-5
+unfolding frameTest firstMet
+returns-5 c =
+    let a = c .before .before .before .before .before .before .args in
+    rw (
+      pass-outside 2 8 (a .cores) (omega arith) (omega arith),
+      scan-none 4 (badLabel (row (a .labels .now))) (a .cores) _ (c .before .before .before .bad-label .ensures) (c .before .before .if3 .left),
+      outside-high (a .cores + 1) 16 (a .tasks) (omega arith) (c .if5 .taken),
+    )
+
+-- src/frame.rt:41:1
+returns-6 : tie.Need-returns-6
+unfolding frameTest firstMet
+returns-6 c =
+    let a = c .before .before .before .before .before .before .args in
+    rw (
+      pass-outside 2 8 (a .cores) (omega arith) (omega arith),
+      scan-none 4 (badLabel (row (a .labels .now))) (a .cores) _ (c .before .before .before .bad-label .ensures) (c .before .before .if3 .left),
+      pass-outside (a .cores + 1) 16 (a .tasks) (omega arith) (omega arith),
+    )
+
+pub frame-spec : {M : Type 1} → statement M
+frame-spec =
+    tie.close
+    (tie.spec returns returns-2 bad-label-requires cast-t6 returns-3 returns-4 returns-5 returns-6)

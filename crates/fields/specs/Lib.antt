@@ -1,0 +1,4 @@
+pub mod Columns
+pub mod Stages
+pub mod StageLaws
+pub mod Bounds

@@ -1,0 +1,76 @@
+// Tests 3, 4 and 5: the cores, their labels, and the number of tasks.
+use tasks::Answer;
+use tasks::refusal;
+ghost use mathlib.Core.Path.{_≡_};
+ghost use Prim.Native.Nat.{ℕ, _+_, _<_, _≤_};
+ghost use mathlib.Core.List.{_∷_, []};
+ghost use Rattle.laws.specs.First.{first};
+ghost use Rattle.tasks.specs.TaskSet.{row};
+ghost use Rattle.tasks.specs.Tests.{badLabel, refuse, lowest, firstMet, outside};
+ghost use Rattle.fields.specs.Stages.{frameTest};
+
+// "A core label is above 63 or not above the one before."
+fn is_bad_label(labels: &[u8; 8], i: usize) -> bool
+    requires { ⌜ i < 8 ⌝ }
+    ensures { λ r. ⌜ r ≡ badLabel (row (now (labels .entry))) i ⌝ }
+{
+    if 63 < labels[i] {
+        return true;
+    }
+    if i == 0 {
+        return false;
+    }
+    labels[i] <= labels[i - 1]
+}
+
+// The lowest core with such a label, or `cores` where there is none.
+fn bad_label(labels: &[u8; 8], cores: usize) -> usize
+    requires { ⌜ cores ≤ 8 ⌝ }
+    ensures { λ r. ⌜ r ≡ first (badLabel (row (now (labels .entry)))) cores ⌝ }
+{
+    let mut i = 0;
+    while i < cores {
+        if is_bad_label(labels, i) {
+            return i;
+        }
+        i += 1;
+    }
+    cores
+}
+
+pub fn frame(cores: usize, labels: &[u8; 8], tasks: usize) -> Answer
+    ensures { λ r. ⌜ r ≡ frameTest cores (row (now (labels .entry))) tasks ⌝ }
+{
+    if cores < 2 {
+        return Answer::Refused {
+            number: refusal::CORES,
+            index: 0,
+        };
+    }
+    if 8 < cores {
+        return Answer::Refused {
+            number: refusal::CORES,
+            index: 0,
+        };
+    }
+    let bad = bad_label(labels, cores);
+    if bad < cores {
+        return Answer::Refused {
+            number: refusal::LABEL,
+            index: bad as u16,
+        };
+    }
+    if tasks <= cores {
+        return Answer::Refused {
+            number: refusal::TASKS,
+            index: 0,
+        };
+    }
+    if 16 < tasks {
+        return Answer::Refused {
+            number: refusal::TASKS,
+            index: 0,
+        };
+    }
+    Answer::Accepted
+}

@@ -1,0 +1,4 @@
+pub mod KeptLaws
+pub mod SectionLaws
+pub mod BackLaws
+pub mod RoundTrip

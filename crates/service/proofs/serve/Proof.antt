@@ -1,0 +1,66 @@
+use Rattle.state.specs.CodeLaws.{Are, turns-none, turns-more}
+use Rattle.state.specs.Serve.{turns}
+use Rattle.tasks.specs.TaskSet.{row}
+use borrow.Author.Needs.{needs}
+use native.Mathlib.Omega.{arith}
+use native.Mathlib.Numerals.{add-one}
+use Prim.Native.Nat.{ℕ, _≤_, _<_, _+_, _*_, _-_}
+use mathlib.Core.Path.{_≡_, refl, ap, sym, _∙_}
+use mathlib.Core.Logic.{⊎-elim}
+use lib.ListN.{length, getD, set, length-set}
+use Rattle.service.proofs.serve.Statement.{statement}
+use Rattle.service.proofs.serve.Tie as tie
+use Rattle.service.proofs.serve.Reads as reads
+use Rattle.service.proofs.serve.Lts as lts
+use Rattle.service.proofs.turn.Reads as turn-reads
+
+abbrev Inv-loop : tie.InvT-loop
+Inv-loop finish keys jobs₀ remaining₀ release₀ responses₀ i₀ jobs remaining release responses i =
+    (i ≤ 16)
+    × Are (turns finish keys (record { jobs = jobs₀; work = remaining₀; release = release₀; responses = responses₀ }) i) jobs remaining release responses
+
+abbrev μ-loop : tie.MeasureT-loop
+μ-loop finish keys jobs₀ remaining₀ release₀ responses₀ i₀ jobs remaining release responses i = 16 - i
+
+loop-holds : tie.Need-loop-holds Inv-loop μ-loop
+loop-holds c = (omega arith, turns-none _ _ _ _ _ _)
+
+mul-turn : tie.Need-mul-turn Inv-loop μ-loop
+mul-turn c = search needs
+
+element-copy-out-turn : tie.Need-element-copy-out-turn Inv-loop μ-loop
+element-copy-out-turn c = search needs
+
+turn-requires : tie.Need-turn-requires Inv-loop μ-loop
+turn-requires c κs = search needs
+
+add-i : tie.Need-add-i Inv-loop μ-loop
+add-i c = search needs
+
+loop-less : tie.Need-loop-less Inv-loop μ-loop
+loop-less c = search needs
+
+loop-again : tie.Need-loop-again Inv-loop μ-loop
+unfolding row
+loop-again c =
+    let l = c .before .before .before .before .before .before .before .loop in
+    let a = c .before .before .before .before .before .before .before .before .args in
+    (omega arith, turns-more (a .finish) (l .i) (a .keys .now) _ _ _ _ _ _ _ _ _ (l .inv .1) (c .turn .ensures))
+
+returns : tie.Need-returns Inv-loop μ-loop
+returns c = let e : c .before .loop .i ≡ 16 = omega arith in rw e at (c .before .loop .inv .1)
+
+pub serve-spec : {M : Type 1} → statement M
+serve-spec =
+    tie.close
+    (tie.spec
+    Inv-loop
+    μ-loop
+    loop-holds
+    mul-turn
+    element-copy-out-turn
+    turn-requires
+    add-i
+    loop-less
+    loop-again
+    returns)

@@ -1,0 +1,74 @@
+use Rattle.laws.specs.Sum.{count}
+use Rattle.largest.specs.Passes.{members}
+use mathlib.Core.List.{List}
+use Rattle.laws.specs.Sum.{sum, sumOver}
+use Rattle.laws.specs.SumLaws.{sumOver-ext, sum-le-mul}
+use Rattle.laws.specs.Rank.{largest}
+use Rattle.laws.specs.LargestLaws.{largest-ext, largest-below, largest-le-sum}
+use Rattle.largest.specs.Passes.{Light}
+use Rattle.tasks.specs.TaskSet.{row}
+use Rattle.slack.specs.RatesLaws.{row-filled}
+use Rattle.slack.specs.Weights.{weightRow, Few, Weighed}
+use native.Mathlib.Omega.{arith}
+use native.Mathlib.Numerals.{add-one}
+use Prim.Native.Nat.{ℕ, _≤_, _<_, _+_, _*_, _-_}
+use mathlib.Core.Path.{_≡_, refl, ap, sym, _∙_}
+use mathlib.Core.Logic.{⊎-elim}
+use lib.ListN.{length, getD, set, length-set}
+use borrow.Author.Needs.{needs}
+use Rattle.slack.proofs.amount.amount.Statement.{statement}
+use Rattle.slack.proofs.amount.amount.Tie as tie
+use Rattle.slack.proofs.amount.amount.Reads as reads
+use Rattle.slack.proofs.amount.amount.Lts as lts
+use Rattle.slack.proofs.amount.weigh.Reads as weigh-reads
+use Rattle.largest.proofs.largest_sum.Reads as largest-sum-reads
+
+-- the weights in an array are those of the row
+module _ (w : ℕ → ℕ) (n : ℕ) (l : List ℕ) (h : n ≤ 16) (g : Weighed w n l) where
+  entry : (i : ℕ) → i < n → getD l i 0 ≡ w i
+  unfolding row
+  entry i k = row-filled l w n i h k (g .places)
+
+  light : Light l n
+  light = record { sixteen = h; limit = λ i k. rw (entry i k) (g .limit i k) }
+
+  chosen-sum : (k : ℕ) → sumOver (λ i. getD l i 0) (largest k (λ i. getD l i 0) n) ≡ sumOver w (largest k w n)
+  chosen-sum k =
+      sumOver-ext _ _ _ (λ i m. entry i (largest-below k (λ i. getD l i 0) n i m))
+      ∙ ap (sumOver w) (largest-ext k _ _ n entry)
+
+  high : (k : ℕ) → sumOver w (largest k w n) ≤ 16 * 8589934592000000
+  high k =
+      omega (arith, largest-le-sum k w n, sum-le-mul w 8589934592000000 n (g .limit))
+
+-- src/amount.rt:54:18
+weigh-requires : tie.Need-weigh-requires
+weigh-requires c κs = search needs
+
+-- src/amount.rt:55:5
+largest-sum-requires : tie.Need-largest-sum-requires
+largest-sum-requires c κs = light _ _ _ (c .before .before .before .pre .0 .sixteen) (c .before .before .weigh .ensures)
+
+-- src/amount.rt:55:5
+add-result : tie.Need-add-result
+add-result c =
+    let s = c .before .before .before .before in
+    let g = c .before .before .before .weigh .ensures in
+    omega (
+      arith,
+      c .largest-sum .ensures .total,
+      chosen-sum _ _ _ (s .pre .0 .sixteen) g (count (members (s .args .chosen .now)) (s .args .tasks)),
+      high _ _ _ (s .pre .0 .sixteen) g (count (members (s .args .chosen .now)) (s .args .tasks)),
+    )
+
+-- src/amount.rt:43:1
+returns : tie.Need-returns
+returns c =
+    let s = c .before .before .before .before in (
+      ap (λ (v : ℕ). v + s .args .surplus)
+          (c .largest-sum .ensures .total ∙ chosen-sum _ _ _ (s .pre .0 .sixteen) (c .before .before .before .weigh .ensures) _),
+      c .largest-sum .ensures .many,
+    )
+
+pub amount-spec : {M : Type 1} → statement M
+amount-spec = tie.close (tie.spec weigh-requires largest-sum-requires add-result returns)

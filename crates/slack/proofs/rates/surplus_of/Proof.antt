@@ -1,0 +1,137 @@
+use lib.ListN.{replicate}
+use native.Mathlib.Nat.{mul-le-mul-left, mul-le-mul-right, mul-le-mul}
+use Prim.Native.Nat.{_/_}
+use Rattle.laws.specs.Sum.{sum}
+use Rattle.laws.specs.SumLaws.{sum-step, sum-le-mul}
+use Rattle.laws.specs.Tab.{tab, cut}
+use Rattle.laws.specs.TabLaws.{filled-none}
+use Rattle.tasks.specs.TaskSet.{row}
+use Rattle.fields.specs.StageLaws.{column-more}
+use borrow.Author.Needs.{needs}
+use native.Mathlib.Omega.{arith}
+use native.Mathlib.Numerals.{add-one}
+use Prim.Native.Nat.{ℕ, _≤_, _<_, _+_, _*_, _-_}
+use mathlib.Core.Path.{_≡_, refl, ap, sym, _∙_}
+use mathlib.Core.Logic.{⊎-elim}
+use lib.ListN.{length, getD, set, length-set}
+use Rattle.slack.proofs.rates.surplus_of.Statement.{statement}
+use Rattle.slack.proofs.rates.surplus_of.Tie as tie
+use Rattle.slack.proofs.rates.surplus_of.Reads as reads
+use Rattle.slack.proofs.rates.surplus_of.Lts as lts
+use Rattle.multiple.proofs.wide.Reads as wide-reads
+
+-- one task's surplus is at most 10^11
+term : (share separation offset w : ℕ) → share ≤ 1000000 → separation ≤ 100000 → w ≡ separation - offset → share * w ≤ 100000000000
+term share separation offset w h k e = mul-le-mul {n₂ = 1000000} {m₂ = 100000} h (omega arith)
+
+abbrev Inv-loop : tie.InvT-loop
+Inv-loop share separation offset tasks all₀ i₀ all i =
+    (i ≤ tasks) × (all ≡ sum (λ i. row share i * (row separation i - row offset i)) i) × (all ≤ i * 100000000000)
+
+abbrev μ-loop : tie.MeasureT-loop
+μ-loop share separation offset tasks all₀ i₀ all i = tasks - i
+
+-- src/rates.rt:67:5
+loop-holds : tie.Need-loop-holds Inv-loop μ-loop
+unfolding sum
+loop-holds c = (omega arith, refl, omega arith)
+
+-- src/rates.rt:68:16
+mul-all : tie.Need-mul-all Inv-loop μ-loop
+mul-all c = search needs
+
+-- src/rates.rt:68:16
+element-copy-out-all : tie.Need-element-copy-out-all Inv-loop μ-loop
+element-copy-out-all c = search needs
+
+-- src/rates.rt:68:32
+mul-wide : tie.Need-mul-wide Inv-loop μ-loop
+mul-wide c = search needs
+
+-- src/rates.rt:68:32
+element-copy-out-wide : tie.Need-element-copy-out-wide Inv-loop μ-loop
+element-copy-out-wide c = search needs
+
+-- src/rates.rt:68:48
+mul-wide-2 : tie.Need-mul-wide-2 Inv-loop μ-loop
+mul-wide-2 c = search needs
+
+-- src/rates.rt:68:48
+element-copy-out-wide-2 : tie.Need-element-copy-out-wide-2 Inv-loop μ-loop
+element-copy-out-wide-2 c = search needs
+
+-- src/rates.rt:68:32
+sub-wide : tie.Need-sub-wide Inv-loop μ-loop
+unfolding row
+sub-wide c =
+    omega (arith, c .before .before .before .before .before .pre .1 (c .before .before .before .before .loop .i) (omega arith))
+
+-- src/rates.rt:68:27
+wide-requires : tie.Need-wide-requires Inv-loop μ-loop
+wide-requires c κs = search needs
+
+-- src/rates.rt:68:16
+mul-all-2 : tie.Need-mul-all-2 Inv-loop μ-loop
+unfolding row
+mul-all-2 c =
+    let p = c .before .before .before .before .before .before .pre .1 (c .before .before .before .before .before .loop .i) (omega arith) in
+    omega (arith, term _ _ _ _ (p .0) (p .1) (c .wide .ensures .0))
+
+-- src/rates.rt:68:9
+add-all : tie.Need-add-all Inv-loop μ-loop
+unfolding row
+add-all c =
+    let p = c .before .before .before .before .before .before .pre .1 (c .before .before .before .before .before .loop .i) (omega arith) in
+    omega (arith, term _ _ _ _ (p .0) (p .1) (c .wide .ensures .0))
+
+-- src/rates.rt:69:9
+add-i : tie.Need-add-i Inv-loop μ-loop
+add-i c = search needs
+
+-- src/rates.rt:67:5
+loop-less : tie.Need-loop-less Inv-loop μ-loop
+loop-less c = search needs
+
+-- src/rates.rt:67:5
+loop-again : tie.Need-loop-again Inv-loop μ-loop
+unfolding row
+loop-again c =
+    let l = c .before .before .before .before .before .loop in
+    let a = c .before .before .before .before .before .before .args in
+    let p = c .before .before .before .before .before .before .pre .1 (l .i) (omega arith) in (
+      omega arith,
+      rw (
+        sum-step (λ i. row (a .share .now) i * (row (a .separation .now) i - row (a .offset .now) i)) (l .i),
+        l .inv .1,
+        c .wide .ensures .0,
+      ),
+      omega (arith, term _ _ _ _ (p .0) (p .1) (c .wide .ensures .0)),
+    )
+
+-- src/rates.rt:61:1
+returns : tie.Need-returns Inv-loop μ-loop
+returns c =
+    let e : c .before .loop .i ≡ c .before .before .args .tasks = omega arith in
+    rw e at (c .before .loop .inv .1)
+
+pub surplus-of-spec : {M : Type 1} → statement M
+surplus-of-spec =
+    tie.close
+    (tie.spec
+    Inv-loop
+    μ-loop
+    loop-holds
+    mul-all
+    element-copy-out-all
+    mul-wide
+    element-copy-out-wide
+    mul-wide-2
+    element-copy-out-wide-2
+    sub-wide
+    wide-requires
+    mul-all-2
+    add-all
+    add-i
+    loop-less
+    loop-again
+    returns)

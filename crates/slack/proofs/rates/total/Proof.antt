@@ -1,0 +1,84 @@
+use lib.ListN.{replicate}
+use native.Mathlib.Nat.{mul-le-mul-left, mul-le-mul-right, mul-le-mul}
+use Prim.Native.Nat.{_/_}
+use Rattle.laws.specs.Sum.{sum}
+use Rattle.laws.specs.SumLaws.{sum-step, sum-le-mul}
+use Rattle.laws.specs.Tab.{tab, cut}
+use Rattle.laws.specs.TabLaws.{filled-none}
+use Rattle.tasks.specs.TaskSet.{row}
+use Rattle.fields.specs.StageLaws.{column-more}
+use borrow.Author.Needs.{needs}
+use native.Mathlib.Omega.{arith}
+use native.Mathlib.Numerals.{add-one}
+use Prim.Native.Nat.{ℕ, _≤_, _<_, _+_, _*_, _-_}
+use mathlib.Core.Path.{_≡_, refl, ap, sym, _∙_}
+use mathlib.Core.Logic.{⊎-elim}
+use lib.ListN.{length, getD, set, length-set}
+use Rattle.slack.proofs.rates.total.Statement.{statement}
+use Rattle.slack.proofs.rates.total.Tie as tie
+use Rattle.slack.proofs.rates.total.Reads as reads
+use Rattle.slack.proofs.rates.total.Lts as lts
+
+abbrev Inv-loop : tie.InvT-loop
+Inv-loop share tasks all₀ i₀ all i = (i ≤ tasks) × (all ≡ sum (row share) i) × (all ≤ i * 1000000)
+
+abbrev μ-loop : tie.MeasureT-loop
+μ-loop share tasks all₀ i₀ all i = tasks - i
+
+-- src/rates.rt:54:5
+loop-holds : tie.Need-loop-holds Inv-loop μ-loop
+unfolding sum
+loop-holds c = (omega arith, refl, omega arith)
+
+-- src/rates.rt:55:16
+mul-all : tie.Need-mul-all Inv-loop μ-loop
+mul-all c = search needs
+
+-- src/rates.rt:55:16
+element-copy-out-all : tie.Need-element-copy-out-all Inv-loop μ-loop
+element-copy-out-all c = search needs
+
+-- src/rates.rt:55:9
+add-all : tie.Need-add-all Inv-loop μ-loop
+unfolding row
+add-all c =
+    omega (arith, c .before .before .before .pre .1 (c .before .before .loop .i) (omega arith))
+
+-- src/rates.rt:56:9
+add-i : tie.Need-add-i Inv-loop μ-loop
+add-i c = search needs
+
+-- src/rates.rt:54:5
+loop-less : tie.Need-loop-less Inv-loop μ-loop
+loop-less c = search needs
+
+-- src/rates.rt:54:5
+loop-again : tie.Need-loop-again Inv-loop μ-loop
+unfolding row
+loop-again c =
+    let l = c .before .before .loop in (
+      omega arith,
+      rw (sum-step (row (c .before .before .before .args .share .now)) (l .i), l .inv .1),
+      omega (arith, c .before .before .before .pre .1 (l .i) (omega arith)),
+    )
+
+-- src/rates.rt:48:1
+returns : tie.Need-returns Inv-loop μ-loop
+returns c =
+    let e : c .before .loop .i ≡ c .before .before .args .tasks = omega arith in
+    rw e at (c .before .loop .inv .1)
+
+pub total-spec : {M : Type 1} → statement M
+total-spec =
+    tie.close
+    (tie.spec
+    Inv-loop
+    μ-loop
+    loop-holds
+    mul-all
+    element-copy-out-all
+    add-all
+    add-i
+    loop-less
+    loop-again
+    returns)

@@ -1,0 +1,60 @@
+use mathlib.Core.Bool.{cond}
+use borrow.Author.Tests.{lt-ltb, le-ltb, eq-eqb, ne-eqb}
+use mathlib.Core.Bool.{not}
+use lib.Dec.{ltb, eqb}
+use Prim.Native.Nat.{_/_, _%_}
+use native.Mathlib.Nat.{mul-le-mul}
+use Rattle.laws.specs.First.{first}
+use Rattle.laws.specs.FirstLaws.{none-more, found-at}
+use Rattle.laws.specs.Tab.{tab, cut}
+use Rattle.laws.specs.TabLaws.{filled-none, getD-tab, tab-getD}
+use Rattle.tasks.specs.TaskSet.{row}
+use Rattle.fields.specs.StageLaws.{column-more}
+use Rattle.slack.specs.Settling.{uncovered, lifted, upto}
+use Rattle.slack.specs.SettlingLaws.{upto-above, upto-more, upto-same, changed-more, changed-same}
+use native.Mathlib.Omega.{arith}
+use native.Mathlib.Numerals.{add-one}
+use Prim.Native.Nat.{ℕ, _≤_, _<_, _+_, _*_, _-_}
+use mathlib.Core.Path.{_≡_, refl, ap, sym, _∙_}
+use mathlib.Core.Logic.{⊎-elim}
+use lib.ListN.{length, getD, set, length-set}
+use borrow.Author.Needs.{needs}
+use Rattle.slack.proofs.slack.lift.Statement.{statement}
+use Rattle.slack.proofs.slack.lift.Tie as tie
+use Rattle.slack.proofs.slack.lift.Reads as reads
+use Rattle.slack.proofs.slack.lift.Lts as lts
+
+-- what is needed at least, from which arm it came
+module _ (whole over rest : ℕ) where
+  more : rest < over → whole + 1 ≡ whole + cond (ltb rest over) 1 0
+  more h = rw (lt-ltb rest over h)
+
+  same : over ≤ rest → whole ≡ whole + cond (ltb rest over) 1 0
+  same h = rw (le-ltb rest over h) (omega arith)
+
+-- src/slack.rt:69:31
+add-up : tie.Need-add-up
+add-up c = search needs
+
+-- src/slack.rt:71:9
+returns : tie.Need-returns
+unfolding lifted
+returns c =
+    let a = c .before .before .args in
+    let up : c .before .if1 .up ≡ a .whole + cond (ltb (a .rest) (a .over)) 1 0 =
+    ⊎-elim (λ w. w .1 ∙ more (a .whole) (a .over) (a .rest) (w .0 .taken)) (λ w. w .1 ∙ same (a .whole) (a .over) (a .rest) (w .0 .left)) (c .before .if1 .came)
+    in
+    omega arith
+
+-- src/slack.rt:65:1
+returns-2 : tie.Need-returns-2
+unfolding lifted
+returns-2 c =
+    let a = c .before .before .before .args in
+    let up : c .before .before .if1 .up ≡ a .whole + cond (ltb (a .rest) (a .over)) 1 0 =
+    ⊎-elim (λ w. w .1 ∙ more (a .whole) (a .over) (a .rest) (w .0 .taken)) (λ w. w .1 ∙ same (a .whole) (a .over) (a .rest) (w .0 .left)) (c .before .before .if1 .came)
+    in
+    ap (λ (v : ℕ). v - a .quotient) up
+
+pub lift-spec : {M : Type 1} → statement M
+lift-spec = tie.close (tie.spec add-up returns returns-2)

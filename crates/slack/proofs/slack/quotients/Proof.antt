@@ -1,0 +1,93 @@
+use borrow.Author.Tests.{lt-ltb, le-ltb, eq-eqb, ne-eqb}
+use mathlib.Core.Bool.{not}
+use lib.Dec.{ltb, eqb}
+use Prim.Native.Nat.{_/_, _%_}
+use native.Mathlib.Nat.{mul-le-mul}
+use Rattle.laws.specs.First.{first}
+use Rattle.laws.specs.FirstLaws.{none-more, found-at}
+use Rattle.laws.specs.Tab.{tab, cut}
+use Rattle.laws.specs.TabLaws.{filled-none, getD-tab, tab-getD}
+use Rattle.tasks.specs.TaskSet.{row}
+use Rattle.fields.specs.StageLaws.{column-more}
+use Rattle.slack.specs.Settling.{uncovered, lifted, upto}
+use Rattle.slack.specs.SettlingLaws.{upto-above, upto-more, upto-same, changed-more, changed-same}
+use borrow.Author.Needs.{needs}
+use native.Mathlib.Omega.{arith}
+use native.Mathlib.Numerals.{add-one}
+use Prim.Native.Nat.{ℕ, _≤_, _<_, _+_, _*_, _-_}
+use mathlib.Core.Path.{_≡_, refl, ap, sym, _∙_}
+use mathlib.Core.Logic.{⊎-elim}
+use lib.ListN.{length, getD, set, length-set}
+use Rattle.slack.proofs.slack.quotients.Statement.{statement}
+use Rattle.slack.proofs.slack.quotients.Tie as tie
+use Rattle.slack.proofs.slack.quotients.Reads as reads
+use Rattle.slack.proofs.slack.quotients.Lts as lts
+
+abbrev Inv-loop : tie.InvT-loop
+Inv-loop budget cores tasks quotient₀ i₀ quotient i = (i ≤ tasks) × (quotient ≡ tab (cut i (λ i. row budget i / cores) 0) 16)
+
+abbrev μ-loop : tie.MeasureT-loop
+μ-loop budget cores tasks quotient₀ i₀ quotient i = tasks - i
+
+-- src/slack.rt:42:5
+loop-holds : tie.Need-loop-holds Inv-loop μ-loop
+loop-holds c = (omega arith, filled-none _ 0 16)
+
+-- src/slack.rt:43:23
+mul-quotient : tie.Need-mul-quotient Inv-loop μ-loop
+mul-quotient c = search needs
+
+-- src/slack.rt:43:23
+element-copy-out-quotient : tie.Need-element-copy-out-quotient Inv-loop μ-loop
+element-copy-out-quotient c = search needs
+
+-- src/slack.rt:43:23
+div-quotient : tie.Need-div-quotient Inv-loop μ-loop
+div-quotient c = search needs
+
+-- src/slack.rt:43:9
+mul-quotient-2 : tie.Need-mul-quotient-2 Inv-loop μ-loop
+mul-quotient-2 c = search needs
+
+-- src/slack.rt:43:9
+array-write-quotient : tie.Need-array-write-quotient Inv-loop μ-loop
+array-write-quotient c = search needs
+
+-- src/slack.rt:44:9
+add-i : tie.Need-add-i Inv-loop μ-loop
+add-i c = search needs
+
+-- src/slack.rt:42:5
+loop-less : tie.Need-loop-less Inv-loop μ-loop
+loop-less c = search needs
+
+-- src/slack.rt:42:5
+loop-again : tie.Need-loop-again Inv-loop μ-loop
+unfolding row
+loop-again c =
+    let l = c .before .before .loop in
+    let a = c .before .before .before .args in
+    (omega arith, column-more (l .quotient) (λ i. row (a .budget .now) i / a .cores) (l .i) (omega arith) (l .inv .1))
+
+-- src/slack.rt:36:1
+returns : tie.Need-returns Inv-loop μ-loop
+returns c =
+    let e : c .before .loop .i ≡ c .before .before .args .tasks = omega arith in
+    rw e at (c .before .loop .inv .1)
+
+pub quotients-spec : {M : Type 1} → statement M
+quotients-spec =
+    tie.close
+    (tie.spec
+    Inv-loop
+    μ-loop
+    loop-holds
+    mul-quotient
+    element-copy-out-quotient
+    div-quotient
+    mul-quotient-2
+    array-write-quotient
+    add-i
+    loop-less
+    loop-again
+    returns)

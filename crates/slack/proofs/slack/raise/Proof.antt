@@ -1,0 +1,153 @@
+use mathlib.Core.Bool.{Bool, true, false}
+use mathlib.Core.List.{List}
+use Rattle.slack.specs.SettlingLaws.{sweep-none, sweep-old, sweep-set, sweep-keep}
+use borrow.Author.Tests.{lt-ltb, le-ltb, eq-eqb, ne-eqb}
+use mathlib.Core.Bool.{not}
+use lib.Dec.{ltb, eqb}
+use Prim.Native.Nat.{_/_, _%_}
+use native.Mathlib.Nat.{mul-le-mul}
+use Rattle.laws.specs.First.{first}
+use Rattle.laws.specs.FirstLaws.{none-more, found-at}
+use Rattle.laws.specs.Tab.{tab, cut}
+use Rattle.laws.specs.TabLaws.{filled-none, getD-tab, tab-getD}
+use Rattle.tasks.specs.TaskSet.{row}
+use Rattle.fields.specs.StageLaws.{column-more}
+use Rattle.slack.specs.Settling.{uncovered, lifted, upto}
+use Rattle.slack.specs.SettlingLaws.{upto-above, upto-more, upto-same, changed-more, changed-same}
+use borrow.Author.Needs.{needs}
+use native.Mathlib.Omega.{arith}
+use native.Mathlib.Numerals.{add-one}
+use Prim.Native.Nat.{ℕ, _≤_, _<_, _+_, _*_, _-_}
+use mathlib.Core.Path.{_≡_, refl, ap, sym, _∙_}
+use mathlib.Core.Logic.{⊎-elim}
+use lib.ListN.{length, getD, set, length-set}
+use Rattle.slack.proofs.slack.raise.Statement.{statement}
+use Rattle.slack.proofs.slack.raise.Tie as tie
+use Rattle.slack.proofs.slack.raise.Reads as reads
+use Rattle.slack.proofs.slack.raise.Lts as lts
+use Rattle.slack.proofs.slack.lift.Reads as lift-reads
+
+-- one turn: the entry at i, `old` before and `new` after, and whether an entry has changed
+module _ (f g : ℕ → ℕ) (l : List ℕ) (i old new : ℕ) (h : i < 16) (inv : l ≡ tab (upto i f g) 16) (o : old ≡ row l i) (v : new ≡ f i) where
+  was : old ≡ g i
+  was = o ∙ sweep-old f g l i h inv
+
+  stored : set l i new ≡ tab (upto (i + 1) f g) 16
+  stored = rw v (sweep-set f g l i h inv)
+
+  left : new ≡ old → l ≡ tab (upto (i + 1) f g) 16
+  left e = sweep-keep f g l i h inv (sym v ∙ e ∙ was)
+
+  flagged : (new ≡ old → ⊥) → true ≡ ltb (first (λ k. not (eqb (g k) (f k))) (i + 1)) (i + 1)
+  flagged n =
+      sym (changed-more (λ k. not (eqb (g k) (f k))) i (rw (ne-eqb (g i) (f i) (λ e. n (v ∙ sym e ∙ sym was)))))
+
+  unflagged :
+      (b : Bool) → new ≡ old → b ≡ ltb (first (λ k. not (eqb (g k) (f k))) i) i →
+      b ≡ ltb (first (λ k. not (eqb (g k) (f k))) (i + 1)) (i + 1)
+  unflagged b e k = changed-same (λ k. not (eqb (g k) (f k))) i b k (rw (eq-eqb (g i) (f i) (sym was ∙ sym e ∙ v)))
+
+abbrev Inv-loop : tie.InvT-loop
+Inv-loop slack₀ quotient rest whole over tasks changed₀ i₀ slack changed i =
+    (i ≤ tasks)
+    × (slack ≡ tab (upto i (λ k. lifted whole over (row quotient k) (row rest k)) (row slack₀)) 16)
+    × (changed ≡ ltb (first (λ k. not (eqb (row slack₀ k) (lifted whole over (row quotient k) (row rest k)))) i) i)
+
+abbrev μ-loop : tie.MeasureT-loop
+μ-loop slack₀ quotient rest whole over tasks changed₀ i₀ slack changed i = tasks - i
+
+-- src/slack.rt:90:5
+loop-holds : tie.Need-loop-holds Inv-loop μ-loop
+unfolding first
+loop-holds c = (omega arith, sweep-none _ _ (c .pre .0), refl)
+
+-- src/slack.rt:91:19
+mul-old : tie.Need-mul-old Inv-loop μ-loop
+mul-old c = search needs
+
+-- src/slack.rt:91:19
+element-copy-out-old : tie.Need-element-copy-out-old Inv-loop μ-loop
+element-copy-out-old c = search needs
+
+-- src/slack.rt:92:37
+mul-lift : tie.Need-mul-lift Inv-loop μ-loop
+mul-lift c = search needs
+
+-- src/slack.rt:92:37
+element-copy-out-lift : tie.Need-element-copy-out-lift Inv-loop μ-loop
+element-copy-out-lift c = search needs
+
+-- src/slack.rt:92:50
+mul-lift-2 : tie.Need-mul-lift-2 Inv-loop μ-loop
+mul-lift-2 c = search needs
+
+-- src/slack.rt:92:50
+element-copy-out-lift-2 : tie.Need-element-copy-out-lift-2 Inv-loop μ-loop
+element-copy-out-lift-2 c = search needs
+
+-- src/slack.rt:92:13
+lift-requires : tie.Need-lift-requires Inv-loop μ-loop
+lift-requires c κs = search needs
+
+-- src/slack.rt:94:13
+mul-slack : tie.Need-mul-slack Inv-loop μ-loop
+mul-slack c = search needs
+
+-- src/slack.rt:94:13
+element-write-slack : tie.Need-element-write-slack Inv-loop μ-loop
+element-write-slack c = search needs
+
+-- src/slack.rt:97:9
+add-i : tie.Need-add-i Inv-loop μ-loop
+add-i c = search needs
+
+-- src/slack.rt:90:5
+loop-less : tie.Need-loop-less Inv-loop μ-loop
+loop-less c = search needs
+
+-- src/slack.rt:90:5
+loop-again : tie.Need-loop-again Inv-loop μ-loop
+unfolding row
+loop-again c =
+    let a = c .before .before .before .before .before .before .before .args in
+    let l = c .before .before .before .before .before .before .loop in
+    let f : ℕ → ℕ = λ k. lifted (a .whole) (a .over) (row (a .quotient .now) k) (row (a .rest .now) k) in
+    let g : ℕ → ℕ = row (a .slack .now) in
+    let v = c .before .lift .ensures in (
+      omega arith,
+      ⊎-elim
+          (λ w. w .1 ∙ stored f g (l .slack) (l .i) _ _ (omega arith) (l .inv .1) refl v)
+          (λ w. w .1 ∙ left f g (l .slack) (l .i) _ _ (omega arith) (l .inv .1) refl v (w .0 .left))
+          (c .if1 .came),
+      ⊎-elim
+          (λ w. w .2 ∙ flagged f g (l .slack) (l .i) _ _ (omega arith) (l .inv .1) refl v (w .0 .taken))
+          (λ w. w .2 ∙ unflagged f g (l .slack) (l .i) _ _ (omega arith) (l .inv .1) refl v _ (w .0 .left) (l .inv .2))
+          (c .if1 .came),
+    )
+
+-- src/slack.rt:77:1
+returns : tie.Need-returns Inv-loop μ-loop
+returns c =
+    let e : c .before .loop .i ≡ c .before .before .args .tasks = omega arith in
+    (rw e at (c .before .loop .inv .1), rw e at (c .before .loop .inv .2))
+
+pub raise-spec : {M : Type 1} → statement M
+raise-spec =
+    tie.close
+    (tie.spec
+    Inv-loop
+    μ-loop
+    loop-holds
+    mul-old
+    element-copy-out-old
+    mul-lift
+    element-copy-out-lift
+    mul-lift-2
+    element-copy-out-lift-2
+    lift-requires
+    mul-slack
+    element-write-slack
+    add-i
+    loop-less
+    loop-again
+    returns)

@@ -1,0 +1,213 @@
+use borrow.Author.Tests.{not-true, not-false}
+use lib.ListN.{List·getD-eq-default}
+use native.Mathlib.Nat.{le-trans, div-le-self, mod-lt, mod-le}
+use borrow.Author.Tests.{ltb-true, ltb-false}
+use lib.Dec.{ltb}
+use Rattle.slack.specs.Settling.{lifted, upto}
+use mathlib.Core.Bool.{Bool, true, false}
+use mathlib.Core.List.{List}
+use Prim.Native.Nat.{_/_, _%_}
+use lib.ListN.{length-replicate, getD-replicate, replicate}
+use Rattle.laws.specs.Sum.{sum, count}
+use Rattle.laws.specs.Tab.{tab, cut}
+use Rattle.largest.specs.Passes.{members}
+use Rattle.tasks.specs.TaskSet.{TaskSet, amount, found, row}
+use Rattle.tasks.specs.RisingLaws.{Rising, rising-start}
+use Rattle.slack.specs.Settling.{Settling}
+use Rattle.slack.specs.SettleLaws.{cores-low, cores-high, more, tasks-high, multiple-low, multiple-high, few, surplus-high, amounts, amount-row}
+use Rattle.slack.specs.SearchLaws.{chosen-first, turn-need, turn-rising, turn-length, turn-past, turn-over, turn-less}
+use borrow.Author.Needs.{needs}
+use native.Mathlib.Omega.{arith}
+use native.Mathlib.Numerals.{add-one}
+use Prim.Native.Nat.{ℕ, _≤_, _<_, _+_, _*_, _-_}
+use mathlib.Core.Path.{_≡_, refl, ap, sym, _∙_}
+use mathlib.Core.Logic.{⊎-elim}
+use lib.ListN.{length, getD, set, length-set}
+use Rattle.slack.proofs.slack.search.Statement.{statement}
+use Rattle.slack.proofs.slack.search.Tie as tie
+use Rattle.slack.proofs.slack.search.Reads as reads
+use Rattle.slack.proofs.slack.search.Lts as lts
+use Rattle.slack.proofs.amount.amount.Reads as amount-reads
+use Rattle.slack.proofs.amount.first_chosen.Reads as first-chosen-reads
+use Rattle.slack.proofs.slack.quotients.Reads as quotients-reads
+use Rattle.slack.proofs.slack.raise.Reads as raise-reads
+use Rattle.slack.proofs.slack.remainders.Reads as remainders-reads
+
+zeros : (k : ℕ) → row (replicate 16 0) k ≡ 0
+unfolding row
+zeros k = go (ltb k 16) refl
+  where
+    go : (b : Bool) → ltb k 16 ≡ b → _≡_ {A = ℕ} (getD (replicate 16 0) k 0) 0
+    go true e = getD-replicate 16 k 0 0 (ltb-true k 16 e)
+    go false e = List·getD-eq-default (replicate 16 0) 0 (ltb-false k 16 e)
+
+-- what is needed, divided by the number of cores, fits 32 bits
+fits : (d m : ℕ) → d ≤ 6500000 → 2 ≤ m → (d / m ≤ 6500000) × (d % m ≤ 6500000)
+fits d m h l = (le-trans (div-le-self d m) h, le-trans (mod-le d m) h)
+
+abbrev Inv-loop : tie.InvT-loop
+Inv-loop share budget offset multiple surplus cores tasks quotient rest chosen₀ slack₀ chosen slack =
+    (length slack ≡ 16)
+    × ((k : ℕ) → tasks ≤ k → row slack k ≡ 0)
+    × (count (members chosen) tasks ≡ cores - 1)
+    × ((s : TaskSet) → Settling s share budget offset multiple surplus cores tasks → Rising s (row slack))
+
+abbrev μ-loop : tie.MeasureT-loop
+μ-loop share budget offset multiple surplus cores tasks quotient rest chosen₀ slack₀ chosen slack =
+    tasks * 800000 - sum (row slack) tasks
+
+-- src/slack.rt:118:38
+cast-quotients : tie.Need-cast-quotients Inv-loop μ-loop
+cast-quotients c = let g = c .pre .1 in omega (arith, cores-high _ _ _ _ _ _ _ _ g)
+
+-- src/slack.rt:118:20
+quotients-requires : tie.Need-quotients-requires Inv-loop μ-loop
+quotients-requires c κs = let g = c .pre .1 in (tasks-high _ _ _ _ _ _ _ _ g, omega (arith, cores-low _ _ _ _ _ _ _ _ g))
+
+-- src/slack.rt:119:35
+cast-remainders : tie.Need-cast-remainders Inv-loop μ-loop
+cast-remainders c = let g = c .before .pre .1 in omega (arith, cores-high _ _ _ _ _ _ _ _ g)
+
+-- src/slack.rt:119:16
+remainders-requires : tie.Need-remainders-requires Inv-loop μ-loop
+remainders-requires c κs = let g = c .before .pre .1 in (tasks-high _ _ _ _ _ _ _ _ g, omega (arith, cores-low _ _ _ _ _ _ _ _ g))
+
+-- src/slack.rt:120:35
+sub-first-chosen : tie.Need-sub-first-chosen Inv-loop μ-loop
+sub-first-chosen c = let g = c .before .before .pre .1 in omega (arith, cores-low _ _ _ _ _ _ _ _ g)
+
+-- src/slack.rt:120:22
+first-chosen-requires : tie.Need-first-chosen-requires Inv-loop μ-loop
+first-chosen-requires c κs = let g = c .before .before .pre .1 in omega (arith, cores-high _ _ _ _ _ _ _ _ g)
+
+-- src/slack.rt:122:5
+loop-holds : tie.Need-loop-holds Inv-loop μ-loop
+loop-holds c =
+    let s = c .before .before .before in
+    let g = s .pre .1 in (
+      refl,
+      λ k l. zeros k,
+      rw (c .first-chosen .ensures)
+          (chosen-first (s .args .cores - 1) (s .args .tasks) (omega (arith, more _ _ _ _ _ _ _ _ g)) (tasks-high _ _ _ _ _ _ _ _ g)),
+      λ t k. rising-start t _ (λ i l. zeros i),
+    )
+
+-- src/slack.rt:123:13
+amount-requires : tie.Need-amount-requires Inv-loop μ-loop
+amount-requires c κs =
+    let g = c .before .before .before .before .before .before .pre .1 in
+    (few _ _ _ _ _ _ _ _ g, surplus-high _ _ _ _ _ _ _ _ g)
+
+-- src/slack.rt:124:30
+sub-need : tie.Need-sub-need Inv-loop μ-loop
+sub-need c = let g = c .before .before .before .before .before .before .before .pre .1 in multiple-low _ _ _ _ _ _ _ _ g
+
+-- src/slack.rt:124:21
+add-need : tie.Need-add-need Inv-loop μ-loop
+add-need c =
+    let s = c .before .before .before .before .before .before .before in
+    let l = c .before .before .before .loop in
+    let g = s .pre .1 in
+    let e = c .amount .ensures .0 ∙ amount-row _ _ _ _ _ _ _ _ g (l .slack) _ (l .inv .2) in
+    omega (arith, e, amounts _ _ _ _ _ _ _ _ g (l .slack) (l .inv .3 _ g), multiple-high _ _ _ _ _ _ _ _ g)
+
+-- src/slack.rt:124:20
+div-need : tie.Need-div-need Inv-loop μ-loop
+div-need c = let g = c .before .before .before .before .before .before .before .pre .1 in multiple-low _ _ _ _ _ _ _ _ g
+
+-- src/slack.rt:129:14
+div-raise : tie.Need-div-raise Inv-loop μ-loop
+div-raise c = let g = c .before .before .before .before .before .before .before .before .before .before .pre .1 in omega (arith, cores-low _ _ _ _ _ _ _ _ g)
+
+-- src/slack.rt:129:13
+cast-raise : tie.Need-cast-raise Inv-loop μ-loop
+cast-raise c =
+    let g = c .before .before .before .before .before .before .before .before .before .before .pre .1 in
+    let l = c .before .before .before .before .before .before .loop in
+    let e = c .before .before .before .amount .ensures .0 ∙ amount-row _ _ _ _ _ _ _ _ g (l .slack) _ (l .inv .2) in
+    let d = turn-need _ _ _ _ _ _ _ _ g (l .slack) _ _ e refl (l .inv .3 _ g) in
+    omega (arith, fits _ _ d (cores-low _ _ _ _ _ _ _ _ g) .0)
+
+-- src/slack.rt:130:14
+rem-raise : tie.Need-rem-raise Inv-loop μ-loop
+rem-raise c = let g = c .before .before .before .before .before .before .before .before .before .before .pre .1 in omega (arith, cores-low _ _ _ _ _ _ _ _ g)
+
+-- src/slack.rt:130:13
+cast-raise-2 : tie.Need-cast-raise-2 Inv-loop μ-loop
+cast-raise-2 c =
+    let g = c .before .before .before .before .before .before .before .before .before .before .pre .1 in
+    let l = c .before .before .before .before .before .before .loop in
+    let e = c .before .before .before .amount .ensures .0 ∙ amount-row _ _ _ _ _ _ _ _ g (l .slack) _ (l .inv .2) in
+    let d = turn-need _ _ _ _ _ _ _ _ g (l .slack) _ _ e refl (l .inv .3 _ g) in
+    omega (arith, fits _ _ d (cores-low _ _ _ _ _ _ _ _ g) .1)
+
+-- src/slack.rt:125:13
+raise-requires : tie.Need-raise-requires Inv-loop μ-loop
+raise-requires c κs =
+    let g = c .before .before .before .before .before .before .before .before .before .before .pre .1 in
+    let l = c .before .before .before .before .before .before .loop in
+    let e = c .before .before .before .amount .ensures .0 ∙ amount-row _ _ _ _ _ _ _ _ g (l .slack) _ (l .inv .2) in
+    let d = turn-need _ _ _ _ _ _ _ _ g (l .slack) _ _ e refl (l .inv .3 _ g) in
+    (l .inv .0, tasks-high _ _ _ _ _ _ _ _ g, omega (arith, fits _ _ d (cores-low _ _ _ _ _ _ _ _ g) .0))
+
+-- src/slack.rt:122:5
+loop-less : tie.Need-loop-less Inv-loop μ-loop
+loop-less c =
+    let g = c .before .before .before .before .before .before .before .before .before .before .before .before .pre .1 in
+    let l = c .before .before .before .before .before .before .before .before .loop in
+    let e = c .before .before .before .before .before .amount .ensures .0 ∙ amount-row _ _ _ _ _ _ _ _ g (l .slack) _ (l .inv .2) in
+    let v = c .before .raise .ensures in
+    turn-less _ _ _ _ _ _ _ _ g (l .slack) _ _ e refl (l .inv .3 _ g) _ _ (c .before .before .before .before .before .before .before .before .before .before .before .quotients .ensures) (c .before .before .before .before .before .before .before .before .before .before .remainders .ensures) _ (v .0) (sym (not-false _ (c .if1 .left)) ∙ v .1)
+
+-- src/slack.rt:122:5
+loop-again : tie.Need-loop-again Inv-loop μ-loop
+loop-again c =
+    let g = c .before .before .before .before .before .before .before .before .before .before .before .before .pre .1 in
+    let l = c .before .before .before .before .before .before .before .before .loop in
+    let e = c .before .before .before .before .before .amount .ensures .0 ∙ amount-row _ _ _ _ _ _ _ _ g (l .slack) _ (l .inv .2) in
+    let q = c .before .before .before .before .before .before .before .before .before .before .before .quotients .ensures in
+    let r = c .before .before .before .before .before .before .before .before .before .before .remainders .ensures in
+    let v = c .before .raise .ensures .0 in (
+      turn-length _ _ _ _ _ _ _ _ g (l .slack) _ _ e refl (l .inv .3 _ g) _ _ q r _ v,
+      turn-past _ _ _ _ _ _ _ _ g (l .slack) _ _ e refl (l .inv .3 _ g) _ _ q r _ v (l .inv .1),
+      c .before .before .before .before .before .amount .ensures .1 ∙ l .inv .2,
+      λ t k.
+          turn-rising _ _ _ _ _ _ _ _ k (l .slack) _ _ (c .before .before .before .before .before .amount .ensures .0 ∙ amount-row _ _ _ _ _ _ _ _ k (l .slack) _ (l .inv .2)) refl
+          (l .inv .3 t k) _ _ q r _ v,
+    )
+
+-- src/slack.rt:106:1
+returns : tie.Need-returns Inv-loop μ-loop
+returns c =
+    λ t k.
+    let l = c .before .before .before .before .before .before .before .before .loop in
+    let v = c .before .raise .ensures in
+    turn-over _ _ _ _ _ _ _ _ k (l .slack) _ _ (c .before .before .before .before .before .amount .ensures .0 ∙ amount-row _ _ _ _ _ _ _ _ k (l .slack) _ (l .inv .2)) refl
+    (l .inv .3 t k) _ _ (c .before .before .before .before .before .before .before .before .before .before .before .quotients .ensures) (c .before .before .before .before .before .before .before .before .before .before .remainders .ensures) _ (v .0) (l .inv .1)
+    (sym (not-true _ (c .if1 .taken)) ∙ v .1)
+
+pub search-spec : {M : Type 1} → statement M
+search-spec =
+    tie.close
+    (tie.spec
+    Inv-loop
+    μ-loop
+    cast-quotients
+    quotients-requires
+    cast-remainders
+    remainders-requires
+    sub-first-chosen
+    first-chosen-requires
+    loop-holds
+    amount-requires
+    sub-need
+    add-need
+    div-need
+    div-raise
+    cast-raise
+    rem-raise
+    cast-raise-2
+    raise-requires
+    loop-less
+    loop-again
+    returns)

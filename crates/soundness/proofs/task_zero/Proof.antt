@@ -1,0 +1,28 @@
+use borrow.Author.Tests.{lt-ltb, le-ltb, le-leb, lt-leb, eq-eqb, ne-eqb, not-true, not-false}
+use native.Mathlib.Omega.{arith}
+use native.Mathlib.Numerals.{add-one}
+use Prim.Native.Nat.{ℕ, _≤_, _<_, _+_, _*_, _-_}
+use mathlib.Core.Path.{_≡_, refl, ap, sym, _∙_}
+use mathlib.Core.Logic.{⊎-elim}
+use lib.ListN.{length, getD, set, length-set}
+use borrow.Author.Needs.{needs}
+use Rattle.soundness.proofs.task_zero.Statement.{statement}
+use Rattle.soundness.proofs.task_zero.Tie as tie
+use Rattle.soundness.proofs.task_zero.Reads as reads
+use Rattle.soundness.proofs.task_zero.Lts as lts
+use Rattle.soundness.proofs.zeros.Reads as zeros-reads
+
+returns : tie.Need-returns
+returns c = rw (lt-ltb _ _ (c .if1 .taken))
+
+zeros-requires : tie.Need-zeros-requires
+zeros-requires c κs = search needs
+
+returns-2 : tie.Need-returns-2
+returns-2 c = rw (le-ltb _ _ (c .before .before .if1 .left), sym (c .before .zeros .ensures) ∙ not-true _ (c .if2 .taken))
+
+returns-3 : tie.Need-returns-3
+returns-3 c = rw (le-ltb _ _ (c .before .before .if1 .left), sym (c .before .zeros .ensures) ∙ not-false _ (c .if2 .left))
+
+pub task-zero-spec : {M : Type 1} → statement M
+task-zero-spec = tie.close (tie.spec returns zeros-requires returns-2 returns-3)
