@@ -23,9 +23,9 @@ use Rattle.tasks.specs.Content.{Content, noTask}
 use Rattle.tasks.specs.Limits.{Bounded}
 use Rattle.tasks.specs.TestsLaws.{Passed}
 use Rattle.tasks.specs.FoundLaws.{found-past}
-use Rattle.table.specs.Bytes.{byte, number, digits, entries}
-use Rattle.table.specs.Table.{coreCount, taskCount, tasksAt, slackCount, slackAt, taskIn, taskSetIn, contentIn, taskBytes, bytesOf}
-use Rattle.table.specs.ByteLaws.{number-after, number-digits, number-digits-at, length-digits, length-entries, byte-entries, number-entries}
+use Rattle.codec.specs.Bytes.{byte, number, digits, entries}
+use Rattle.codec.specs.Table.{coreCount, taskCount, tasksAt, slackCount, slackAt, taskIn, taskSetIn, contentIn, taskBytes, bytesOf}
+use Rattle.codec.specs.ByteLaws.{number-after, number-digits, number-digits-at, length-digits, length-entries, byte-entries, number-entries}
 use Rattle.table.specs.WriteLaws.{length-task}
 use Rattle.roundtrip.specs.KeptLaws.{content-ext, Kept}
 

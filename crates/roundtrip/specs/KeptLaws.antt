@@ -23,8 +23,8 @@ use Rattle.tasks.specs.Content.{Content, noTask, taskOf, contentOf, planOf, tid
 use Rattle.tasks.specs.Tests.{tests}
 use Rattle.tasks.specs.TestsLaws.{Passed, tests-passed}
 use Rattle.tasks.specs.FoundLaws.{found-past}
-use Rattle.table.specs.Bytes.{byte, number}
-use Rattle.table.specs.Table.{coreCount, taskCount, tasksAt, slackCount, slackAt, taskIn, taskSetIn, contentIn}
+use Rattle.codec.specs.Bytes.{byte, number}
+use Rattle.codec.specs.Table.{coreCount, taskCount, tasksAt, slackCount, slackAt, taskIn, taskSetIn, contentIn}
 
 pub content-ext :
     (c d : Content) → c .tasks .cores ≡ d .tasks .cores → c .tasks .count ≡ d .tasks .count

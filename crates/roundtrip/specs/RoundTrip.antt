@@ -21,10 +21,10 @@ use Rattle.tasks.specs.Tests.{orNext, firstMet, tests, testPlan}
 use Rattle.tasks.specs.TestsLaws.{Passed, tests-passed}
 use Rattle.table.specs.declared.Judgement.{Judgement}
 use Rattle.table.specs.declared.Written.the-variants.{Length}
-use Rattle.table.specs.Table.{slackCount, slackAt, taskSetIn, contentIn, verdict, bytesOf}
+use Rattle.codec.specs.Table.{slackCount, slackAt, taskSetIn, contentIn, verdict, bytesOf}
 use Rattle.table.specs.Judged.{judged, writeTest, writtenAs, written}
-use Rattle.table.specs.Bytes.{byte}
-use Rattle.table.specs.ByteLaws.{Bytes}
+use Rattle.codec.specs.Bytes.{byte}
+use Rattle.codec.specs.ByteLaws.{Bytes}
 use Rattle.roundtrip.specs.KeptLaws.{Kept, kept, kept-plan, kept-table}
 use Rattle.roundtrip.specs.SectionLaws.{Parts, verdict-parts, parts-verdict, table-parts, labels-again, tasks-again, slack-again}
 use Rattle.table.specs.WriteLaws.{length-bytes}

@@ -19,9 +19,9 @@ use Rattle.tasks.specs.declared.Answer.the-variants.{Accepted}
 use Rattle.tasks.specs.Content.{noTask}
 use Rattle.tasks.specs.Tests.{firstMet, tests}
 use Rattle.tasks.specs.AnswerLaws.{refuse-passed, firstMet-passed}
-use Rattle.table.specs.Bytes.{byte, number, digits, entries}
-use Rattle.table.specs.Table.{coreCount, taskCount, tasksAt, slackCount, slackAt, taskIn, taskSetIn, contentIn, test1, test2, verdict, taskBytes}
-use Rattle.table.specs.ByteLaws.{Bytes, digits-number, entries-same, entries-parts}
+use Rattle.codec.specs.Bytes.{byte, number, digits, entries}
+use Rattle.codec.specs.Table.{coreCount, taskCount, tasksAt, slackCount, slackAt, taskIn, taskSetIn, contentIn, test1, test2, verdict, taskBytes}
+use Rattle.codec.specs.ByteLaws.{Bytes, digits-number, entries-same, entries-parts}
 
 pub record Parts (t : List ℕ) : Type 0 where
   pub edition : byte t 0 ≡ 1

@@ -93,8 +93,8 @@ fn raise(
     while i < tasks {
         let old = slack[i];
         let new = lift(whole, over, quotient[i], rest[i]);
+        slack[i] = new;
         if new != old {
-            slack[i] = new;
             changed = true;
         }
         i += 1;
@@ -115,19 +115,20 @@ pub fn search(
     requires { ⌜ ((s : TaskSet) × Settling s (now share) (now budget) (now offset) multiple surplus cores tasks) ⌝ }
     ensures { λ r. ⌜ ((s : TaskSet) → Settling s (now (share .entry)) (now (budget .entry)) (now (offset .entry)) multiple surplus cores tasks → r ≡ tab (row (found s)) 16) ⌝ }
 {
-    let quotient = quotients(budget, cores as u32, tasks);
-    let rest = remainders(budget, cores as u32, tasks);
+    let divisor = cores as u32;
+    let quotient = quotients(budget, divisor, tasks);
+    let rest = remainders(budget, divisor, tasks);
     let mut chosen = first_chosen(cores - 1);
     let mut slack = [0u32; 16];
     loop {
         let whole = amount(share, offset, &slack, &mut chosen, surplus, tasks);
-        let need = (whole + (multiple - 1)) / multiple;
+        let need = ((whole + (multiple - 1)) / multiple) as u32;
         if !raise(
             &mut slack,
             &quotient,
             &rest,
-            (need / (cores as u64)) as u32,
-            (need % (cores as u64)) as u32,
+            need / divisor,
+            need % divisor,
             tasks,
         ) {
             break slack;

@@ -21,3 +21,5 @@ pub mod CodeLaws
 pub mod StepLaws
 pub mod Tests
 pub mod CallLaws
+pub mod TakenLaws
+pub mod SoundKept

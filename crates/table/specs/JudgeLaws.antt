@@ -28,11 +28,11 @@ use Rattle.analysis.specs.PlanTest.{boundsOf}
 use Rattle.analysis.specs.SettledLaws.{passed-on}
 use Rattle.analysis.specs.JudgingLaws.{judging, judging-tests, judging-found, judging-limits, judging-count}
 use Rattle.table.specs.declared.Judgement.{Judgement}
-use Rattle.table.specs.Bytes.{byte, number}
-use Rattle.table.specs.Table.{coreCount, taskCount, tasksAt, slackCount, slackAt, taskIn, taskSetIn, contentIn, test1, test2, verdict}
+use Rattle.codec.specs.Bytes.{byte, number}
+use Rattle.codec.specs.Table.{coreCount, taskCount, tasksAt, slackCount, slackAt, taskIn, taskSetIn, contentIn, test1, test2, verdict}
 use Rattle.table.specs.Judged.{onAccepted, zeroPlan, refusedWith, judged}
-use Rattle.table.specs.declared.read.Counts.the-variants.{Read, Refused as NotRead}
-use Rattle.table.specs.Stages.{countsIn, answerOfCounts}
+use Rattle.codec.specs.declared.read.Counts.the-variants.{Read, Refused as NotRead}
+use Rattle.codec.specs.Stages.{countsIn, answerOfCounts}
 use Rattle.table.specs.LoadedLaws.{planIn, tasks-in, labels-in, limits-all, offered-in}
 
 pub record Counted (t : List ℕ) (m n k : ℕ) : Type 0 where

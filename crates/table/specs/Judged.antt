@@ -16,7 +16,7 @@ use Rattle.tasks.specs.Tests.{refuse, firstMet, testPlan}
 use Rattle.table.specs.declared.Judgement.{Judgement}
 use Rattle.table.specs.declared.Written.{Written}
 use Rattle.table.specs.declared.Written.the-variants.{Length, Refused as NotWritten}
-use Rattle.table.specs.Table.{contentIn, bytesOf, slackAt, verdict}
+use Rattle.codec.specs.Table.{contentIn, bytesOf, slackAt, verdict}
 
 unfoldable pub zeroPlan : Plan
 zeroPlan =

@@ -2,8 +2,6 @@ pub mod Bytes
 pub mod Table
 pub mod Judged
 pub mod ByteLaws
-pub mod Stages
-pub mod StageLaws
 pub mod WriteLaws
 pub mod LoadedLaws
 pub mod JudgeLaws

@@ -22,8 +22,8 @@ use Rattle.tasks.specs.TaskSet.{found, row}
 use Rattle.tasks.specs.Content.{Content, noTask, taskOf, contentOf}
 use Rattle.tasks.specs.Tests.{outside, firstMet, tests, testPlan, test3, test4, test5, test6, test7, test8, test9, test10}
 use Rattle.tasks.specs.LimitsLaws.{limitTests}
-use Rattle.table.specs.Bytes.{byte, number}
-use Rattle.table.specs.Table.{coreCount, taskCount, tasksAt, slackCount, slackAt, taskIn, taskSetIn, contentIn}
+use Rattle.codec.specs.Bytes.{byte, number}
+use Rattle.codec.specs.Table.{coreCount, taskCount, tasksAt, slackCount, slackAt, taskIn, taskSetIn, contentIn}
 
 unfoldable pub planIn : List ℕ → Bool → List ℕ → Plan
 planIn t offered x =

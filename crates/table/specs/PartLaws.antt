@@ -13,7 +13,7 @@ use Rattle.tasks.specs.declared.Answer.the-variants.{Accepted, Refused}
 use Rattle.tasks.specs.Content.{planOf}
 use Rattle.tasks.specs.AnswerLaws.{firstMet-passed}
 use Rattle.table.specs.declared.Judgement.{Judgement}
-use Rattle.table.specs.Table.{coreCount, taskCount, tasksAt, slackCount, slackAt, taskSetIn, contentIn, test1, test2, verdict}
+use Rattle.codec.specs.Table.{coreCount, taskCount, tasksAt, slackCount, slackAt, taskSetIn, contentIn, test1, test2, verdict}
 use Rattle.table.specs.Judged.{onAccepted, zeroPlan, judged, slackPart}
 use Rattle.table.specs.JudgeLaws.{right-length}
 

@@ -23,9 +23,9 @@ use Rattle.tasks.specs.declared.Task.{Task}
 use Rattle.tasks.specs.declared.Plan.{Plan}
 use Rattle.tasks.specs.TaskSet.{row}
 use Rattle.tasks.specs.Content.{Content, contentOf, taskOf, noTask}
-use Rattle.table.specs.Bytes.{digits, entries}
-use Rattle.table.specs.Table.{taskBytes, bytesOf}
-use Rattle.table.specs.ByteLaws.{length-digits, length-entries, entries-same}
+use Rattle.codec.specs.Bytes.{digits, entries}
+use Rattle.codec.specs.Table.{taskBytes, bytesOf}
+use Rattle.codec.specs.ByteLaws.{length-digits, length-entries, entries-same}
 
 pub length-task : (k : Task) → length (taskBytes k) ≡ 12
 unfolding taskBytes digits

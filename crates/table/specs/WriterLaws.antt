@@ -14,7 +14,7 @@ use Rattle.tasks.specs.Tests.{firstMet, testPlan}
 use Rattle.tasks.specs.TestsLaws.{tests-limits}
 use Rattle.table.specs.declared.Written.{Written}
 use Rattle.table.specs.declared.Written.the-variants.{Length, Refused as NotWritten}
-use Rattle.table.specs.Table.{bytesOf}
+use Rattle.codec.specs.Table.{bytesOf}
 use Rattle.table.specs.Judged.{writtenAs, writeTest, written, writtenTo}
 
 module _ (p : Plan) (out : List ℕ) where

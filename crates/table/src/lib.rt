@@ -3,7 +3,6 @@ use tasks::Answer;
 use tasks::Plan;
 
 mod put;
-mod read;
 mod verdict;
 mod writer;
 

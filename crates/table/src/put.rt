@@ -10,8 +10,8 @@ ghost use lib.ListN.{length, drop};
 ghost use lib.Seq.{sets};
 ghost use Rattle.tasks.specs.TaskSet.{row};
 ghost use Rattle.tasks.specs.Content.{contentOf, taskOf};
-ghost use Rattle.table.specs.Bytes.{digits, entries};
-ghost use Rattle.table.specs.Table.{taskBytes, bytesOf};
+ghost use Rattle.codec.specs.Bytes.{digits, entries};
+ghost use Rattle.codec.specs.Table.{taskBytes, bytesOf};
 
 // A number's four bytes, low byte first, from `at` on.
 pub fn put4(out: &mut [u8], at: usize, v: u32)

@@ -1,18 +1,18 @@
 // The judgement of a table's bytes, and the part of them that is its slack section.
 use crate::Judgement;
-use crate::read::Counts;
-use crate::read::load_labels;
-use crate::read::load_slack;
-use crate::read::load_tasks;
-use crate::read::read_counts;
 use analysis::plan_bounds;
 use analysis::settle::settle;
+use codec::read::Counts;
+use codec::read::load_labels;
+use codec::read::load_slack;
+use codec::read::load_tasks;
+use codec::read::read_counts;
 use tasks::Answer;
 use tasks::Plan;
 use tasks::Task;
 ghost use mathlib.Core.Path.{_≡_};
 ghost use Rattle.table.specs.Judged.{judged, refusedWith, slackPart};
-ghost use Rattle.table.specs.Stages.{answerOfCounts};
+ghost use Rattle.codec.specs.Stages.{answerOfCounts};
 ghost use Rattle.table.specs.JudgeLaws.{Counted, loaded, Judges};
 
 // "A refused judgement … hands back a plan … of zeros"

@@ -1,6 +1,6 @@
 use mathlib.Core.Bool.{Bool, true, false}
 use mathlib.Core.List.{List}
-use Rattle.slack.specs.SettlingLaws.{sweep-none, sweep-old, sweep-set, sweep-keep}
+use Rattle.slack.specs.SettlingLaws.{sweep-none, sweep-old, sweep-set}
 use borrow.Author.Tests.{lt-ltb, le-ltb, eq-eqb, ne-eqb}
 use mathlib.Core.Bool.{not}
 use lib.Dec.{ltb, eqb}
@@ -34,9 +34,6 @@ module _ (f g : ℕ → ℕ) (l : List ℕ) (i old new : ℕ) (h : i < 16) (inv 
 
   stored : set l i new ≡ tab (upto (i + 1) f g) 16
   stored = rw v (sweep-set f g l i h inv)
-
-  left : new ≡ old → l ≡ tab (upto (i + 1) f g) 16
-  left e = sweep-keep f g l i h inv (sym v ∙ e ∙ was)
 
   flagged : (new ≡ old → ⊥) → true ≡ ltb (first (λ k. not (eqb (g k) (f k))) (i + 1)) (i + 1)
   flagged n =
@@ -115,13 +112,10 @@ loop-again c =
     let g : ℕ → ℕ = row (a .slack .now) in
     let v = c .before .lift .ensures in (
       omega arith,
+      stored f g (l .slack) (l .i) _ _ (omega arith) (l .inv .1) refl v,
       ⊎-elim
-          (λ w. w .1 ∙ stored f g (l .slack) (l .i) _ _ (omega arith) (l .inv .1) refl v)
-          (λ w. w .1 ∙ left f g (l .slack) (l .i) _ _ (omega arith) (l .inv .1) refl v (w .0 .left))
-          (c .if1 .came),
-      ⊎-elim
-          (λ w. w .2 ∙ flagged f g (l .slack) (l .i) _ _ (omega arith) (l .inv .1) refl v (w .0 .taken))
-          (λ w. w .2 ∙ unflagged f g (l .slack) (l .i) _ _ (omega arith) (l .inv .1) refl v _ (w .0 .left) (l .inv .2))
+          (λ w. w .1 ∙ flagged f g (l .slack) (l .i) _ _ (omega arith) (l .inv .1) refl v (w .0 .taken))
+          (λ w. w .1 ∙ unflagged f g (l .slack) (l .i) _ _ (omega arith) (l .inv .1) refl v _ (w .0 .left) (l .inv .2))
           (c .if1 .came),
     )
 

@@ -46,27 +46,23 @@ fits : (d m : ℕ) → d ≤ 6500000 → 2 ≤ m → (d / m ≤ 6500000) × (d %
 fits d m h l = (le-trans (div-le-self d m) h, le-trans (mod-le d m) h)
 
 abbrev Inv-loop : tie.InvT-loop
-Inv-loop share budget offset multiple surplus cores tasks quotient rest chosen₀ slack₀ chosen slack =
+Inv-loop share budget offset multiple surplus cores tasks divisor quotient rest chosen₀ slack₀ chosen slack =
     (length slack ≡ 16)
     × ((k : ℕ) → tasks ≤ k → row slack k ≡ 0)
     × (count (members chosen) tasks ≡ cores - 1)
     × ((s : TaskSet) → Settling s share budget offset multiple surplus cores tasks → Rising s (row slack))
 
 abbrev μ-loop : tie.MeasureT-loop
-μ-loop share budget offset multiple surplus cores tasks quotient rest chosen₀ slack₀ chosen slack =
+μ-loop share budget offset multiple surplus cores tasks divisor quotient rest chosen₀ slack₀ chosen slack =
     tasks * 800000 - sum (row slack) tasks
 
 -- src/slack.rt:118:38
-cast-quotients : tie.Need-cast-quotients Inv-loop μ-loop
-cast-quotients c = let g = c .pre .1 in omega (arith, cores-high _ _ _ _ _ _ _ _ g)
+cast-divisor : tie.Need-cast-divisor Inv-loop μ-loop
+cast-divisor c = let g = c .pre .1 in omega (arith, cores-high _ _ _ _ _ _ _ _ g)
 
 -- src/slack.rt:118:20
 quotients-requires : tie.Need-quotients-requires Inv-loop μ-loop
 quotients-requires c κs = let g = c .pre .1 in (tasks-high _ _ _ _ _ _ _ _ g, omega (arith, cores-low _ _ _ _ _ _ _ _ g))
-
--- src/slack.rt:119:35
-cast-remainders : tie.Need-cast-remainders Inv-loop μ-loop
-cast-remainders c = let g = c .before .pre .1 in omega (arith, cores-high _ _ _ _ _ _ _ _ g)
 
 -- src/slack.rt:119:16
 remainders-requires : tie.Need-remainders-requires Inv-loop μ-loop
@@ -115,31 +111,20 @@ add-need c =
 div-need : tie.Need-div-need Inv-loop μ-loop
 div-need c = let g = c .before .before .before .before .before .before .before .pre .1 in multiple-low _ _ _ _ _ _ _ _ g
 
+cast-need : tie.Need-cast-need Inv-loop μ-loop
+cast-need c =
+    let g = c .before .before .before .before .before .before .before .pre .1 in
+    let l = c .before .before .before .loop in
+    let e = c .amount .ensures .0 ∙ amount-row _ _ _ _ _ _ _ _ g (l .slack) _ (l .inv .2) in
+    omega (arith, turn-need _ _ _ _ _ _ _ _ g (l .slack) _ _ e refl (l .inv .3 _ g))
+
 -- src/slack.rt:129:14
 div-raise : tie.Need-div-raise Inv-loop μ-loop
 div-raise c = let g = c .before .before .before .before .before .before .before .before .before .before .pre .1 in omega (arith, cores-low _ _ _ _ _ _ _ _ g)
 
--- src/slack.rt:129:13
-cast-raise : tie.Need-cast-raise Inv-loop μ-loop
-cast-raise c =
-    let g = c .before .before .before .before .before .before .before .before .before .before .pre .1 in
-    let l = c .before .before .before .before .before .before .loop in
-    let e = c .before .before .before .amount .ensures .0 ∙ amount-row _ _ _ _ _ _ _ _ g (l .slack) _ (l .inv .2) in
-    let d = turn-need _ _ _ _ _ _ _ _ g (l .slack) _ _ e refl (l .inv .3 _ g) in
-    omega (arith, fits _ _ d (cores-low _ _ _ _ _ _ _ _ g) .0)
-
 -- src/slack.rt:130:14
 rem-raise : tie.Need-rem-raise Inv-loop μ-loop
 rem-raise c = let g = c .before .before .before .before .before .before .before .before .before .before .pre .1 in omega (arith, cores-low _ _ _ _ _ _ _ _ g)
-
--- src/slack.rt:130:13
-cast-raise-2 : tie.Need-cast-raise-2 Inv-loop μ-loop
-cast-raise-2 c =
-    let g = c .before .before .before .before .before .before .before .before .before .before .pre .1 in
-    let l = c .before .before .before .before .before .before .loop in
-    let e = c .before .before .before .amount .ensures .0 ∙ amount-row _ _ _ _ _ _ _ _ g (l .slack) _ (l .inv .2) in
-    let d = turn-need _ _ _ _ _ _ _ _ g (l .slack) _ _ e refl (l .inv .3 _ g) in
-    omega (arith, fits _ _ d (cores-low _ _ _ _ _ _ _ _ g) .1)
 
 -- src/slack.rt:125:13
 raise-requires : tie.Need-raise-requires Inv-loop μ-loop
@@ -192,9 +177,8 @@ search-spec =
     (tie.spec
     Inv-loop
     μ-loop
-    cast-quotients
+    cast-divisor
     quotients-requires
-    cast-remainders
     remainders-requires
     sub-first-chosen
     first-chosen-requires
@@ -203,10 +187,9 @@ search-spec =
     sub-need
     add-need
     div-need
+    cast-need
     div-raise
-    cast-raise
     rem-raise
-    cast-raise-2
     raise-requires
     loop-less
     loop-again

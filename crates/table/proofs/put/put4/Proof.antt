@@ -3,7 +3,7 @@ use Prim.Native.Nat.{_/_, _%_}
 use native.Mathlib.Omega.{arith}
 use lib.ListN.{length-set}
 use borrow.Author.Needs.{needs}
-use Rattle.table.specs.Bytes.{digits}
+use Rattle.codec.specs.Bytes.{digits}
 use Rattle.table.specs.WriteLaws.{sets-four}
 use Rattle.table.proofs.put.put4.Statement.{statement}
 use Rattle.table.proofs.put.put4.Tie as tie

@@ -8,7 +8,7 @@ use lib.Seq.{sets}
 use lib.ListN.{length, length-set}
 use borrow.Author.Needs.{needs}
 use Rattle.tasks.specs.TaskSet.{row}
-use Rattle.table.specs.Bytes.{entries}
+use Rattle.codec.specs.Bytes.{entries}
 use Rattle.table.specs.WriteLaws.{sets-entry, sets-section}
 use Rattle.table.proofs.put.put_labels.Statement.{statement}
 use Rattle.table.proofs.put.put_labels.Tie as tie

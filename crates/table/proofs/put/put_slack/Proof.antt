@@ -7,9 +7,9 @@ use lib.Seq.{sets}
 use lib.ListN.{length, length-set}
 use borrow.Author.Needs.{needs}
 use Rattle.tasks.specs.TaskSet.{row}
-use Rattle.table.specs.Bytes.{digits, entries}
+use Rattle.codec.specs.Bytes.{digits, entries}
 use Rattle.table.specs.WriteLaws.{sets-entry, sets-section}
-use Rattle.table.specs.ByteLaws.{length-digits}
+use Rattle.codec.specs.ByteLaws.{length-digits}
 use Rattle.table.proofs.put.put_slack.Statement.{statement}
 use Rattle.table.proofs.put.put_slack.Tie as tie
 

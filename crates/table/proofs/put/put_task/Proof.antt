@@ -2,10 +2,10 @@
 use Prim.Native.Nat.{_+_}
 use native.Mathlib.Omega.{arith}
 use borrow.Author.Needs.{needs}
-use Rattle.table.specs.Table.{taskBytes}
-use Rattle.table.specs.ByteLaws.{length-digits}
+use Rattle.codec.specs.Table.{taskBytes}
+use Rattle.codec.specs.ByteLaws.{length-digits}
 use Rattle.table.specs.WriteLaws.{sets-three}
-use Rattle.table.specs.Bytes.{digits}
+use Rattle.codec.specs.Bytes.{digits}
 use Rattle.table.proofs.put.put_task.Statement.{statement}
 use Rattle.table.proofs.put.put_task.Tie as tie
 

@@ -7,8 +7,8 @@ use lib.Seq.{sets}
 use lib.ListN.{length, length-set}
 use borrow.Author.Needs.{needs}
 use Rattle.tasks.specs.Content.{noTask, taskOf}
-use Rattle.table.specs.Bytes.{entries}
-use Rattle.table.specs.Table.{taskBytes}
+use Rattle.codec.specs.Bytes.{entries}
+use Rattle.codec.specs.Table.{taskBytes}
 use Rattle.table.specs.WriteLaws.{sets-entry, sets-section, length-task}
 use Rattle.table.proofs.put.put_tasks.Statement.{statement}
 use Rattle.table.proofs.put.put_tasks.Tie as tie

@@ -1,5 +1,5 @@
 use mathlib.Core.Path.{_≡_, sym, _∙_, ap}
-use Rattle.table.specs.Stages.{answerOfCounts}
+use Rattle.codec.specs.Stages.{answerOfCounts}
 use Rattle.table.specs.JudgeLaws.{Judges, counts-passed, counts-refused, judged-from}
 use native.Mathlib.Omega.{arith}
 use native.Mathlib.Numerals.{add-one}
@@ -12,7 +12,7 @@ use Rattle.table.proofs.verdict.judge.Statement.{statement}
 use Rattle.table.proofs.verdict.judge.Tie as tie
 use Rattle.table.proofs.verdict.judge.Reads as reads
 use Rattle.table.proofs.verdict.judge.Lts as lts
-use Rattle.table.proofs.read.read_counts.Reads as read-counts-reads
+use Rattle.codec.proofs.read.read_counts.Reads as read-counts-reads
 use Rattle.table.proofs.verdict.judge_plan.Reads as judge-plan-reads
 use Rattle.table.proofs.verdict.load.Reads as load-reads
 use Rattle.table.proofs.verdict.refused.Reads as refused-reads

@@ -10,9 +10,9 @@ use Rattle.table.proofs.verdict.load.Statement.{statement}
 use Rattle.table.proofs.verdict.load.Tie as tie
 use Rattle.table.proofs.verdict.load.Reads as reads
 use Rattle.table.proofs.verdict.load.Lts as lts
-use Rattle.table.proofs.read.load_labels.Reads as load-labels-reads
-use Rattle.table.proofs.read.load_slack.Reads as load-slack-reads
-use Rattle.table.proofs.read.load_tasks.Reads as load-tasks-reads
+use Rattle.codec.proofs.read.load_labels.Reads as load-labels-reads
+use Rattle.codec.proofs.read.load_slack.Reads as load-slack-reads
+use Rattle.codec.proofs.read.load_tasks.Reads as load-tasks-reads
 
 -- src/verdict.rt:43:9
 load-labels-requires : tie.Need-load-labels-requires

@@ -1,4 +1,4 @@
-use Rattle.table.specs.Stages.{answerOfCounts}
+use Rattle.codec.specs.Stages.{answerOfCounts}
 use native.Mathlib.Omega.{arith}
 use native.Mathlib.Numerals.{add-one}
 use Prim.Native.Nat.{ℕ, _≤_, _<_, _+_, _*_, _-_}

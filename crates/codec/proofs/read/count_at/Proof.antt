@@ -1,9 +1,9 @@
 -- `table::read::count_at` meets its contract: an element of a slice of bytes is below 256.
 use native.Mathlib.Omega.{arith}
 use borrow.Author.Needs.{needs}
-use Rattle.table.specs.Bytes.{byte}
-use Rattle.table.proofs.read.count_at.Statement.{statement}
-use Rattle.table.proofs.read.count_at.Tie as tie
+use Rattle.codec.specs.Bytes.{byte}
+use Rattle.codec.proofs.read.count_at.Statement.{statement}
+use Rattle.codec.proofs.read.count_at.Tie as tie
 
 shared-slice-read-result : tie.Need-shared-slice-read-result
 shared-slice-read-result c = search needs

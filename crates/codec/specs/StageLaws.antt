@@ -17,10 +17,10 @@ use borrow.Author.Tests.{ltb-true, ltb-false, eq-eqb, ne-eqb}
 use Rattle.laws.specs.Tab.{tab, cut}
 use Rattle.laws.specs.TabLaws.{tab-ext, cut-below, cut-above, filled-next}
 use Rattle.tasks.specs.Tests.{firstMet}
-use Rattle.table.specs.declared.read.Counts.the-variants.{Read, Refused}
-use Rattle.table.specs.Bytes.{byte}
-use Rattle.table.specs.Table.{coreCount, taskCount, slackCount, tasksAt, slackAt, test1, test2}
-use Rattle.table.specs.Stages.{countsIn}
+use Rattle.codec.specs.declared.read.Counts.the-variants.{Read, Refused}
+use Rattle.codec.specs.Bytes.{byte}
+use Rattle.codec.specs.Table.{coreCount, taskCount, slackCount, tasksAt, slackAt, test1, test2}
+use Rattle.codec.specs.Stages.{countsIn}
 
 pub core-count : (t : List ℕ) (m : ℕ) → m ≡ byte t 1 → coreCount t ≡ m
 unfolding coreCount

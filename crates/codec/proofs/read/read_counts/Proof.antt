@@ -3,10 +3,10 @@ use native.Mathlib.Omega.{arith}
 use mathlib.Core.Path.{refl, sym, _∙_}
 use lib.ListN.{List·getD-eq-default}
 use borrow.Author.Needs.{needs}
-use Rattle.table.specs.Bytes.{byte}
-use Rattle.table.specs.StageLaws.{core-count, task-count, slack-at, slack-count, counts-edition, counts-length, counts-read}
-use Rattle.table.proofs.read.read_counts.Statement.{statement}
-use Rattle.table.proofs.read.read_counts.Tie as tie
+use Rattle.codec.specs.Bytes.{byte}
+use Rattle.codec.specs.StageLaws.{core-count, task-count, slack-at, slack-count, counts-edition, counts-length, counts-read}
+use Rattle.codec.proofs.read.read_counts.Statement.{statement}
+use Rattle.codec.proofs.read.read_counts.Tie as tie
 
 refused-requires : tie.Need-refused-requires
 refused-requires c κs = search needs

@@ -5,10 +5,10 @@ use mathlib.Core.Path.{_≡_}
 use borrow.Author.Needs.{needs}
 use Rattle.laws.specs.Tab.{tab, cut}
 use Rattle.laws.specs.TabLaws.{filled-none}
-use Rattle.table.specs.Bytes.{number}
-use Rattle.table.specs.StageLaws.{filled-step, filled-end}
-use Rattle.table.proofs.read.load_slack.Statement.{statement}
-use Rattle.table.proofs.read.load_slack.Tie as tie
+use Rattle.codec.specs.Bytes.{number}
+use Rattle.codec.specs.StageLaws.{filled-step, filled-end}
+use Rattle.codec.proofs.read.load_slack.Statement.{statement}
+use Rattle.codec.proofs.read.load_slack.Tie as tie
 
 abbrev Inv-loop : tie.InvT-loop
 Inv-loop t from count slack₀ end i₀ slack i = (i ≤ end) × (slack ≡ tab (cut i (λ j. number 4 t (from + 4 * j)) 0) 16)

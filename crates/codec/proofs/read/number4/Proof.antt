@@ -1,9 +1,9 @@
 -- `table::read::number4` meets its contract.
 use native.Mathlib.Omega.{arith}
 use borrow.Author.Needs.{needs}
-use Rattle.table.specs.ByteLaws.{number-four}
-use Rattle.table.proofs.read.number4.Statement.{statement}
-use Rattle.table.proofs.read.number4.Tie as tie
+use Rattle.codec.specs.ByteLaws.{number-four}
+use Rattle.codec.proofs.read.number4.Statement.{statement}
+use Rattle.codec.proofs.read.number4.Tie as tie
 
 byte-at-requires : tie.Need-byte-at-requires
 byte-at-requires c κs = search needs

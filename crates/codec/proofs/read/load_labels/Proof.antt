@@ -5,10 +5,10 @@ use mathlib.Core.Path.{_≡_, refl}
 use borrow.Author.Needs.{needs}
 use Rattle.laws.specs.Tab.{tab, cut}
 use Rattle.laws.specs.TabLaws.{filled-none}
-use Rattle.table.specs.Bytes.{byte}
-use Rattle.table.specs.StageLaws.{filled-step, filled-end}
-use Rattle.table.proofs.read.load_labels.Statement.{statement}
-use Rattle.table.proofs.read.load_labels.Tie as tie
+use Rattle.codec.specs.Bytes.{byte}
+use Rattle.codec.specs.StageLaws.{filled-step, filled-end}
+use Rattle.codec.proofs.read.load_labels.Statement.{statement}
+use Rattle.codec.proofs.read.load_labels.Tie as tie
 
 abbrev Inv-loop : tie.InvT-loop
 Inv-loop t cores labels₀ end i₀ labels i = (i ≤ end) × (labels ≡ tab (cut i (λ j. byte t (2 + j)) 0) 8)

@@ -6,9 +6,9 @@ use mathlib.Core.List.{List, [], _∷_}
 use Rattle.tasks.specs.declared.Answer.{Answer}
 use Rattle.tasks.specs.declared.Answer.the-variants.{Accepted, Refused}
 use Rattle.tasks.specs.Tests.{firstMet}
-use Rattle.table.specs.declared.read.Counts.{Counts}
-use Rattle.table.specs.declared.read.Counts.the-variants.{Read, Refused as NotRead}
-use Rattle.table.specs.Table.{coreCount, taskCount, slackCount, test1, test2}
+use Rattle.codec.specs.declared.read.Counts.{Counts}
+use Rattle.codec.specs.declared.read.Counts.the-variants.{Read, Refused as NotRead}
+use Rattle.codec.specs.Table.{coreCount, taskCount, slackCount, test1, test2}
 
 -- the counts where the answer is no refusal
 abbrev pub countsAs : Answer → ℕ → ℕ → ℕ → Counts

@@ -6,9 +6,9 @@ ghost use Prim.Native.Nat.{_+_, _*_, _≤_, _<_, min};
 ghost use lib.ListN.{length};
 ghost use Rattle.laws.specs.Tab.{tab, cut};
 ghost use Rattle.tasks.specs.Content.{noTask};
-ghost use Rattle.table.specs.Bytes.{byte, number};
-ghost use Rattle.table.specs.Table.{taskIn};
-ghost use Rattle.table.specs.Stages.{countsIn};
+ghost use Rattle.codec.specs.Bytes.{byte, number};
+ghost use Rattle.codec.specs.Table.{taskIn};
+ghost use Rattle.codec.specs.Stages.{countsIn};
 
 // What the first stage finds: the counts, which give exactly the table's length, or refusal 1 or 2.
 pub enum Counts {

@@ -6,10 +6,10 @@ use borrow.Author.Needs.{needs}
 use Rattle.laws.specs.Tab.{tab, cut}
 use Rattle.laws.specs.TabLaws.{filled-none}
 use Rattle.tasks.specs.Content.{noTask}
-use Rattle.table.specs.Table.{taskIn}
-use Rattle.table.specs.StageLaws.{filled-step, filled-end}
-use Rattle.table.proofs.read.load_tasks.Statement.{statement}
-use Rattle.table.proofs.read.load_tasks.Tie as tie
+use Rattle.codec.specs.Table.{taskIn}
+use Rattle.codec.specs.StageLaws.{filled-step, filled-end}
+use Rattle.codec.proofs.read.load_tasks.Statement.{statement}
+use Rattle.codec.proofs.read.load_tasks.Tie as tie
 
 abbrev Inv-loop : tie.InvT-loop
 Inv-loop t from count tasks₀ end i₀ tasks i = (i ≤ end) × (tasks ≡ tab (cut i (λ j. taskIn t (from + 12 * j)) noTask) 16)
