@@ -12,11 +12,9 @@ use lib.ListN.{length, getD, set, length-append, List·getD-append, List·getD-e
 use lib.Seq.{getD-at}
 use lib.Dec.{ltb, eqb}
 use borrow.Author.Tests.{ltb-true, ltb-false, eqb-true, eqb-false, eq-eqb, ne-eqb}
-use Rattle.laws.specs.Tab.{tab}
 use Rattle.laws.specs.TabLaws.{set-tab, tab-ext}
 use Rattle.tasks.specs.declared.Plan.{Plan}
 use Rattle.machine.specs.Machine.{Job, job, releaseTick, remaining, Machine, joined, admitted}
-use Rattle.state.specs.declared.State.{State}
 use Rattle.state.specs.State.{noJob, jobAt, flagOf, tickOf, jobsIn, releasedIn, lastIn, remainingIn, releaseIn, stateOf}
 use Rattle.state.specs.AllLaws.{by-place}
 use Rattle.state.specs.ViewLaws.{job-at}

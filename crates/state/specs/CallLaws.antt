@@ -7,29 +7,29 @@
 --     release-unsound, release-not, release-taken      the answer of a release
 --     opened-empty, zero-empty, open-refused, open-accepted      an opening
 use Prim.Native.Nat.{ℕ, _≤_, _<_}
-use mathlib.Core.Path.{_≡_, refl, sym, ap, _∙_}
-use mathlib.Core.Bool.{Bool, true, false, not, _&&_, false≢true}
-use mathlib.Core.List.{List, [], _∷_}
+use mathlib.Core.Path.{_≡_, refl, sym, _∙_}
+use mathlib.Core.Bool.{Bool, true, false, _&&_, false≢true}
+use mathlib.Core.List.{[], _∷_}
 use native.Mathlib.Omega.{arith}
 use lib.ListN.{replicate}
-use lib.Dec.{leb, eqb}
+use lib.Dec.{leb}
 use borrow.Author.Tests.{leb-true, leb-false, le-leb, lt-leb, eqb-false, not-false}
 use Rattle.laws.specs.TabLaws.{length-tab, tab-replicate}
 use Rattle.tasks.specs.declared.Plan.{Plan}
 use Rattle.tasks.specs.declared.Answer.{Answer}
 use Rattle.tasks.specs.declared.Answer.the-variants.{Accepted, Refused}
 use Rattle.tasks.specs.TaskSet.{row}
-use Rattle.tasks.specs.Content.{contentOf, taskOf, tidy}
+use Rattle.tasks.specs.Content.{taskOf, tidy}
 use Rattle.tasks.specs.Tests.{refuse, orNext, firstMet, outside, testPlan}
 use Rattle.tasks.specs.AnswerLaws.{refuse-passed, firstMet-passed}
-use Rattle.machine.specs.Machine.{Machine, opened, within, tooSoon, full, admitted, idle}
+use Rattle.machine.specs.Machine.{opened, within, tooSoon, full, admitted}
 use Rattle.state.specs.declared.State.{State}
 use Rattle.state.specs.declared.Opened.{Opened}
 use Rattle.state.specs.declared.Released.{Released}
 use Rattle.state.specs.declared.Stepped.{Stepped}
-use Rattle.state.specs.State.{noJob, jobAt, jobsIn, releasedIn, lastIn, remainingIn, releaseIn, stateOf, lastOf, flagAt, laneOf, machineOf, zeroPlan, zeroState}
+use Rattle.state.specs.State.{jobAt, jobsIn, releasedIn, lastIn, remainingIn, releaseIn, stateOf, lastOf, flagAt, laneOf, machineOf, zeroPlan, zeroState}
 use Rattle.state.specs.SoundState.{allOf, passes, tidyTest, loopSound, placeSound, soundOf}
-use Rattle.state.specs.Calls.{unlessRefused, openOf, tasksOf, stepTests, admitTests, releaseTests, releaseOf, tickedOf, notStepped, stepOf}
+use Rattle.state.specs.Calls.{openOf, tasksOf, stepTests, admitTests, releaseTests, releaseOf, tickedOf, notStepped, stepOf}
 use Rattle.state.specs.AllLaws.{both}
 use Rattle.state.specs.FitLaws.{plan-limits, in-task, in-count, in-cores}
 

@@ -2,9 +2,9 @@
 --     openOf                          document 01's opening of a plan
 --     releaseTests, releaseOf         a release
 --     stepTests, stepOf               a step; tickedOf: one that isn't refused
-use Prim.Native.Nat.{ℕ, _+_}
-use mathlib.Core.Bool.{Bool, not}
-use mathlib.Core.List.{List, [], _∷_}
+use Prim.Native.Nat.{ℕ}
+use mathlib.Core.Bool.{not}
+use mathlib.Core.List.{[], _∷_}
 use lib.ListN.{replicate}
 use lib.Dec.{leb, eqb}
 use Rattle.laws.specs.Tab.{tab}

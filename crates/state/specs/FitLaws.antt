@@ -5,32 +5,29 @@
 --     machine-back     a machine that fits is the machine of its state
 --     in-task          a loop's task in the task set of a plan
 use Prim.Native.Nat.{ℕ, zero, suc, _+_, _-_, _*_, _/_, _%_, _≤_, _<_}
-use mathlib.Core.Bool.{Bool, true, false, _&&_, false≢true, true≢false}
+use mathlib.Core.Bool.{Bool, true, false, false≢true, true≢false}
 use mathlib.Core.Path.{_≡_, refl, sym, ap, _∙_}
 use mathlib.Core.Option.{Option, none, some}
-use mathlib.Core.List.{List, [], _∷_}
-use native.Mathlib.Nat.{not-suc-le-zero}
 use native.Mathlib.Omega.{arith}
 use lib.ListN.{length, getD, List·getD-eq-default}
-use lib.Dec.{ltb, leb}
-use borrow.Author.Tests.{ltb-true, ltb-false, lt-ltb, le-ltb, leb-true, le-leb}
+use lib.Dec.{ltb}
+use borrow.Author.Tests.{ltb-true, ltb-false, le-ltb, leb-true, le-leb}
 use Rattle.laws.specs.Tab.{tab}
 use Rattle.laws.specs.TabLaws.{length-tab, getD-tab, cut-below}
-use Rattle.tasks.specs.declared.Task.{Task}
 use Rattle.tasks.specs.declared.Plan.{Plan}
 use Rattle.tasks.specs.declared.Answer.{Answer}
 use Rattle.tasks.specs.declared.Answer.the-variants.{Accepted, Refused}
-use Rattle.tasks.specs.TaskSet.{TaskSet, row}
-use Rattle.tasks.specs.Content.{Content, noTask, taskOf, contentOf, tidy}
-use Rattle.tasks.specs.Tests.{tests, testPlan}
+use Rattle.tasks.specs.TaskSet.{row}
+use Rattle.tasks.specs.Content.{noTask, taskOf, contentOf, tidy}
+use Rattle.tasks.specs.Tests.{testPlan}
 use Rattle.tasks.specs.Limits.{Limits}
 use Rattle.tasks.specs.TestsLaws.{tests-limits}
-use Rattle.machine.specs.Machine.{Job, job, releaseTick, remaining, Lane, Machine, opened}
-use Rattle.machine.specs.Sound.{Rising, Newest, Past, SoundLane, Sound}
+use Rattle.machine.specs.Machine.{releaseTick, remaining, Lane, Machine, opened}
+use Rattle.machine.specs.Sound.{Rising, Newest, Past, SoundLane}
 use Rattle.state.specs.declared.State.{State}
-use Rattle.state.specs.State.{noJob, jobAt, flagOf, tickOf, stateOf, lastOf, flagAt, placeOf, laneOf, machineOf}
-use Rattle.state.specs.SoundState.{allOf, passes, tidyTest, loopSound, placeTest, placeSound, soundOf}
-use Rattle.state.specs.Fit.{ShapedPlan, Shaped, Fit}
+use Rattle.state.specs.State.{noJob, flagOf, tickOf, stateOf, lastOf, flagAt, placeOf, laneOf, machineOf}
+use Rattle.state.specs.SoundState.{allOf, passes, tidyTest, loopSound, placeSound, soundOf}
+use Rattle.state.specs.Fit.{Shaped, Fit}
 use Rattle.state.specs.AllLaws.{both, and-both, all-at, of-all, by-place, loop-of, place-in}
 use Rattle.state.specs.QueueLaws.{rising-from, rising-at, rising-next, newest-from, newest-at, LoopFacts, loop-facts, facts-loop, PlaceFacts, place-facts, facts-place}
 use Rattle.state.specs.TidyLaws.{tidy-from, tidy-to, tidied-shaped}

@@ -4,33 +4,29 @@
 --     release-state       a release on a machine's state, before its clock's end
 --     open-state          an opening on an accepted plan
 use Prim.Native.Nat.{ℕ, zero, suc, _≤_, _<_}
-use mathlib.Core.Bool.{Bool, true, false, cond, not}
-use mathlib.Core.Path.{_≡_, refl, sym, ap, _∙_}
-use mathlib.Core.List.{List, [], _∷_, _++_}
+use mathlib.Core.Bool.{Bool, true, false, cond}
+use mathlib.Core.Path.{_≡_, refl}
+use mathlib.Core.List.{List, [], _∷_}
 use native.Mathlib.Nat.{le-refl, le-suc, le-trans}
 use native.Mathlib.Omega.{arith}
 use lib.ListN.{length, length-append}
-use lib.Dec.{ltb, leb, eqb}
+use lib.Dec.{ltb, eqb}
 use borrow.Author.Tests.{ltb-true, ltb-false, leb-false, eqb-true, eq-eqb, ne-eqb}
 use Rattle.tasks.specs.declared.Plan.{Plan}
 use Rattle.tasks.specs.declared.Answer.{Answer}
 use Rattle.tasks.specs.declared.Answer.the-variants.{Accepted, Refused}
 use Rattle.tasks.specs.Content.{contentOf, tidy}
-use Rattle.tasks.specs.Tests.{refuse, orNext, firstMet, testPlan}
-use Rattle.tasks.specs.Limits.{Limits}
+use Rattle.tasks.specs.Tests.{orNext, firstMet, testPlan}
 use Rattle.tasks.specs.TestsLaws.{tests-compliant, tests-bounded}
 use Rattle.machine.specs.Machine.{Job, job, Machine, opened, full, Allowed, joined, admitted, served, advanced, runs, tick}
 use Rattle.machine.specs.Reached.{Reached}
 use Rattle.machine.specs.Choice.{earliest}
 use Rattle.machine.specs.Sound.{opened-sound, admitted-sound, advanced-sound, reached-sound}
 use Rattle.machine.specs.Theorem.{reached-holds}
-use Rattle.state.specs.declared.State.{State}
-use Rattle.state.specs.declared.Opened.{Opened}
-use Rattle.state.specs.State.{stateOf, machineOf}
-use Rattle.state.specs.SoundState.{soundOf}
+use Rattle.state.specs.State.{stateOf}
 use Rattle.state.specs.Calls.{unlessRefused, openOf, tasksOf, stepTests, admitTests, releaseTests, releaseOf, tickedOf, notStepped, stepOf}
 use Rattle.state.specs.Fit.{Fit}
-use Rattle.state.specs.TidyLaws.{content-tidy, tidy-tidy, tidy-accepted}
+use Rattle.state.specs.TidyLaws.{tidy-tidy, tidy-accepted}
 use Rattle.state.specs.FitLaws.{plan-limits, in-count, in-cores, fit-sound, machine-back}
 
 pub opened-fit : (p : Plan) → testPlan p ≡ Accepted → Fit (tidy p) opened

@@ -2,15 +2,14 @@
 --     Serves i M N                      N's queues are M's, but loop i's, which has a head with work left and is served
 --     served-work, served-release, served-jobs, served-response
 --     same-work, same-release, same-jobs      machines with the same queues have the same arrays
-use Prim.Native.Nat.{ℕ, zero, suc, pred, _+_, _-_, _*_, _/_, _%_, _≤_, _<_}
+use Prim.Native.Nat.{ℕ, zero, suc, _+_, _-_, _*_, _/_, _≤_, _<_}
 use mathlib.Core.Bool.{Bool, true, false, cond}
 use mathlib.Core.Path.{_≡_, refl, sym, ap, _∙_}
-use mathlib.Core.List.{List, [], _∷_}
+use mathlib.Core.List.{List, _∷_}
 use native.Mathlib.Omega.{arith}
 use lib.ListN.{length, getD, set, List·getD-eq-default}
-use lib.Dec.{ltb, leb, eqb}
-use borrow.Author.Tests.{eqb-true, eqb-false, eq-eqb, ne-eqb, le-leb, lt-leb}
-use Rattle.laws.specs.Tab.{tab}
+use lib.Dec.{eqb}
+use borrow.Author.Tests.{eqb-true, eqb-false, eq-eqb, ne-eqb, lt-leb}
 use Rattle.laws.specs.TabLaws.{length-tab, set-tab, tab-ext}
 use Rattle.tasks.specs.TaskSet.{row}
 use Rattle.machine.specs.Machine.{Job, job, releaseTick, remaining, Machine, served, response}

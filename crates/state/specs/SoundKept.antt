@@ -3,13 +3,13 @@
 --     tick-sound, admit-sound       a tick and a taken release keep soundness
 --     step-sound, release-sound     so a step and a release do, refused or not
 use Prim.Native.Nat.{ℕ, _<_}
-use mathlib.Core.Path.{_≡_, refl, sym, _∙_}
+use mathlib.Core.Path.{_≡_, refl}
 use mathlib.Core.Bool.{true}
 use Rattle.tasks.specs.declared.Plan.{Plan}
 use Rattle.tasks.specs.declared.Answer.{Answer}
 use Rattle.tasks.specs.declared.Answer.the-variants.{Accepted, Refused}
 use Rattle.tasks.specs.Content.{tidy}
-use Rattle.tasks.specs.Tests.{orNext, firstMet, testPlan}
+use Rattle.tasks.specs.Tests.{testPlan}
 use Rattle.tasks.specs.AnswerLaws.{firstMet-passed}
 use Rattle.machine.specs.Machine.{opened, admitted, tick}
 use Rattle.state.specs.declared.State.{State}

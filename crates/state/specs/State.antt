@@ -5,7 +5,7 @@
 --     laneOf, machineOf s               the machine that a state stands for
 --     zeroPlan, zeroState               a plan and a state of zeros
 use Prim.Native.Nat.{ℕ, _+_, _*_, _/_, _%_}
-use mathlib.Core.Bool.{Bool, true, false, cond}
+use mathlib.Core.Bool.{Bool, true, false}
 use mathlib.Core.Option.{Option, none, some}
 use mathlib.Core.List.{List}
 use lib.ListN.{length, getD, replicate}

@@ -2,34 +2,28 @@
 --     keyed                the keys of the state's loops are those of the machine's heads
 --     runs-picked          the picks are the loops on the cores
 --     run-picked           who ran
-use Prim.Native.Nat.{ℕ, zero, suc, _+_, _*_, _≤_, _<_}
-use mathlib.Core.Bool.{Bool, true, false, cond, not, _&&_, true≢false, false≢true}
+use Prim.Native.Nat.{ℕ, suc, _+_, _*_, _≤_, _<_}
+use mathlib.Core.Bool.{Bool, true, false, cond, _&&_, true≢false}
 use mathlib.Core.Path.{_≡_, refl, sym, ap, _∙_}
-use mathlib.Core.Logic.{⊎-elim}
 use mathlib.Core.List.{List, [], _∷_}
 use native.Mathlib.Omega.{arith}
-use lib.ListN.{length, getD, set, take, List·getD-eq-default, length-take}
+use lib.ListN.{length, getD, take, List·getD-eq-default, length-take}
 use lib.Seq.{getD-take}
 use lib.Dec.{ltb, eqb}
-use borrow.Author.Tests.{ltb-true, ltb-false, lt-ltb, le-ltb, eqb-true, eqb-false, eq-eqb, ne-eqb}
+use borrow.Author.Tests.{ltb-true, ltb-false, ne-eqb}
 use Rattle.laws.specs.Tab.{tab, cut}
-use Rattle.laws.specs.TabLaws.{length-tab, getD-tab, tab-ext, cut-below, cut-above, filled-next}
-use Rattle.laws.specs.Member.{member}
+use Rattle.laws.specs.TabLaws.{length-tab, getD-tab, tab-ext, cut-below, cut-above}
 use Rattle.laws.specs.Rank.{ranked}
 use Rattle.tasks.specs.declared.Plan.{Plan}
 use Rattle.tasks.specs.TaskSet.{TaskSet, row}
 use Rattle.tasks.specs.Content.{contentOf, taskOf}
-use Rattle.tasks.specs.Limits.{Limits}
-use Rattle.machine.specs.Machine.{Job, job, releaseTick, remaining, Lane, Machine, opened, pending, waiting, headRelease, point, before, chosen, onCore, runs, served, advanced, tick, response, responses}
-use Rattle.machine.specs.Choice.{earliest}
-use Rattle.state.specs.State.{noJob, jobAt, jobsIn, releasedIn, lastIn, remainingIn, releaseIn, stateOf}
+use Rattle.machine.specs.Machine.{Job, job, releaseTick, Lane, Machine, opened, waiting, point, before, chosen, onCore, runs}
+use Rattle.state.specs.State.{jobsIn, releaseIn}
 use Rattle.state.specs.Pick.{noKey, keysAfter, pickAt, keyAt, keysOf}
 use Rattle.state.specs.PickLaws.{ranked-rest}
 use Rattle.state.specs.RankPickLaws.{keyIf, Keyed, picks-rank, picks-taken}
-use Rattle.state.specs.Serve.{ran, responseAfter, turnJobs, turnWork, turnRelease, turnResponses}
-use Rattle.state.specs.ServeLaws.{Serves, same-work, same-release, same-jobs, served-work, served-release, served-jobs, served-response}
 use Rattle.state.specs.Fit.{Fit}
-use Rattle.state.specs.FitLaws.{in-task, in-count, in-cores, fit-tasks, fit-limits, fit-past, idle-lane, known-lane}
+use Rattle.state.specs.FitLaws.{in-task, in-count, in-cores, fit-tasks, fit-limits, idle-lane, known-lane}
 use Rattle.state.specs.ViewLaws.{job-at, row-jobs, row-release}
 
 module _ (p : Plan) (M : Machine) (F : Fit p M) where

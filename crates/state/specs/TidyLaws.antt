@@ -5,12 +5,12 @@
 --     tidied-code       the tidied plan, array by array
 --     tidy-accepted     so it passes what the plan passes; tidy-tidy: and has no more to lose
 use Prim.Native.Nat.{ℕ, zero, suc, _≤_, _<_}
-use mathlib.Core.Bool.{Bool, true, false, cond, not, _&&_, _||_}
+use mathlib.Core.Bool.{Bool, true, false, cond, not}
 use mathlib.Core.Path.{_≡_, refl, sym, ap, _∙_}
 use mathlib.Core.List.{List}
 use native.Mathlib.Omega.{arith}
 use lib.ListN.{length, getD}
-use lib.Dec.{ltb, leb, eqb}
+use lib.Dec.{ltb, eqb}
 use borrow.Author.Tests.{ltb-true, ltb-false, le-ltb, eqb-true, eq-eqb, ne-eqb}
 use Rattle.laws.specs.Tab.{tab, cut}
 use Rattle.laws.specs.TabLaws.{length-tab, getD-tab, ext-tab, cut-below, cut-above}
@@ -18,7 +18,7 @@ use Rattle.tasks.specs.declared.Task.{Task}
 use Rattle.tasks.specs.declared.Plan.{Plan}
 use Rattle.tasks.specs.declared.Answer.the-variants.{Accepted}
 use Rattle.tasks.specs.TaskSet.{row}
-use Rattle.tasks.specs.Content.{Content, noTask, taskOf, contentOf, planOf, tidy}
+use Rattle.tasks.specs.Content.{noTask, taskOf, contentOf, planOf, tidy}
 use Rattle.tasks.specs.Tests.{testPlan}
 use Rattle.state.specs.SoundState.{zeroTask, tidyLabel, tidyTask, tidyTest}
 use Rattle.state.specs.AllLaws.{both, and-both, all-at, of-all}

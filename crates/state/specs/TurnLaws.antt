@@ -5,25 +5,24 @@
 --     turns-are              the four arrays together, turn after turn
 --     ticked-state, all-responses      all sixteen turns made, the arrays are those of the tick
 use Prim.Native.Nat.{ℕ, zero, suc, _+_, _-_, _*_, _≤_, _<_}
-use mathlib.Core.Bool.{Bool, true, false, cond, not, _&&_, true≢false, false≢true, and-true}
+use mathlib.Core.Bool.{Bool, true, false, cond, not, _&&_, true≢false, and-true}
 use mathlib.Core.Path.{_≡_, refl, sym, ap, _∙_}
 use mathlib.Core.List.{List, [], _∷_}
 use native.Mathlib.Numerals.{add-one}
 use native.Mathlib.Omega.{arith}
 use lib.ListN.{length, set, replicate}
 use lib.Dec.{ltb, eqb}
-use borrow.Author.Tests.{ltb-true, ltb-false, lt-ltb, le-ltb, eqb-true, eqb-false, eq-eqb, ne-eqb}
+use borrow.Author.Tests.{ltb-true, ltb-false, lt-ltb, le-ltb, eqb-true, eqb-false, ne-eqb}
 use Rattle.laws.specs.Tab.{tab, cut}
 use Rattle.laws.specs.TabLaws.{tab-ext, cut-below, cut-above, cut-all, filled-none, filled-next}
 use Rattle.tasks.specs.declared.Plan.{Plan}
 use Rattle.tasks.specs.TaskSet.{TaskSet, row}
 use Rattle.tasks.specs.Content.{contentOf}
-use Rattle.machine.specs.Machine.{Job, job, Machine, pending, waiting, runs, served, advanced, tick, response, responses}
+use Rattle.machine.specs.Machine.{Job, job, Machine, pending, waiting, runs, served, advanced, tick, responses}
 use Rattle.machine.specs.Choice.{earliest}
-use Rattle.state.specs.declared.State.{State}
 use Rattle.state.specs.State.{jobsIn, releasedIn, lastIn, remainingIn, releaseIn, stateOf}
-use Rattle.state.specs.Pick.{noKey, keysAfter, keysOf}
-use Rattle.state.specs.Serve.{ran, lastTick, responseAfter, jobsAfter, workAfter, releaseAfter, turnJobs, turnWork, turnRelease, turnResponses, Arrays, turnOf, turns}
+use Rattle.state.specs.Pick.{keysAfter, keysOf}
+use Rattle.state.specs.Serve.{ran, lastTick, responseAfter, jobsAfter, workAfter, releaseAfter, turnJobs, turnWork, turnRelease, turnResponses, turnOf, turns}
 use Rattle.state.specs.ServeLaws.{Serves, same-work, same-release, same-jobs, served-work, served-release, served-jobs, served-response}
 use Rattle.state.specs.Fit.{Fit}
 use Rattle.state.specs.FitLaws.{in-count, fit-tasks, known-lane}

@@ -8,14 +8,13 @@ use Prim.Native.Nat.{ℕ, _+_, _*_, _/_, _%_, _≤_, _<_}
 use mathlib.Core.Bool.{Bool, true, false}
 use mathlib.Core.Path.{_≡_, refl, sym, ap, _∙_}
 use mathlib.Core.Option.{Option, none, some}
-use mathlib.Core.List.{List, [], _∷_}
 use native.Mathlib.Nat.{div-add-mod}
 use native.Mathlib.Omega.{arith}
-use lib.ListN.{length, getD, List·getD-eq-default}
+use lib.ListN.{length, getD}
 use lib.Dec.{ltb}
 use borrow.Author.Tests.{ltb-true, ltb-false}
 use Rattle.laws.specs.Tab.{tab}
-use Rattle.laws.specs.TabLaws.{length-tab, getD-tab, getD-tab-out, ext-tab, tab-ext}
+use Rattle.laws.specs.TabLaws.{length-tab, getD-tab, getD-tab-out, ext-tab}
 use Rattle.tasks.specs.declared.Plan.{Plan}
 use Rattle.tasks.specs.TaskSet.{row}
 use Rattle.machine.specs.Machine.{Job, job, releaseTick, remaining, Lane, Machine, opened}

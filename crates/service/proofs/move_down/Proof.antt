@@ -1,18 +1,14 @@
+-- `service::move_down` meets its contract; the loop's invariant says what its turns so far have made.
 use Rattle.tasks.specs.TaskSet.{row}
 use Rattle.state.specs.MoveLaws.{moved-step}
 use Rattle.state.specs.Serve.{movedTo}
 use Rattle.state.specs.Serve.{moved}
 use borrow.Author.Needs.{needs}
 use native.Mathlib.Omega.{arith}
-use native.Mathlib.Numerals.{add-one}
-use Prim.Native.Nat.{ℕ, _≤_, _<_, _+_, _*_, _-_}
-use mathlib.Core.Path.{_≡_, refl, ap, sym, _∙_}
-use mathlib.Core.Logic.{⊎-elim}
-use lib.ListN.{length, getD, set, length-set}
+use Prim.Native.Nat.{_≤_, _*_, _-_}
+use mathlib.Core.Path.{_≡_, refl}
 use Rattle.service.proofs.move_down.Statement.{statement}
 use Rattle.service.proofs.move_down.Tie as tie
-use Rattle.service.proofs.move_down.Reads as reads
-use Rattle.service.proofs.move_down.Lts as lts
 
 abbrev Inv-loop : tie.InvT-loop
 Inv-loop places₀ i base p₀ places p = (p ≤ 15) × (base ≡ 16 * i) × (places ≡ movedTo i places₀ p)

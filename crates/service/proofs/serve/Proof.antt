@@ -1,18 +1,13 @@
+-- `service::serve` meets its contract; the loop's invariant says what its turns so far have made.
 use Rattle.state.specs.CodeLaws.{Are, turns-none, turns-more}
 use Rattle.state.specs.Serve.{turns}
 use Rattle.tasks.specs.TaskSet.{row}
 use borrow.Author.Needs.{needs}
 use native.Mathlib.Omega.{arith}
-use native.Mathlib.Numerals.{add-one}
-use Prim.Native.Nat.{ℕ, _≤_, _<_, _+_, _*_, _-_}
-use mathlib.Core.Path.{_≡_, refl, ap, sym, _∙_}
-use mathlib.Core.Logic.{⊎-elim}
-use lib.ListN.{length, getD, set, length-set}
+use Prim.Native.Nat.{_≤_, _-_}
+use mathlib.Core.Path.{_≡_}
 use Rattle.service.proofs.serve.Statement.{statement}
 use Rattle.service.proofs.serve.Tie as tie
-use Rattle.service.proofs.serve.Reads as reads
-use Rattle.service.proofs.serve.Lts as lts
-use Rattle.service.proofs.turn.Reads as turn-reads
 
 abbrev Inv-loop : tie.InvT-loop
 Inv-loop finish keys jobs₀ remaining₀ release₀ responses₀ i₀ jobs remaining release responses i =

@@ -1,18 +1,10 @@
+-- `service::turn` meets its contract.
 use Rattle.state.specs.CodeLaws.{turn-none, turn-left, turn-less, turn-last}
 use Rattle.tasks.specs.TaskSet.{row}
-use native.Mathlib.Omega.{arith}
-use native.Mathlib.Numerals.{add-one}
-use Prim.Native.Nat.{ℕ, _≤_, _<_, _+_, _*_, _-_}
-use mathlib.Core.Path.{_≡_, refl, ap, sym, _∙_}
-use mathlib.Core.Logic.{⊎-elim}
-use lib.ListN.{length, getD, set, length-set}
+use Prim.Native.Nat.{_-_}
 use borrow.Author.Needs.{needs}
 use Rattle.service.proofs.turn.Statement.{statement}
 use Rattle.service.proofs.turn.Tie as tie
-use Rattle.service.proofs.turn.Reads as reads
-use Rattle.service.proofs.turn.Lts as lts
-use Rattle.service.proofs.less.Reads as less-reads
-use Rattle.service.proofs.move_down.Reads as move-down-reads
 
 mul-if1 : tie.Need-mul-if1
 mul-if1 c = search needs

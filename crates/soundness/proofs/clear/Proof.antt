@@ -1,15 +1,8 @@
-use borrow.Author.Tests.{lt-ltb, le-ltb, le-leb, lt-leb, eq-eqb, ne-eqb}
-use native.Mathlib.Omega.{arith}
-use native.Mathlib.Numerals.{add-one}
-use Prim.Native.Nat.{ℕ, _≤_, _<_, _+_, _*_, _-_}
-use mathlib.Core.Path.{_≡_, refl, ap, sym, _∙_}
-use mathlib.Core.Logic.{⊎-elim}
-use lib.ListN.{length, getD, set, length-set}
+-- `soundness::clear` meets its contract.
+use Prim.Native.Nat.{_-_}
 use borrow.Author.Needs.{needs}
 use Rattle.soundness.proofs.clear.Statement.{statement}
 use Rattle.soundness.proofs.clear.Tie as tie
-use Rattle.soundness.proofs.clear.Reads as reads
-use Rattle.soundness.proofs.clear.Lts as lts
 
 returns : tie.Need-returns
 returns c = search needs

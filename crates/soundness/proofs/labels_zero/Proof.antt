@@ -1,21 +1,15 @@
-use Rattle.state.specs.Tests.{labelZero, taskZero, loopHolds, placeHolds, all-more, all-fails}
-use Rattle.state.specs.SoundState.{allOf, zeroTask, loopTest}
-use Rattle.tasks.specs.Content.{taskOf, noTask}
+-- `soundness::labels_zero` meets its contract; the loop's invariant says what its turns so far have made.
+use Rattle.state.specs.Tests.{labelZero, all-more, all-fails}
+use Rattle.state.specs.SoundState.{allOf}
 use Rattle.tasks.specs.TaskSet.{row}
 use mathlib.Core.Bool.{true}
-use borrow.Author.Tests.{lt-leb, not-true, not-false}
+use borrow.Author.Tests.{not-true, not-false}
 use borrow.Author.Needs.{needs}
 use native.Mathlib.Omega.{arith}
-use native.Mathlib.Numerals.{add-one}
-use Prim.Native.Nat.{ℕ, _≤_, _<_, _+_, _*_, _-_}
-use mathlib.Core.Path.{_≡_, refl, ap, sym, _∙_}
-use mathlib.Core.Logic.{⊎-elim}
-use lib.ListN.{length, getD, set, length-set}
+use Prim.Native.Nat.{_≤_, _-_}
+use mathlib.Core.Path.{_≡_, refl, sym, _∙_}
 use Rattle.soundness.proofs.labels_zero.Statement.{statement}
 use Rattle.soundness.proofs.labels_zero.Tie as tie
-use Rattle.soundness.proofs.labels_zero.Reads as reads
-use Rattle.soundness.proofs.labels_zero.Lts as lts
-use Rattle.soundness.proofs.label_zero.Reads as label-zero-reads
 
 abbrev Inv-loop : tie.InvT-loop
 Inv-loop labels cores i₀ i = (i ≤ 8) × (allOf (labelZero cores labels) i ≡ true)

@@ -1,22 +1,12 @@
-use Rattle.state.specs.Tests.{labelZero, taskZero, loopHolds, placeHolds, all-more, all-fails}
-use Rattle.state.specs.SoundState.{allOf, zeroTask, loopTest}
-use Rattle.tasks.specs.Content.{taskOf, noTask}
+-- `soundness::loop_at` meets its contract.
+use Rattle.state.specs.Tests.{loopHolds}
+use Rattle.state.specs.SoundState.{loopTest}
 use Rattle.tasks.specs.TaskSet.{row}
-use mathlib.Core.Bool.{true}
-use borrow.Author.Tests.{lt-leb, not-true, not-false}
-use native.Mathlib.Omega.{arith}
-use native.Mathlib.Numerals.{add-one}
-use Prim.Native.Nat.{ℕ, _≤_, _<_, _+_, _*_, _-_}
-use mathlib.Core.Path.{_≡_, refl, ap, sym, _∙_}
-use mathlib.Core.Logic.{⊎-elim}
-use lib.ListN.{length, getD, set, length-set}
+use borrow.Author.Tests.{lt-leb}
+use Prim.Native.Nat.{_-_}
 use borrow.Author.Needs.{needs}
 use Rattle.soundness.proofs.loop_at.Statement.{statement}
 use Rattle.soundness.proofs.loop_at.Tie as tie
-use Rattle.soundness.proofs.loop_at.Reads as reads
-use Rattle.soundness.proofs.loop_at.Lts as lts
-use Rattle.soundness.proofs.loop_sound.Reads as loop-sound-reads
-use Rattle.soundness.proofs.pred.Reads as pred-reads
 
 mul-held : tie.Need-mul-held
 mul-held c = search needs

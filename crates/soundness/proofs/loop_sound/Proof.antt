@@ -1,19 +1,11 @@
-use borrow.Author.Tests.{lt-ltb, le-ltb, le-leb, lt-leb, eq-eqb, ne-eqb, not-true, not-false}
-use Rattle.state.specs.SoundState.{loopTest, placeTest}
-use native.Mathlib.Omega.{arith}
-use native.Mathlib.Numerals.{add-one}
-use Prim.Native.Nat.{ℕ, _≤_, _<_, _+_, _*_, _-_}
-use mathlib.Core.Path.{_≡_, refl, ap, sym, _∙_}
-use mathlib.Core.Logic.{⊎-elim}
-use lib.ListN.{length, getD, set, length-set}
+-- `soundness::loop_sound` meets its contract.
+use borrow.Author.Tests.{le-leb, lt-leb, not-true, not-false}
+use Rattle.state.specs.SoundState.{loopTest}
+use Prim.Native.Nat.{_-_}
+use mathlib.Core.Path.{sym, _∙_}
 use borrow.Author.Needs.{needs}
 use Rattle.soundness.proofs.loop_sound.Statement.{statement}
 use Rattle.soundness.proofs.loop_sound.Tie as tie
-use Rattle.soundness.proofs.loop_sound.Reads as reads
-use Rattle.soundness.proofs.loop_sound.Lts as lts
-use Rattle.soundness.proofs.clear.Reads as clear-reads
-use Rattle.soundness.proofs.held.Reads as held-reads
-use Rattle.soundness.proofs.recent.Reads as recent-reads
 
 returns : tie.Need-returns
 unfolding loopTest

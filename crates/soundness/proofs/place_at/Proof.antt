@@ -1,17 +1,9 @@
+-- `soundness::place_at` meets its contract.
 use Rattle.tasks.specs.TaskSet.{row}
-use native.Mathlib.Omega.{arith}
-use native.Mathlib.Numerals.{add-one}
-use Prim.Native.Nat.{ℕ, _≤_, _<_, _+_, _*_, _-_}
-use mathlib.Core.Path.{_≡_, refl, ap, sym, _∙_}
-use mathlib.Core.Logic.{⊎-elim}
-use lib.ListN.{length, getD, set, length-set}
+use Prim.Native.Nat.{_-_}
 use borrow.Author.Needs.{needs}
 use Rattle.soundness.proofs.place_at.Statement.{statement}
 use Rattle.soundness.proofs.place_at.Tie as tie
-use Rattle.soundness.proofs.place_at.Reads as reads
-use Rattle.soundness.proofs.place_at.Lts as lts
-use Rattle.soundness.proofs.place_sound.Reads as place-sound-reads
-use Rattle.soundness.proofs.pred.Reads as pred-reads
 
 pred-requires : tie.Need-pred-requires
 pred-requires c κs = search needs

@@ -1,17 +1,11 @@
+-- `soundness::place_sound` meets its contract.
 use borrow.Author.Tests.{lt-ltb, le-ltb, le-leb, lt-leb, eq-eqb, ne-eqb, not-true, not-false}
-use Rattle.state.specs.SoundState.{loopTest, placeTest}
-use native.Mathlib.Omega.{arith}
-use native.Mathlib.Numerals.{add-one}
-use Prim.Native.Nat.{ℕ, _≤_, _<_, _+_, _*_, _-_}
-use mathlib.Core.Path.{_≡_, refl, ap, sym, _∙_}
-use mathlib.Core.Logic.{⊎-elim}
-use lib.ListN.{length, getD, set, length-set}
+use Rattle.state.specs.SoundState.{placeTest}
+use Prim.Native.Nat.{_-_}
+use mathlib.Core.Path.{sym, _∙_}
 use borrow.Author.Needs.{needs}
 use Rattle.soundness.proofs.place_sound.Statement.{statement}
 use Rattle.soundness.proofs.place_sound.Tie as tie
-use Rattle.soundness.proofs.place_sound.Reads as reads
-use Rattle.soundness.proofs.place_sound.Lts as lts
-use Rattle.soundness.proofs.rises.Reads as rises-reads
 
 returns : tie.Need-returns
 unfolding placeTest

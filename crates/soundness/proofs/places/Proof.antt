@@ -1,21 +1,16 @@
+-- `soundness::places` meets its contract; the loop's invariant says what its turns so far have made.
 use Rattle.state.specs.Tests.{placeHolds, all-more, all-fails}
 use Rattle.state.specs.SoundState.{allOf}
 use Rattle.tasks.specs.Content.{taskOf, noTask}
 use Rattle.tasks.specs.TaskSet.{row}
 use mathlib.Core.Bool.{true}
-use borrow.Author.Tests.{lt-leb, not-true, not-false}
+use borrow.Author.Tests.{not-true, not-false}
 use borrow.Author.Needs.{needs}
 use native.Mathlib.Omega.{arith}
-use native.Mathlib.Numerals.{add-one}
-use Prim.Native.Nat.{ℕ, _≤_, _<_, _+_, _*_, _-_}
-use mathlib.Core.Path.{_≡_, refl, ap, sym, _∙_}
-use mathlib.Core.Logic.{⊎-elim}
-use lib.ListN.{length, getD, set, length-set}
+use Prim.Native.Nat.{_≤_, _-_}
+use mathlib.Core.Path.{_≡_, refl, sym, _∙_}
 use Rattle.soundness.proofs.places.Statement.{statement}
 use Rattle.soundness.proofs.places.Tie as tie
-use Rattle.soundness.proofs.places.Reads as reads
-use Rattle.soundness.proofs.places.Lts as lts
-use Rattle.soundness.proofs.place_at.Reads as place-at-reads
 
 abbrev Inv-loop : tie.InvT-loop
 Inv-loop clock jobs release remaining task k₀ k = (k ≤ 256) × (allOf (placeHolds task clock jobs release remaining) k ≡ true)

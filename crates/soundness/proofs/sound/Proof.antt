@@ -1,21 +1,11 @@
+-- `soundness::sound` meets its contract.
 use Rattle.state.specs.Tests.{sound-parts}
 use borrow.Author.Tests.{le-leb, lt-leb, not-true, not-false}
-use native.Mathlib.Omega.{arith}
-use native.Mathlib.Numerals.{add-one}
-use Prim.Native.Nat.{ℕ, _≤_, _<_, _+_, _*_, _-_}
-use mathlib.Core.Path.{_≡_, refl, ap, sym, _∙_}
-use mathlib.Core.Logic.{⊎-elim}
-use lib.ListN.{length, getD, set, length-set}
+use Prim.Native.Nat.{_-_}
+use mathlib.Core.Path.{sym, _∙_}
 use borrow.Author.Needs.{needs}
 use Rattle.soundness.proofs.sound.Statement.{statement}
 use Rattle.soundness.proofs.sound.Tie as tie
-use Rattle.soundness.proofs.sound.Reads as reads
-use Rattle.soundness.proofs.sound.Lts as lts
-use Rattle.analysis.proofs.test.Reads as test-reads
-use Rattle.soundness.proofs.labels_zero.Reads as labels-zero-reads
-use Rattle.soundness.proofs.loops.Reads as loops-reads
-use Rattle.soundness.proofs.places.Reads as places-reads
-use Rattle.soundness.proofs.tasks_zero.Reads as tasks-zero-reads
 
 test-requires : tie.Need-test-requires
 test-requires c κs = search needs

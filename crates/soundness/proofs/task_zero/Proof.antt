@@ -1,16 +1,10 @@
-use borrow.Author.Tests.{lt-ltb, le-ltb, le-leb, lt-leb, eq-eqb, ne-eqb, not-true, not-false}
-use native.Mathlib.Omega.{arith}
-use native.Mathlib.Numerals.{add-one}
-use Prim.Native.Nat.{ℕ, _≤_, _<_, _+_, _*_, _-_}
-use mathlib.Core.Path.{_≡_, refl, ap, sym, _∙_}
-use mathlib.Core.Logic.{⊎-elim}
-use lib.ListN.{length, getD, set, length-set}
+-- `soundness::task_zero` meets its contract.
+use borrow.Author.Tests.{lt-ltb, le-ltb, not-true, not-false}
+use Prim.Native.Nat.{_-_}
+use mathlib.Core.Path.{sym, _∙_}
 use borrow.Author.Needs.{needs}
 use Rattle.soundness.proofs.task_zero.Statement.{statement}
 use Rattle.soundness.proofs.task_zero.Tie as tie
-use Rattle.soundness.proofs.task_zero.Reads as reads
-use Rattle.soundness.proofs.task_zero.Lts as lts
-use Rattle.soundness.proofs.zeros.Reads as zeros-reads
 
 returns : tie.Need-returns
 returns c = rw (lt-ltb _ _ (c .if1 .taken))

@@ -1,21 +1,16 @@
-use Rattle.state.specs.Tests.{labelZero, taskZero, loopHolds, placeHolds, all-more, all-fails}
-use Rattle.state.specs.SoundState.{allOf, zeroTask, loopTest}
+-- `soundness::tasks_zero` meets its contract; the loop's invariant says what its turns so far have made.
+use Rattle.state.specs.Tests.{taskZero, all-more, all-fails}
+use Rattle.state.specs.SoundState.{allOf, zeroTask}
 use Rattle.tasks.specs.Content.{taskOf, noTask}
 use Rattle.tasks.specs.TaskSet.{row}
 use mathlib.Core.Bool.{true}
-use borrow.Author.Tests.{lt-leb, not-true, not-false}
+use borrow.Author.Tests.{not-true, not-false}
 use borrow.Author.Needs.{needs}
 use native.Mathlib.Omega.{arith}
-use native.Mathlib.Numerals.{add-one}
-use Prim.Native.Nat.{ℕ, _≤_, _<_, _+_, _*_, _-_}
-use mathlib.Core.Path.{_≡_, refl, ap, sym, _∙_}
-use mathlib.Core.Logic.{⊎-elim}
-use lib.ListN.{length, getD, set, length-set}
+use Prim.Native.Nat.{_≤_, _-_}
+use mathlib.Core.Path.{_≡_, refl, sym, _∙_}
 use Rattle.soundness.proofs.tasks_zero.Statement.{statement}
 use Rattle.soundness.proofs.tasks_zero.Tie as tie
-use Rattle.soundness.proofs.tasks_zero.Reads as reads
-use Rattle.soundness.proofs.tasks_zero.Lts as lts
-use Rattle.soundness.proofs.task_zero.Reads as task-zero-reads
 
 abbrev Inv-loop : tie.InvT-loop
 Inv-loop slack tasks task i₀ i = (i ≤ 16) × (allOf (taskZero tasks task slack) i ≡ true)

@@ -1,17 +1,12 @@
+-- `engine::advance::admit` meets its contract.
 use Rattle.state.specs.StepLaws.{AdmitCode, admit-code}
 use Rattle.state.specs.Fit.{Shaped, length-mapped}
 use Rattle.tasks.specs.TaskSet.{row}
 use native.Mathlib.Omega.{arith}
-use native.Mathlib.Numerals.{add-one}
-use Prim.Native.Nat.{ℕ, _≤_, _<_, _+_, _*_, _-_}
-use mathlib.Core.Path.{_≡_, refl, ap, sym, _∙_}
-use mathlib.Core.Logic.{⊎-elim}
-use lib.ListN.{length, getD, set, length-set}
+use Prim.Native.Nat.{_-_}
 use borrow.Author.Needs.{needs}
 use Rattle.engine.proofs.advance.admit.Statement.{statement}
 use Rattle.engine.proofs.advance.admit.Tie as tie
-use Rattle.engine.proofs.advance.admit.Reads as reads
-use Rattle.engine.proofs.advance.admit.Lts as lts
 
 -- the arrays' lengths, which the state's type has
 shape : (c : tie.Start) → Shaped (c .args .state)

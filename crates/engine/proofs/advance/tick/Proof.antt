@@ -1,18 +1,12 @@
+-- `engine::advance::tick` meets its contract.
 use Rattle.state.specs.StepLaws.{sound-limits, TickCode, tick-code}
 use Rattle.state.specs.FitLaws.{in-cores}
 use Rattle.state.specs.Fit.{Shaped, length-mapped}
-use lib.ListN.{length}
 use native.Mathlib.Omega.{arith}
-use native.Mathlib.Numerals.{add-one}
-use Prim.Native.Nat.{ℕ, _≤_, _<_, _+_, _*_, _-_}
-use mathlib.Core.Path.{_≡_, refl, ap, sym, _∙_}
-use mathlib.Core.Logic.{⊎-elim}
-use lib.ListN.{length, getD, set, length-set}
+use Prim.Native.Nat.{_-_}
 use borrow.Author.Needs.{needs}
 use Rattle.engine.proofs.advance.tick.Statement.{statement}
 use Rattle.engine.proofs.advance.tick.Tie as tie
-use Rattle.engine.proofs.advance.tick.Reads as reads
-use Rattle.engine.proofs.advance.tick.Lts as lts
 
 -- the arrays' lengths, which the state's type has
 shape : (c : tie.Start) → Shaped (c .args .state)

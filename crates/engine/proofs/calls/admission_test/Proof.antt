@@ -1,18 +1,12 @@
+-- `engine::calls::admission_test` meets its contract.
 use Rattle.state.specs.CallLaws.{admission}
 use Rattle.tasks.specs.Tests.{firstMet, outside}
-use borrow.Author.Tests.{lt-ltb, le-ltb, le-leb, lt-leb, eq-eqb, ne-eqb, not-true, not-false}
-use native.Mathlib.Omega.{arith}
-use native.Mathlib.Numerals.{add-one}
-use Prim.Native.Nat.{ℕ, _≤_, _<_, _+_, _*_, _-_}
-use mathlib.Core.Path.{_≡_, refl, ap, sym, _∙_}
-use mathlib.Core.Logic.{⊎-elim}
-use lib.ListN.{length, getD, set, length-set}
+use borrow.Author.Tests.{lt-ltb, le-ltb, le-leb, lt-leb}
+use Prim.Native.Nat.{_-_}
+use mathlib.Core.Path.{sym, _∙_}
 use borrow.Author.Needs.{needs}
 use Rattle.engine.proofs.calls.admission_test.Statement.{statement}
 use Rattle.engine.proofs.calls.admission_test.Tie as tie
-use Rattle.engine.proofs.calls.admission_test.Reads as reads
-use Rattle.engine.proofs.calls.admission_test.Lts as lts
-use Rattle.engine.proofs.calls.too_soon.Reads as too-soon-reads
 
 returns : tie.Need-returns
 unfolding admission firstMet outside

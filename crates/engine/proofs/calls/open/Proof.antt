@@ -1,22 +1,13 @@
+-- `engine::calls::open` meets its contract.
 use Rattle.state.specs.CallLaws.{open-limits, open-refused, open-accepted}
 use Rattle.state.specs.State.{stateOf}
 use Rattle.machine.specs.Machine.{opened}
 use Rattle.tasks.specs.declared.Plan.{Plan}
-use native.Mathlib.Omega.{arith}
-use native.Mathlib.Numerals.{add-one}
-use Prim.Native.Nat.{ℕ, _≤_, _<_, _+_, _*_, _-_}
-use mathlib.Core.Path.{_≡_, refl, ap, sym, _∙_}
-use mathlib.Core.Logic.{⊎-elim}
-use lib.ListN.{length, getD, set, length-set}
+use Prim.Native.Nat.{_-_}
+use mathlib.Core.Path.{ap, sym, _∙_}
 use borrow.Author.Needs.{needs}
 use Rattle.engine.proofs.calls.open.Statement.{statement}
 use Rattle.engine.proofs.calls.open.Tie as tie
-use Rattle.engine.proofs.calls.open.Reads as reads
-use Rattle.engine.proofs.calls.open.Lts as lts
-use Rattle.analysis.proofs.test.Reads as test-reads
-use Rattle.engine.proofs.tidy.empty.Reads as empty-reads
-use Rattle.engine.proofs.tidy.tidied.Reads as tidied-reads
-use Rattle.engine.proofs.tidy.zeros.Reads as zeros-reads
 
 test-requires : tie.Need-test-requires
 test-requires c κs = search needs

@@ -1,22 +1,15 @@
+-- `engine::calls::release` meets its contract.
 use Rattle.state.specs.CallLaws.{step-passed, step-tasks, admission-room, admit-none, admit-some, release-unsound, release-not, release-taken}
 use Rattle.state.specs.State.{flagAt}
 use Rattle.tasks.specs.Content.{taskOf, noTask}
 use Rattle.tasks.specs.TaskSet.{row}
 use Rattle.tasks.specs.declared.Answer.the-variants.{Refused}
 use native.Mathlib.Omega.{arith}
-use native.Mathlib.Numerals.{add-one}
-use Prim.Native.Nat.{ℕ, _≤_, _<_, _+_, _*_, _-_}
-use mathlib.Core.Path.{_≡_, refl, ap, sym, _∙_}
-use mathlib.Core.Logic.{⊎-elim}
-use lib.ListN.{length, getD, set, length-set}
+use Prim.Native.Nat.{_-_}
+use mathlib.Core.Path.{refl, sym, _∙_}
 use borrow.Author.Needs.{needs}
 use Rattle.engine.proofs.calls.release.Statement.{statement}
 use Rattle.engine.proofs.calls.release.Tie as tie
-use Rattle.engine.proofs.calls.release.Reads as reads
-use Rattle.engine.proofs.calls.release.Lts as lts
-use Rattle.engine.proofs.calls.admission_test.Reads as admission-test-reads
-use Rattle.engine.proofs.calls.step_test.Reads as step-test-reads
-use Rattle.engine.proofs.advance.admit.Reads as admit-reads
 
 step-test-requires : tie.Need-step-test-requires
 step-test-requires c κs = search needs

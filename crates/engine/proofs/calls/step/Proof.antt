@@ -1,17 +1,10 @@
+-- `engine::calls::step` meets its contract.
 use Rattle.state.specs.CallLaws.{step-passed, step-refused, step-taken}
-use native.Mathlib.Omega.{arith}
-use native.Mathlib.Numerals.{add-one}
-use Prim.Native.Nat.{ℕ, _≤_, _<_, _+_, _*_, _-_}
-use mathlib.Core.Path.{_≡_, refl, ap, sym, _∙_}
-use mathlib.Core.Logic.{⊎-elim}
-use lib.ListN.{length, getD, set, length-set}
+use Prim.Native.Nat.{_-_}
+use mathlib.Core.Path.{sym, _∙_}
 use borrow.Author.Needs.{needs}
 use Rattle.engine.proofs.calls.step.Statement.{statement}
 use Rattle.engine.proofs.calls.step.Tie as tie
-use Rattle.engine.proofs.calls.step.Reads as reads
-use Rattle.engine.proofs.calls.step.Lts as lts
-use Rattle.engine.proofs.calls.step_test.Reads as step-test-reads
-use Rattle.engine.proofs.advance.tick.Reads as tick-reads
 
 step-test-requires : tie.Need-step-test-requires
 step-test-requires c κs = search needs

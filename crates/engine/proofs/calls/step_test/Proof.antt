@@ -1,17 +1,12 @@
+-- `engine::calls::step_test` meets its contract.
 use Rattle.state.specs.Calls.{stepTests}
 use Rattle.tasks.specs.Tests.{firstMet}
-use borrow.Author.Tests.{lt-ltb, le-ltb, le-leb, lt-leb, eq-eqb, ne-eqb, not-true, not-false}
-use native.Mathlib.Omega.{arith}
-use native.Mathlib.Numerals.{add-one}
-use Prim.Native.Nat.{ℕ, _≤_, _<_, _+_, _*_, _-_}
-use mathlib.Core.Path.{_≡_, refl, ap, sym, _∙_}
-use mathlib.Core.Logic.{⊎-elim}
-use lib.ListN.{length, getD, set, length-set}
+use borrow.Author.Tests.{eq-eqb, ne-eqb, not-true, not-false}
+use Prim.Native.Nat.{_-_}
+use mathlib.Core.Path.{sym, _∙_}
 use borrow.Author.Needs.{needs}
 use Rattle.engine.proofs.calls.step_test.Statement.{statement}
 use Rattle.engine.proofs.calls.step_test.Tie as tie
-use Rattle.engine.proofs.calls.step_test.Reads as reads
-use Rattle.engine.proofs.calls.step_test.Lts as lts
 
 sound-requires : tie.Need-sound-requires
 sound-requires c κs = search needs

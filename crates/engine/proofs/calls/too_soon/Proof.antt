@@ -1,15 +1,9 @@
-use borrow.Author.Tests.{lt-ltb, le-ltb, le-leb, lt-leb, eq-eqb, ne-eqb, not-true, not-false}
-use native.Mathlib.Omega.{arith}
-use native.Mathlib.Numerals.{add-one}
-use Prim.Native.Nat.{ℕ, _≤_, _<_, _+_, _*_, _-_}
-use mathlib.Core.Path.{_≡_, refl, ap, sym, _∙_}
-use mathlib.Core.Logic.{⊎-elim}
-use lib.ListN.{length, getD, set, length-set}
+-- `engine::calls::too_soon` meets its contract.
+use borrow.Author.Tests.{not-true, not-false}
+use Prim.Native.Nat.{_-_}
 use borrow.Author.Needs.{needs}
 use Rattle.engine.proofs.calls.too_soon.Statement.{statement}
 use Rattle.engine.proofs.calls.too_soon.Tie as tie
-use Rattle.engine.proofs.calls.too_soon.Reads as reads
-use Rattle.engine.proofs.calls.too_soon.Lts as lts
 
 returns : tie.Need-returns
 returns c = rw (not-true (c .before .args .flag) (c .if1 .taken))

@@ -1,15 +1,8 @@
+-- `engine::tidy::empty` meets its contract.
 use Rattle.state.specs.CallLaws.{opened-empty}
-use borrow.Author.Needs.{needs}
-use native.Mathlib.Omega.{arith}
-use native.Mathlib.Numerals.{add-one}
-use Prim.Native.Nat.{ℕ, _≤_, _<_, _+_, _*_, _-_}
-use mathlib.Core.Path.{_≡_, refl, ap, sym, _∙_}
-use mathlib.Core.Logic.{⊎-elim}
-use lib.ListN.{length, getD, set, length-set}
+use Prim.Native.Nat.{_-_}
 use Rattle.engine.proofs.tidy.empty.Statement.{statement}
 use Rattle.engine.proofs.tidy.empty.Tie as tie
-use Rattle.engine.proofs.tidy.empty.Reads as reads
-use Rattle.engine.proofs.tidy.empty.Lts as lts
 
 returns : tie.Need-returns
 returns c = opened-empty _

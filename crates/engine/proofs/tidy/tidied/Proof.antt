@@ -1,18 +1,9 @@
+-- `engine::tidy::tidied` meets its contract.
 use Rattle.state.specs.TidyLaws.{tidied-code}
-use native.Mathlib.Omega.{arith}
-use native.Mathlib.Numerals.{add-one}
-use Prim.Native.Nat.{ℕ, _≤_, _<_, _+_, _*_, _-_}
-use mathlib.Core.Path.{_≡_, refl, ap, sym, _∙_}
-use mathlib.Core.Logic.{⊎-elim}
-use lib.ListN.{length, getD, set, length-set}
+use Prim.Native.Nat.{_-_}
 use borrow.Author.Needs.{needs}
 use Rattle.engine.proofs.tidy.tidied.Statement.{statement}
 use Rattle.engine.proofs.tidy.tidied.Tie as tie
-use Rattle.engine.proofs.tidy.tidied.Reads as reads
-use Rattle.engine.proofs.tidy.tidied.Lts as lts
-use Rattle.engine.proofs.tidy.tidy_labels.Reads as tidy-labels-reads
-use Rattle.engine.proofs.tidy.tidy_slack.Reads as tidy-slack-reads
-use Rattle.engine.proofs.tidy.tidy_tasks.Reads as tidy-tasks-reads
 
 tidy-labels-requires : tie.Need-tidy-labels-requires
 tidy-labels-requires c κs = search needs

@@ -1,18 +1,13 @@
-use Rattle.tasks.specs.Content.{noTask, taskOf}
+-- `engine::tidy::tidy_labels` meets its contract; the loop's invariant says what its turns so far have made.
 use Rattle.tasks.specs.TaskSet.{row}
 use Rattle.laws.specs.TabLaws.{filled-none, filled-next}
 use Rattle.laws.specs.Tab.{tab, cut}
 use borrow.Author.Needs.{needs}
 use native.Mathlib.Omega.{arith}
-use native.Mathlib.Numerals.{add-one}
-use Prim.Native.Nat.{ℕ, _≤_, _<_, _+_, _*_, _-_}
-use mathlib.Core.Path.{_≡_, refl, ap, sym, _∙_}
-use mathlib.Core.Logic.{⊎-elim}
-use lib.ListN.{length, getD, set, length-set}
+use Prim.Native.Nat.{_≤_, _-_}
+use mathlib.Core.Path.{_≡_}
 use Rattle.engine.proofs.tidy.tidy_labels.Statement.{statement}
 use Rattle.engine.proofs.tidy.tidy_labels.Tie as tie
-use Rattle.engine.proofs.tidy.tidy_labels.Reads as reads
-use Rattle.engine.proofs.tidy.tidy_labels.Lts as lts
 
 abbrev Inv-loop : tie.InvT-loop
 Inv-loop labels cores out₀ i₀ out i = (i ≤ cores) × (out ≡ tab (cut i (row labels) 0) 8)

@@ -1,18 +1,13 @@
+-- `engine::tidy::tidy_tasks` meets its contract; the loop's invariant says what its turns so far have made.
 use Rattle.tasks.specs.Content.{noTask, taskOf}
-use Rattle.tasks.specs.TaskSet.{row}
 use Rattle.laws.specs.TabLaws.{filled-none, filled-next}
 use Rattle.laws.specs.Tab.{tab, cut}
 use borrow.Author.Needs.{needs}
 use native.Mathlib.Omega.{arith}
-use native.Mathlib.Numerals.{add-one}
-use Prim.Native.Nat.{ℕ, _≤_, _<_, _+_, _*_, _-_}
-use mathlib.Core.Path.{_≡_, refl, ap, sym, _∙_}
-use mathlib.Core.Logic.{⊎-elim}
-use lib.ListN.{length, getD, set, length-set}
+use Prim.Native.Nat.{_≤_, _-_}
+use mathlib.Core.Path.{_≡_}
 use Rattle.engine.proofs.tidy.tidy_tasks.Statement.{statement}
 use Rattle.engine.proofs.tidy.tidy_tasks.Tie as tie
-use Rattle.engine.proofs.tidy.tidy_tasks.Reads as reads
-use Rattle.engine.proofs.tidy.tidy_tasks.Lts as lts
 
 abbrev Inv-loop : tie.InvT-loop
 Inv-loop tasks task out₀ i₀ out i = (i ≤ tasks) × (out ≡ tab (cut i (taskOf task) noTask) 16)

@@ -45,11 +45,11 @@ add-at-2 c = omega (arith, part-within _ _ (c .before .before .before .before .j
 
 -- src/verdict.rt:119:5
 sub-result : tie.Need-sub-result
-sub-result c = part-within _ _ (c .before .before .before .before .judge .ensures) (c .before .before .enum-told .given .1)
+sub-result c = omega (arith, part-within _ _ (c .before .before .before .before .judge .ensures) (c .before .before .enum-told .given .1))
 
 -- src/verdict.rt:119:5
 part-result-start : tie.Need-part-result-start
-part-result-start c = part-within _ _ (c .before .before .before .before .judge .ensures) (c .before .before .enum-told .given .1)
+part-result-start c = omega (arith, part-within _ _ (c .before .before .before .before .judge .ensures) (c .before .before .enum-told .given .1))
 
 -- src/verdict.rt:119:5
 part-result-end : tie.Need-part-result-end
