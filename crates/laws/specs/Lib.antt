@@ -11,7 +11,4 @@ pub mod MemberLaws
 pub mod SumLaws
 pub mod RankLaws
 pub mod LargestLaws
-pub mod Push
-pub mod PushLaws
-pub mod CarryLaws
 pub mod ChoiceLaws
