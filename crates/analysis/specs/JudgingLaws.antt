@@ -3,7 +3,7 @@
 --     judging-tests    of a content whose slack is the slack that it has, it is the tests' answer
 --     judging-found    where no slack is offered, the slack that stands in the content is not looked at
 --     judging-limits, judging-count    where one of 3 to 11 is met, that is the answer
-use Prim.Native.Nat.{ℕ, _*_, _≤_, _<_}
+use Prim.Native.Nat.{ℕ, _*_, _<_}
 use mathlib.Core.Path.{_≡_, refl, sym, _∙_, ap}
 use mathlib.Core.Bool.{Bool, true, false, not}
 use mathlib.Core.List.{List, [], _∷_}

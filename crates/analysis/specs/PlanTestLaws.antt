@@ -4,21 +4,21 @@
 --     test-found       a plan marked as found: 12 and 13 against the found slack
 --     test-offered     a plan marked as offered: 13
 use Prim.Native.Nat.{ℕ, _*_, _≤_, _<_}
-use mathlib.Core.Path.{_≡_, refl, sym, _∙_, ap, ap₂}
+use mathlib.Core.Path.{_≡_, refl, sym, _∙_, ap}
 use mathlib.Core.Bool.{Bool, true, false, cond, not}
 use mathlib.Core.List.{List, [], _∷_}
 use mathlib.Core.Logic.{_⊎_, inl, inr, ⊎-elim}
 use native.Mathlib.Omega.{arith}
 use lib.Dec.{ltb, eqb}
-use borrow.Author.Tests.{eqb-true, eqb-false, eq-eqb, ne-eqb, not-false}
-use Rattle.laws.specs.Tab.{tab, cut}
-use Rattle.laws.specs.TabLaws.{getD-tab, cut-below}
+use borrow.Author.Tests.{eqb-true, ne-eqb, not-false}
+use Rattle.laws.specs.Tab.{tab}
+use Rattle.laws.specs.TabLaws.{getD-tab}
 use Rattle.tasks.specs.declared.Plan.{Plan}
 use Rattle.tasks.specs.declared.Answer.{Answer}
 use Rattle.tasks.specs.declared.Answer.the-variants.{Accepted, Refused}
-use Rattle.tasks.specs.TaskSet.{TaskSet, covers, found, bound, row}
+use Rattle.tasks.specs.TaskSet.{found, bound, row}
 use Rattle.tasks.specs.Content.{Content, contentOf}
-use Rattle.tasks.specs.Tests.{lowest, firstMet, orNext, test11, test12, test13, tests, testPlan}
+use Rattle.tasks.specs.Tests.{lowest, firstMet, orNext, test11, test12, test13, tests}
 use Rattle.tasks.specs.AnswerLaws.{lowest-ext, lowest-passed, orNext-passed, firstMet-passed}
 use Rattle.tasks.specs.LimitsLaws.{limitTests, slackTests, tests-split, limits-passed}
 use Rattle.fields.specs.declared.columns.Columns.{Columns}
@@ -26,7 +26,7 @@ use Rattle.fields.specs.Columns.{columnsOf, setFrom}
 use Rattle.fields.specs.Bounds.{overBound, boundsTest}
 use Rattle.analysis.specs.Settled.{offering, offeredTest, hadSlack}
 use Rattle.analysis.specs.SettledLaws.{columns-set}
-use Rattle.analysis.specs.PlanTest.{boundsOf, foundTest}
+use Rattle.analysis.specs.PlanTest.{boundsOf}
 
 pub bounds-plan :
     (p : Plan) → p .tasks ≤ 16 → (l : Columns) → l ≡ columnsOf (p .tasks) (p .task) → (slack : List ℕ) →

@@ -6,8 +6,8 @@
 --     stopped, passed-on                           a refusal is passed on, and a passed test leaves the next
 --     slack-tests, slack-had                       11 and 12 of a plan, and the slack that it has
 --     slack-none, slack-count, slack-offered       11 and 12 by the slack count
-use Prim.Native.Nat.{ℕ, _+_, _-_, _≤_, _<_}
-use mathlib.Core.Path.{_≡_, refl, sym, _∙_, ap, ap₂, fun-ext}
+use Prim.Native.Nat.{ℕ, _-_, _≤_, _<_}
+use mathlib.Core.Path.{_≡_, refl, sym, _∙_, ap}
 use mathlib.Core.Bool.{Bool, true, false, cond, not}
 use mathlib.Core.List.{List, [], _∷_}
 use native.Mathlib.Omega.{arith}

@@ -1,22 +1,18 @@
 -- The C judgement's answer and the bytes that it leaves behind, from what its code has seen.
 --     judge-refused    1 to 13, judge-short 24, judge-done the report
 --     reportable       an accepted plan's slack and bounds fit 4 bytes each
-use Prim.Native.Nat.{ℕ, _+_, _*_, _≤_, _<_}
-use mathlib.Core.Path.{_≡_, refl, sym, _∙_, ap}
-use mathlib.Core.List.{List, [], _∷_, _++_}
+use Prim.Native.Nat.{ℕ, _*_, _≤_, _<_}
+use mathlib.Core.Path.{_≡_, sym, _∙_, ap}
+use mathlib.Core.List.{List, _++_}
 use native.Mathlib.Omega.{arith}
-use lib.ListN.{length, drop, length-append}
+use lib.ListN.{length, length-append}
 use lib.Seq.{sets}
-use lib.Dec.{ltb}
 use borrow.Author.Tests.{lt-ltb, le-ltb}
-use Rattle.laws.specs.Tab.{tab, cut}
 use Rattle.laws.specs.TabLaws.{getD-tab}
-use Rattle.tasks.specs.declared.Plan.{Plan}
-use Rattle.tasks.specs.declared.Answer.{Answer}
 use Rattle.tasks.specs.declared.Answer.the-variants.{Accepted, Refused}
 use Rattle.tasks.specs.TaskSet.{bound, row}
 use Rattle.tasks.specs.Limits.{Bounded}
-use Rattle.tasks.specs.Content.{Content, planOf, taskOf}
+use Rattle.tasks.specs.Content.{planOf, taskOf}
 use Rattle.tasks.specs.Tests.{firstMet, tests}
 use Rattle.tasks.specs.TestsLaws.{tests-limits, tests-bounded}
 use Rattle.tasks.specs.AnswerLaws.{firstMet-passed}

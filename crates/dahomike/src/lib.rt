@@ -6,11 +6,9 @@ use tasks::Plan;
 use tasks::refusal;
 ghost use mathlib.Core.Path.{_≡_};
 ghost use mathlib.Core.List.{_++_};
-ghost use Prim.Native.Nat.{ℕ, _+_, _*_, _≤_, _<_};
+ghost use Prim.Native.Nat.{_+_, _*_, _≤_, _<_};
 ghost use lib.ListN.{length};
 ghost use lib.Seq.{sets};
-ghost use Rattle.tasks.specs.TaskSet.{row};
-ghost use Rattle.tasks.specs.Content.{taskOf};
 ghost use Rattle.table.specs.Bytes.{digits, entries};
 ghost use Rattle.dahomike.specs.Answers.{answerNumber, judgeNumber, judgeLeaves, pairOf, Reportable};
 

@@ -8,7 +8,7 @@ ghost use Rattle.laws.specs.Tab.{tab, cut};
 ghost use Rattle.tasks.specs.TaskSet.{row};
 ghost use Rattle.tasks.specs.Content.{noTask, taskOf, tidy};
 ghost use Rattle.machine.specs.Machine.{opened};
-ghost use Rattle.state.specs.State.{stateOf, zeroPlan, zeroState};
+ghost use Rattle.state.specs.State.{stateOf, zeroState};
 
 fn tidy_labels(labels: &[u8; 8], cores: usize) -> [u8; 8]
     requires { ⌜ cores ≤ 8 ⌝ }

@@ -2,7 +2,7 @@
 --     frameTest     3, 4 and 5
 --     fieldsTest    6, 7 and 8
 use Prim.Native.Nat.{ℕ, _+_}
-use mathlib.Core.List.{List, [], _∷_}
+use mathlib.Core.List.{[], _∷_}
 use lib.Dec.{ltb}
 use Rattle.tasks.specs.declared.Answer.{Answer}
 use Rattle.tasks.specs.Tests.{refuse, lowest, firstMet, outside, badLabel}

@@ -2,11 +2,10 @@
 use tasks::Answer;
 use tasks::refusal;
 ghost use mathlib.Core.Path.{_≡_};
-ghost use Prim.Native.Nat.{ℕ, _+_, _<_, _≤_};
-ghost use mathlib.Core.List.{_∷_, []};
+ghost use Prim.Native.Nat.{_<_, _≤_};
 ghost use Rattle.laws.specs.First.{first};
 ghost use Rattle.tasks.specs.TaskSet.{row};
-ghost use Rattle.tasks.specs.Tests.{badLabel, refuse, lowest, firstMet, outside};
+ghost use Rattle.tasks.specs.Tests.{badLabel, lowest};
 ghost use Rattle.fields.specs.Stages.{frameTest};
 
 // "A core label is above 63 or not above the one before."

@@ -1,7 +1,7 @@
 // Document 01's H, worked out: the greatest common divisor by Euclid, and the least common multiple of the separations, given up once it
 // passes the limit of refusal 9.
 ghost use mathlib.Core.Path.{_≡_};
-ghost use Prim.Native.Nat.{ℕ, _+_, _≤_, _<_, min};
+ghost use Prim.Native.Nat.{_+_, _<_, min};
 ghost use lib.ListN.{getD};
 ghost use Rattle.laws.specs.Multiple.{lcm, lcmBelow};
 ghost use Rattle.multiple.specs.Greatest.{Greatest};

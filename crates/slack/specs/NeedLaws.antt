@@ -3,13 +3,13 @@
 --     lifted-enough              the lifted slack is enough
 --     lifted-least               and the least that is
 --     needed-lifted              so it is the slack that the definition raises to
-use Prim.Native.Nat.{ℕ, suc, _+_, _*_, _-_, _/_, _%_, _≤_, _<_}
-use mathlib.Core.Path.{_≡_, refl, sym, _∙_, ap}
+use Prim.Native.Nat.{ℕ, _+_, _*_, _-_, _/_, _%_, _≤_, _<_}
+use mathlib.Core.Path.{_≡_, refl}
 use mathlib.Core.Bool.{Bool, true, false, cond}
 use native.Mathlib.Omega.{arith}
-use native.Mathlib.Nat.{mul-add, mul-assoc, mul-comm, mul-le-mul-left, le-trans, le-of-eq, le-antisymm, lt-of-mul-lt-mul-left, div-add-mod, mod-lt, lt-mul-div-succ, div-lt-iff-lt-mul, mul-div-le, le-of-suc-le-suc}
+use native.Mathlib.Nat.{mul-comm, mul-le-mul-left, le-antisymm, lt-of-mul-lt-mul-left, div-add-mod, mod-lt, div-lt-iff-lt-mul, le-of-suc-le-suc}
 use lib.Dec.{ltb}
-use borrow.Author.Tests.{lt-ltb, le-ltb, ltb-true, ltb-false}
+use borrow.Author.Tests.{ltb-true, ltb-false}
 use Rattle.tasks.specs.TaskSet.{TaskSet, hyperperiod, needed}
 use Rattle.tasks.specs.Limits.{Limits}
 use Rattle.tasks.specs.ShareLaws.{hyperperiod-low}

@@ -4,7 +4,7 @@
 --     Rated        the answer, and where it is no refusal H, the surpluses' sum and the shares
 use Prim.Native.Nat.{ℕ, _*_, _≤_, _<_}
 use mathlib.Core.Path.{_≡_}
-use mathlib.Core.List.{List, [], _∷_}
+use mathlib.Core.List.{[], _∷_}
 use lib.Dec.{ltb}
 use Rattle.laws.specs.Sum.{sum}
 use Rattle.laws.specs.Tab.{tab, cut}

@@ -6,10 +6,9 @@
 --     turn-over       nothing changed: y is the found slack
 --     turn-less       something changed: the distance to the ceiling falls
 use Prim.Native.Nat.{ℕ, _+_, _*_, _-_, _/_, _%_, _≤_, _<_}
-use mathlib.Core.Path.{_≡_, refl, sym, _∙_, ap, ap₂}
+use mathlib.Core.Path.{_≡_, refl, sym, _∙_, ap}
 use mathlib.Core.Bool.{Bool, true, false, cond, not}
 use mathlib.Core.List.{List}
-use mathlib.Core.Logic.{⊎-elim}
 use native.Mathlib.Omega.{arith}
 use native.Mathlib.Nat.{mul-le-mul-left, le-trans, mul-one}
 use lib.ListN.{length, getD}
@@ -22,11 +21,10 @@ use Rattle.laws.specs.SumLaws.{sum-ext, sum-const, sum-cut}
 use Rattle.laws.specs.Tab.{tab, cut}
 use Rattle.laws.specs.TabLaws.{length-tab, getD-tab, getD-tab-out, getD-cut, cut-below, cut-above}
 use Rattle.tasks.specs.TaskSet.{TaskSet, hyperperiod, amount, needed, found, row}
-use Rattle.tasks.specs.Limits.{Limits}
 use Rattle.tasks.specs.ShareLaws.{hyperperiod-low}
 use Rattle.tasks.specs.SlackLaws.{needed-covers}
-use Rattle.tasks.specs.RisingLaws.{Raised, Rising, rising-step, rising-high, raised-high, rising-falls}
-use Rattle.tasks.specs.FoundLaws.{found-still, found-array, found-past}
+use Rattle.tasks.specs.RisingLaws.{Raised, Rising, rising-step, raised-high, rising-falls}
+use Rattle.tasks.specs.FoundLaws.{found-still, found-array}
 use Rattle.slack.specs.RatesLaws.{row-filled}
 use Rattle.slack.specs.Settling.{lifted, upto, Settling}
 use Rattle.slack.specs.SettlingLaws.{upto-below, upto-above}

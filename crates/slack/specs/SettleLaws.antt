@@ -9,26 +9,25 @@
 use Prim.Native.Nat.{ℕ, _+_, _*_, _-_, _≤_, _<_}
 use mathlib.Core.Path.{_≡_, refl, sym, _∙_, ap, ap₂, fun-ext}
 use mathlib.Core.Bool.{Bool, true, false, not}
-use mathlib.Core.List.{List, [], _∷_}
+use mathlib.Core.List.{List}
 use native.Mathlib.Omega.{arith}
 use lib.Dec.{ltb, leb}
 use borrow.Author.Tests.{lt-ltb, le-ltb, leb-true, leb-false, ltb-false}
 use Rattle.laws.specs.First.{first}
 use Rattle.laws.specs.FirstLaws.{first-ext, first-le}
-use Rattle.laws.specs.Sum.{sum, sumOver}
+use Rattle.laws.specs.Sum.{sumOver}
 use Rattle.laws.specs.SumLaws.{sumOver-ext}
 use Rattle.laws.specs.Rank.{largest}
 use Rattle.laws.specs.LargestLaws.{largest-ext, largest-below}
 use Rattle.laws.specs.Tab.{tab, cut}
 use Rattle.laws.specs.TabLaws.{getD-cut}
-use Rattle.tasks.specs.declared.Answer.{Answer}
 use Rattle.tasks.specs.declared.Answer.the-variants.{Accepted, Refused}
 use Rattle.tasks.specs.TaskSet.{TaskSet, hyperperiod, share, surplus, weight, counted, amount, cover, covers, row}
 use Rattle.tasks.specs.Limits.{Limits}
 use Rattle.tasks.specs.ShareLaws.{share-high, surpluses-high, hyperperiod-low}
 use Rattle.tasks.specs.AmountLaws.{amount-high}
 use Rattle.tasks.specs.RisingLaws.{Rising, rising-high}
-use Rattle.tasks.specs.Tests.{refuse, lowest, firstMet, outside}
+use Rattle.tasks.specs.Tests.{lowest}
 use Rattle.tasks.specs.AnswerLaws.{refuse-passed, lowest-passed, lowest-found, lowest-none, firstMet-passed, outside-passed}
 use Rattle.slack.specs.declared.rates.Rates.{Rates}
 use Rattle.fields.specs.Columns.{setFrom}

@@ -2,16 +2,15 @@
 --     upto-below, upto-above, upto-more, upto-same    a row that is f below n and g from n on
 --     sweep-none, sweep-old, sweep-set, sweep-keep    an array changed in order: the start, and a turn
 --     changed-more, changed-same                      whether the test held at an index below n
-use Prim.Native.Nat.{ℕ, _+_, _*_, _-_, _/_, _≤_, _<_}
+use Prim.Native.Nat.{ℕ, _+_, _≤_, _<_}
 use mathlib.Core.Path.{_≡_, refl, sym, _∙_, ap}
-use mathlib.Core.Bool.{Bool, true, false, cond, not}
+use mathlib.Core.Bool.{Bool, true, false, cond}
 use mathlib.Core.List.{List}
 use mathlib.Core.Logic.{⊎-elim}
 use native.Mathlib.Omega.{arith}
-use native.Mathlib.Numerals.{add-one}
-use lib.ListN.{set, getD, length}
+use lib.ListN.{set, length}
 use lib.Dec.{ltb, eqb}
-use borrow.Author.Tests.{lt-ltb, le-ltb, ltb-true, ltb-false, eq-eqb, ne-eqb, eqb-true, eqb-false}
+use borrow.Author.Tests.{lt-ltb, le-ltb, ltb-true, ltb-false, eqb-true, eqb-false}
 use Rattle.laws.specs.First.{first}
 use Rattle.laws.specs.FirstLaws.{first-or-none, found-stays, none-more, found-at}
 use Rattle.laws.specs.Tab.{tab}

@@ -3,12 +3,11 @@ use largest::largest_sum;
 use multiple::wide;
 ghost use mathlib.Core.Path.{_≡_};
 ghost use mathlib.Core.Bool.{true, false};
-ghost use Prim.Native.Nat.{ℕ, _+_, _<_, _≤_};
+ghost use Prim.Native.Nat.{_+_, _<_, _≤_};
 ghost use Rattle.laws.specs.Sum.{count, sumOver};
 ghost use Rattle.laws.specs.Rank.{largest};
 ghost use Rattle.laws.specs.Tab.{tab, cut};
 ghost use Rattle.largest.specs.Passes.{members};
-ghost use Rattle.tasks.specs.TaskSet.{row};
 ghost use Rattle.slack.specs.Weights.{weightRow, Few, Weighed};
 
 // Every weight: share × (x + Y).

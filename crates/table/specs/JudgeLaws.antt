@@ -4,9 +4,9 @@
 --     tasks-place, slack-place, long-enough, loaded-from    the loaders' places, and the plan that they fill
 --     Judges       what the judging of a plan with a slack count answers
 --     answer-in, judged-from    past 1 and 2 that is the table's verdict and judgement
-use Prim.Native.Nat.{ℕ, _+_, _*_, _≤_, _<_}
+use Prim.Native.Nat.{ℕ, _+_, _*_, _≤_}
 use mathlib.Core.Path.{_≡_, refl, sym, _∙_, ap, subst}
-use mathlib.Core.Bool.{Bool, true, false, cond, not, _||_}
+use mathlib.Core.Bool.{Bool, true, false, not, _||_}
 use mathlib.Core.List.{List, [], _∷_}
 use native.Mathlib.Omega.{arith}
 use lib.ListN.{length}

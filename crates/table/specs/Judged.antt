@@ -2,7 +2,7 @@
 --     judged           the judgement of a table's bytes
 --     slackPart        the slack section's entries, without the count byte
 --     written          the writer's answer, `writtenTo` the bytes that it leaves behind
---     answerOfWritten  document 01's number and index for each case of the writer's answer
+--     answerOfWritten, lengthOfWritten    document 01's number and index, and the length, for each case of the writer's answer
 use Prim.Native.Nat.{ℕ}
 use mathlib.Core.Bool.{false}
 use mathlib.Core.List.{List, [], _∷_, _++_}
@@ -56,6 +56,11 @@ writtenAs (Refused k i) n = NotWritten k i
 unfoldable pub answerOfWritten : Written → Answer
 answerOfWritten (Length n) = Accepted
 answerOfWritten (NotWritten k i) = Refused k i
+
+-- "lengths and counts are 0" on a refusal
+unfoldable pub lengthOfWritten : Written → ℕ
+lengthOfWritten (Length n) = n
+lengthOfWritten (NotWritten k i) = 0
 
 unfoldable pub written : Plan → ℕ → Written
 written p room = writtenAs (writeTest p room) (length (bytesOf (contentOf p)))

@@ -2,19 +2,18 @@
 --     part-place    where the slack section's entries begin, from the plan of an accepted judgement
 --     part-rest     the part from there on, part-none of a refused table
 use Prim.Native.Nat.{ℕ, _+_, _*_, _-_, _≤_}
-use mathlib.Core.Path.{_≡_, refl, sym, _∙_, ap}
-use mathlib.Core.List.{List, [], _∷_}
+use mathlib.Core.Path.{_≡_, sym, _∙_, ap}
+use mathlib.Core.List.{List, []}
 use native.Mathlib.Omega.{arith}
 use native.Mathlib.Nat.{le-of-eq}
 use lib.ListN.{length, take, drop, length-drop}
 use lib.Seq.{take-all}
-use Rattle.tasks.specs.declared.Answer.{Answer}
 use Rattle.tasks.specs.declared.Answer.the-variants.{Accepted, Refused}
 use Rattle.tasks.specs.Content.{planOf}
 use Rattle.tasks.specs.AnswerLaws.{firstMet-passed}
 use Rattle.table.specs.declared.Judgement.{Judgement}
-use Rattle.codec.specs.Table.{coreCount, taskCount, tasksAt, slackCount, slackAt, taskSetIn, contentIn, test1, test2, verdict}
-use Rattle.table.specs.Judged.{onAccepted, zeroPlan, judged, slackPart}
+use Rattle.codec.specs.Table.{tasksAt, slackCount, slackAt, taskSetIn, contentIn, test1, test2, verdict}
+use Rattle.table.specs.Judged.{judged, slackPart}
 use Rattle.table.specs.JudgeLaws.{right-length}
 
 module _ (t : List ℕ) (j : Judgement) (e : j ≡ judged t) where

@@ -1,9 +1,10 @@
 -- The writer's answer and the bytes that it leaves behind, from what its code has seen.
 --     write-refused    3 to 13, write-short 24, write-done the bytes written
 --     plan-few         a plan past 3 to 13 fits its arrays
+--     written-answer, written-length    the number, index and length of the writer's answer
 use Prim.Native.Nat.{ℕ, _≤_, _<_}
-use mathlib.Core.Path.{_≡_, refl, sym, _∙_, ap}
-use mathlib.Core.List.{List, [], _∷_, _++_}
+use mathlib.Core.Path.{_≡_}
+use mathlib.Core.List.{List, _++_}
 use lib.ListN.{length, drop}
 use borrow.Author.Tests.{lt-ltb, le-ltb}
 use Rattle.tasks.specs.declared.Plan.{Plan}
@@ -12,10 +13,9 @@ use Rattle.tasks.specs.declared.Answer.the-variants.{Accepted, Refused}
 use Rattle.tasks.specs.Content.{contentOf}
 use Rattle.tasks.specs.Tests.{firstMet, testPlan}
 use Rattle.tasks.specs.TestsLaws.{tests-limits}
-use Rattle.table.specs.declared.Written.{Written}
 use Rattle.table.specs.declared.Written.the-variants.{Length, Refused as NotWritten}
 use Rattle.codec.specs.Table.{bytesOf}
-use Rattle.table.specs.Judged.{writtenAs, writeTest, written, writtenTo}
+use Rattle.table.specs.Judged.{onAccepted, writtenAs, answerOfWritten, lengthOfWritten, writeTest, written, writtenTo}
 
 module _ (p : Plan) (out : List ℕ) where
   pub write-refused :
@@ -38,3 +38,20 @@ module _ (p : Plan) (out : List ℕ) where
         × (bytesOf (contentOf p) ++ drop (length (bytesOf (contentOf p))) out ≡ writtenTo p out)
     unfolding written writtenTo writeTest firstMet
     write-done h = (rw (e, le-ltb (length out) (length (bytesOf (contentOf p))) h), rw (e, le-ltb (length out) (length (bytesOf (contentOf p))) h))
+
+module _ (p : Plan) (room : ℕ) where
+  pub written-answer : answerOfWritten (written p room) ≡ writeTest p room
+  unfolding answerOfWritten written
+  written-answer = go (writeTest p room)
+    where
+      go : (a : Answer) → answerOfWritten (writtenAs a (length (bytesOf (contentOf p)))) ≡ a
+      go Accepted = refl
+      go (Refused k i) = refl
+
+  pub written-length : lengthOfWritten (written p room) ≡ onAccepted (writeTest p room) (length (bytesOf (contentOf p))) 0
+  unfolding lengthOfWritten written
+  written-length = go (writeTest p room)
+    where
+      go : (a : Answer) → lengthOfWritten (writtenAs a (length (bytesOf (contentOf p)))) ≡ onAccepted a (length (bytesOf (contentOf p))) 0
+      go Accepted = refl
+      go (Refused k i) = refl

@@ -7,7 +7,6 @@ use tasks::Answer;
 use tasks::Plan;
 use tasks::refusal;
 ghost use mathlib.Core.Path.{_≡_};
-ghost use Prim.Native.Nat.{_≤_};
 ghost use lib.ListN.{length};
 ghost use Rattle.table.specs.Judged.{writtenAs, written, writtenTo};
 

@@ -1,7 +1,7 @@
 -- What a task set that meets none of 3 and 5 to 10 has, and a plan that meets none of 12 and 13.
 --     Limits      the limits of the cores and tasks
 --     Bounded     every bound is at most 16 × T
-use Prim.Native.Nat.{ℕ, _+_, _*_, _≤_, _<_}
+use Prim.Native.Nat.{ℕ, _*_, _≤_, _<_}
 use Rattle.laws.specs.Sum.{sum}
 use Rattle.tasks.specs.TaskSet.{TaskSet, hyperperiod, share, bound}
 

@@ -12,7 +12,7 @@ use Rattle.laws.specs.Sum.{sum}
 use Rattle.tasks.specs.declared.Plan.{Plan}
 use Rattle.tasks.specs.declared.Answer.{Answer}
 use Rattle.tasks.specs.declared.Answer.the-variants.{Accepted, Refused}
-use Rattle.tasks.specs.TaskSet.{TaskSet, hyperperiod, share, covers, found, bound, row}
+use Rattle.tasks.specs.TaskSet.{hyperperiod, share, covers, found, bound, row}
 use Rattle.tasks.specs.Content.{Content, contentOf}
 
 abbrev pub refuse : ℕ → Bool → Answer

@@ -1,10 +1,10 @@
 // Tables that meet two numbers: the lower is answered, and each is tested over all entries before the next.
-use crate::draft::Draft;
-use crate::draft::P1;
-use crate::draft::P7;
-use crate::draft::on_cores;
-use crate::draft::three;
-use crate::judged;
+use cases::draft::Draft;
+use cases::draft::P1;
+use cases::draft::P7;
+use cases::draft::on_cores;
+use cases::draft::three;
+use cases::judged;
 
 fn counts() {
     judged::bytes(b"1 before 2", b"\x02\x02");

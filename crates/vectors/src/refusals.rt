@@ -1,10 +1,10 @@
 // A table or more for each of refusals 1 to 13, and the accepted tables next to their limits.
-use crate::draft::P1;
-use crate::draft::front;
-use crate::draft::labelled;
-use crate::draft::on_cores;
-use crate::draft::three;
-use crate::judged;
+use cases::draft::P1;
+use cases::draft::front;
+use cases::draft::labelled;
+use cases::draft::on_cores;
+use cases::draft::three;
+use cases::judged;
 
 // A table of `length` bytes that are all 255 but for the edition. 4,339 bytes are what its counts give.
 fn longest(name: &[u8], length: usize) {

@@ -1,7 +1,7 @@
 // Document 01, "Worked tables": P1 to P9. Where it gives no budgets and offsets, as in P9, they are ours.
-use crate::draft::P1;
-use crate::draft::P7;
-use crate::judged;
+use cases::draft::P1;
+use cases::draft::P7;
+use cases::judged;
 
 pub fn cases() {
     judged::found(b"P1", P1);

@@ -3,7 +3,7 @@
 --     cases        P1 to P9, P8 and P9 in both forms; where document 01 gives no budgets or offsets they are ours
 --     agrees       whether the definitions say the same of a case
 --     worked       they do of every case
-use Prim.Native.Nat.{ℕ, zero, suc, _+_}
+use Prim.Native.Nat.{ℕ}
 use mathlib.Core.Bool.{Bool, true, false, _&&_}
 use mathlib.Core.List.{List, [], _∷_, _++_, map}
 use lib.ListN.{length}

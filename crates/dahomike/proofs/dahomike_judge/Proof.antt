@@ -1,14 +1,9 @@
-use Prim.Native.Nat.{ℕ}
-use mathlib.Core.Path.{_≡_, sym, _∙_, ap}
+use mathlib.Core.Path.{_∙_, ap}
 use Rattle.tasks.specs.declared.Answer.{Answer}
 use Rattle.dahomike.specs.Answers.{answerNumber}
 use Rattle.dahomike.specs.AnswerLaws.{judge-refused, judge-short, judge-done, reportable, few-tasks}
 use native.Mathlib.Omega.{arith}
-use native.Mathlib.Numerals.{add-one}
-use Prim.Native.Nat.{ℕ, _≤_, _<_, _+_, _*_, _-_}
-use mathlib.Core.Path.{_≡_, refl, ap, sym, _∙_}
-use mathlib.Core.Logic.{⊎-elim}
-use lib.ListN.{length, getD, set, length-set}
+use mathlib.Core.Path.{ap, _∙_}
 use borrow.Author.Needs.{needs}
 use Rattle.dahomike.proofs.dahomike_judge.Statement.{statement}
 use Rattle.dahomike.proofs.dahomike_judge.Tie as tie

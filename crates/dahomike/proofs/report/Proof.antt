@@ -1,7 +1,6 @@
 use lib.ListN.{length-append}
-use mathlib.Core.List.{List, _++_}
+use mathlib.Core.List.{_++_}
 use lib.Seq.{sets}
-use native.Mathlib.Nat.{le-antisymm}
 use Rattle.tasks.specs.TaskSet.{row}
 use Rattle.tasks.specs.Content.{taskOf, noTask}
 use Rattle.table.specs.Bytes.{digits, entries}
@@ -10,11 +9,9 @@ use Rattle.table.specs.WriteLaws.{sets-entry}
 use Rattle.dahomike.specs.Answers.{pairOf, boundIn}
 use borrow.Author.Needs.{needs}
 use native.Mathlib.Omega.{arith}
-use native.Mathlib.Numerals.{add-one}
-use Prim.Native.Nat.{ℕ, _≤_, _<_, _+_, _*_, _-_}
-use mathlib.Core.Path.{_≡_, refl, ap, sym, _∙_}
-use mathlib.Core.Logic.{⊎-elim}
-use lib.ListN.{length, getD, set, length-set}
+use Prim.Native.Nat.{ℕ, _≤_, _+_, _-_}
+use mathlib.Core.Path.{_≡_, refl, _∙_}
+use lib.ListN.{length}
 use Rattle.dahomike.proofs.report.Statement.{statement}
 use Rattle.dahomike.proofs.report.Tie as tie
 use Rattle.dahomike.proofs.report.Reads as reads

@@ -1,7 +1,6 @@
 -- `service::turn` meets its contract.
 use Rattle.state.specs.CodeLaws.{turn-none, turn-left, turn-less, turn-last}
 use Rattle.tasks.specs.TaskSet.{row}
-use Prim.Native.Nat.{_-_}
 use borrow.Author.Needs.{needs}
 use Rattle.service.proofs.turn.Statement.{statement}
 use Rattle.service.proofs.turn.Tie as tie

@@ -1,5 +1,4 @@
 -- `soundness::clear` meets its contract.
-use Prim.Native.Nat.{_-_}
 use borrow.Author.Needs.{needs}
 use Rattle.soundness.proofs.clear.Statement.{statement}
 use Rattle.soundness.proofs.clear.Tie as tie

@@ -1,6 +1,5 @@
 -- `soundness::held` meets its contract.
 use borrow.Author.Tests.{eq-eqb, ne-eqb}
-use Prim.Native.Nat.{_-_}
 use borrow.Author.Needs.{needs}
 use Rattle.soundness.proofs.held.Statement.{statement}
 use Rattle.soundness.proofs.held.Tie as tie

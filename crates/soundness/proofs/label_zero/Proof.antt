@@ -1,6 +1,5 @@
 -- `soundness::label_zero` meets its contract.
 use borrow.Author.Tests.{lt-ltb, le-ltb}
-use Prim.Native.Nat.{_-_}
 use Rattle.soundness.proofs.label_zero.Statement.{statement}
 use Rattle.soundness.proofs.label_zero.Tie as tie
 

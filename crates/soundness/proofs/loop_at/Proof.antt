@@ -3,7 +3,6 @@ use Rattle.state.specs.Tests.{loopHolds}
 use Rattle.state.specs.SoundState.{loopTest}
 use Rattle.tasks.specs.TaskSet.{row}
 use borrow.Author.Tests.{lt-leb}
-use Prim.Native.Nat.{_-_}
 use borrow.Author.Needs.{needs}
 use Rattle.soundness.proofs.loop_at.Statement.{statement}
 use Rattle.soundness.proofs.loop_at.Tie as tie

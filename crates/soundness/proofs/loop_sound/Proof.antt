@@ -1,7 +1,6 @@
 -- `soundness::loop_sound` meets its contract.
 use borrow.Author.Tests.{le-leb, lt-leb, not-true, not-false}
 use Rattle.state.specs.SoundState.{loopTest}
-use Prim.Native.Nat.{_-_}
 use mathlib.Core.Path.{sym, _∙_}
 use borrow.Author.Needs.{needs}
 use Rattle.soundness.proofs.loop_sound.Statement.{statement}

@@ -1,6 +1,5 @@
 -- `soundness::place_at` meets its contract.
 use Rattle.tasks.specs.TaskSet.{row}
-use Prim.Native.Nat.{_-_}
 use borrow.Author.Needs.{needs}
 use Rattle.soundness.proofs.place_at.Statement.{statement}
 use Rattle.soundness.proofs.place_at.Tie as tie

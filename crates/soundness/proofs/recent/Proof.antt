@@ -1,6 +1,5 @@
 -- `soundness::recent` meets its contract.
 use borrow.Author.Tests.{eq-eqb, ne-eqb, not-true, not-false}
-use Prim.Native.Nat.{_-_}
 use Rattle.soundness.proofs.recent.Statement.{statement}
 use Rattle.soundness.proofs.recent.Tie as tie
 

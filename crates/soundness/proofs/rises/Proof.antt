@@ -1,6 +1,5 @@
 -- `soundness::rises` meets its contract.
 use borrow.Author.Tests.{eq-eqb, ne-eqb}
-use Prim.Native.Nat.{_-_}
 use borrow.Author.Needs.{needs}
 use Rattle.soundness.proofs.rises.Statement.{statement}
 use Rattle.soundness.proofs.rises.Tie as tie

@@ -1,7 +1,6 @@
 -- `soundness::sound` meets its contract.
 use Rattle.state.specs.Tests.{sound-parts}
 use borrow.Author.Tests.{le-leb, lt-leb, not-true, not-false}
-use Prim.Native.Nat.{_-_}
 use mathlib.Core.Path.{sym, _∙_}
 use borrow.Author.Needs.{needs}
 use Rattle.soundness.proofs.sound.Statement.{statement}

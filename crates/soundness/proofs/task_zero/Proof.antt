@@ -1,6 +1,5 @@
 -- `soundness::task_zero` meets its contract.
 use borrow.Author.Tests.{lt-ltb, le-ltb, not-true, not-false}
-use Prim.Native.Nat.{_-_}
 use mathlib.Core.Path.{sym, _∙_}
 use borrow.Author.Needs.{needs}
 use Rattle.soundness.proofs.task_zero.Statement.{statement}

@@ -1,6 +1,5 @@
 -- `soundness::zeros` meets its contract.
 use borrow.Author.Tests.{eq-eqb, ne-eqb}
-use Prim.Native.Nat.{_-_}
 use Rattle.soundness.proofs.zeros.Statement.{statement}
 use Rattle.soundness.proofs.zeros.Tie as tie
 

@@ -1,12 +1,5 @@
-use Rattle.tasks.specs.Tests.{orNext}
 use Rattle.analysis.specs.PlanTest.{foundTest}
 use Rattle.fields.specs.StageLaws.{scan-found, scan-none}
-use native.Mathlib.Omega.{arith}
-use native.Mathlib.Numerals.{add-one}
-use Prim.Native.Nat.{ℕ, _≤_, _<_, _+_, _*_, _-_}
-use mathlib.Core.Path.{_≡_, refl, ap, sym, _∙_}
-use mathlib.Core.Logic.{⊎-elim}
-use lib.ListN.{length, getD, set, length-set}
 use borrow.Author.Needs.{needs}
 use Rattle.analysis.proofs.plan_test.found_test.Statement.{statement}
 use Rattle.analysis.proofs.plan_test.found_test.Tie as tie

@@ -1,10 +1,5 @@
 use Rattle.analysis.specs.PlanTestLaws.{bounds-plan}
-use native.Mathlib.Omega.{arith}
-use native.Mathlib.Numerals.{add-one}
-use Prim.Native.Nat.{ℕ, _≤_, _<_, _+_, _*_, _-_}
-use mathlib.Core.Path.{_≡_, refl, ap, sym, _∙_}
-use mathlib.Core.Logic.{⊎-elim}
-use lib.ListN.{length, getD, set, length-set}
+use mathlib.Core.Path.{_∙_}
 use borrow.Author.Needs.{needs}
 use Rattle.analysis.proofs.plan_test.plan_bounds.Statement.{statement}
 use Rattle.analysis.proofs.plan_test.plan_bounds.Tie as tie

@@ -1,28 +1,24 @@
 use Prim.Native.Nat.{ℕ, _≤_}
-use mathlib.Core.Path.{_≡_, refl, sym, _∙_, ap}
+use mathlib.Core.Path.{_≡_, sym, _∙_, ap}
 use mathlib.Core.Bool.{cond, not}
-use mathlib.Core.List.{List, [], _∷_}
+use mathlib.Core.List.{[], _∷_}
 use lib.Dec.{eqb}
-use Rattle.laws.specs.Tab.{tab, cut}
+use Rattle.laws.specs.Tab.{tab}
 use Rattle.laws.specs.TabLaws.{cut-below}
 use Rattle.tasks.specs.declared.Plan.{Plan}
 use Rattle.tasks.specs.declared.Answer.{Answer}
 use Rattle.tasks.specs.declared.Answer.the-variants.{Accepted, Refused}
 use Rattle.tasks.specs.TaskSet.{row}
 use Rattle.tasks.specs.Content.{Content, contentOf}
-use Rattle.tasks.specs.Tests.{lowest, orNext, firstMet, test11, testPlan}
+use Rattle.tasks.specs.Tests.{orNext, firstMet, test11, testPlan}
 use Rattle.tasks.specs.AnswerLaws.{lowest-ext}
 use Rattle.tasks.specs.LimitsLaws.{limitTests}
 use Rattle.analysis.specs.declared.settle.Settled.{Settled}
-use Rattle.analysis.specs.Settled.{Settles, offering, offeredTest, hadSlack}
+use Rattle.analysis.specs.Settled.{Settles, offeredTest, hadSlack}
 use Rattle.analysis.specs.PlanTest.{boundsOf, foundTest}
 use Rattle.analysis.specs.PlanTestLaws.{offering-plan, test-refused, few-tasks, test-found, test-offered}
-use native.Mathlib.Omega.{arith}
-use native.Mathlib.Numerals.{add-one}
-use Prim.Native.Nat.{ℕ, _≤_, _<_, _+_, _*_, _-_}
-use mathlib.Core.Path.{_≡_, refl, ap, sym, _∙_}
-use mathlib.Core.Logic.{⊎-elim}
-use lib.ListN.{length, getD, set, length-set}
+use Prim.Native.Nat.{ℕ, _≤_}
+use mathlib.Core.Path.{_≡_, ap, sym, _∙_}
 use borrow.Author.Needs.{needs}
 use Rattle.analysis.proofs.plan_test.test.Statement.{statement}
 use Rattle.analysis.proofs.plan_test.test.Tie as tie

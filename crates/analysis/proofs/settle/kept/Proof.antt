@@ -4,11 +4,8 @@ use Rattle.tasks.specs.TaskSet.{row}
 use Rattle.fields.specs.StageLaws.{column-more}
 use borrow.Author.Needs.{needs}
 use native.Mathlib.Omega.{arith}
-use native.Mathlib.Numerals.{add-one}
-use Prim.Native.Nat.{ℕ, _≤_, _<_, _+_, _*_, _-_}
-use mathlib.Core.Path.{_≡_, refl, ap, sym, _∙_}
-use mathlib.Core.Logic.{⊎-elim}
-use lib.ListN.{length, getD, set, length-set}
+use Prim.Native.Nat.{_≤_, _-_}
+use mathlib.Core.Path.{_≡_}
 use Rattle.analysis.proofs.settle.kept.Statement.{statement}
 use Rattle.analysis.proofs.settle.kept.Tie as tie
 use Rattle.analysis.proofs.settle.kept.Reads as reads

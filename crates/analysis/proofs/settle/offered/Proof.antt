@@ -2,21 +2,16 @@ use mathlib.Core.Bool.{Bool, true, false}
 use Rattle.laws.specs.Sum.{count}
 use Rattle.laws.specs.Tab.{tab, cut}
 use Rattle.largest.specs.Passes.{members}
-use Rattle.laws.specs.TabLaws.{getD-cut}
 use Rattle.slack.specs.SettleLaws.{offered-refused, offered-passed, offered-slack}
 use Rattle.slack.specs.SearchLaws.{chosen-first}
 use Rattle.fields.specs.StageLaws.{not-both}
 use mathlib.Core.List.{List}
-use Rattle.tasks.specs.TaskSet.{TaskSet, row}
+use Rattle.tasks.specs.TaskSet.{TaskSet}
 use Rattle.slack.specs.Settling.{Settling}
-use Rattle.slack.specs.SettleLaws.{cores-low, cores-high, more, tasks-high, multiple-high, few, surplus-high, amount-row, uncovered-test, row-of-filled}
-use Rattle.analysis.specs.Settled.{Offered}
+use Rattle.slack.specs.SettleLaws.{cores-low, cores-high, more, tasks-high, multiple-high, few, surplus-high, amount-row}
 use native.Mathlib.Omega.{arith}
-use native.Mathlib.Numerals.{add-one}
-use Prim.Native.Nat.{ℕ, _≤_, _<_, _+_, _*_, _-_}
-use mathlib.Core.Path.{_≡_, refl, ap, sym, _∙_}
-use mathlib.Core.Logic.{⊎-elim}
-use lib.ListN.{length, getD, set, length-set}
+use Prim.Native.Nat.{ℕ, _-_}
+use mathlib.Core.Path.{_≡_, sym, _∙_}
 use borrow.Author.Needs.{needs}
 use Rattle.analysis.proofs.settle.offered.Statement.{statement}
 use Rattle.analysis.proofs.settle.offered.Tie as tie

@@ -10,16 +10,12 @@ use Rattle.tasks.specs.AnswerLaws.{orNext-assoc}
 use Rattle.tasks.specs.LimitsLaws.{limitTests}
 use Rattle.analysis.specs.declared.settle.Settled.{Settled}
 use Rattle.fields.specs.Stages.{frameTest}
-use Rattle.slack.specs.SettleLaws.{Framed, frame-passed}
+use Rattle.slack.specs.SettleLaws.{frame-passed}
 use Rattle.analysis.specs.Settled.{offering, offeredTest, taskTests, TasksSettle, Settles}
 use Rattle.analysis.specs.SettledLaws.{frame-tests, limits-split, stopped, passed-on}
 use Rattle.fields.specs.StageLaws.{not-both}
-use native.Mathlib.Omega.{arith}
-use native.Mathlib.Numerals.{add-one}
-use Prim.Native.Nat.{ℕ, _≤_, _<_, _+_, _*_, _-_}
-use mathlib.Core.Path.{_≡_, refl, ap, sym, _∙_}
-use mathlib.Core.Logic.{⊎-elim}
-use lib.ListN.{length, getD, set, length-set}
+use Prim.Native.Nat.{ℕ}
+use mathlib.Core.Path.{_≡_, ap, sym, _∙_}
 use borrow.Author.Needs.{needs}
 use Rattle.analysis.proofs.settle.settle.Statement.{statement}
 use Rattle.analysis.proofs.settle.settle.Tie as tie

@@ -1,10 +1,8 @@
 use mathlib.Core.List.{List}
-use mathlib.Core.Bool.{Bool, true, false, cond}
-use lib.Dec.{eqb}
 use borrow.Author.Tests.{ne-eqb}
-use Rattle.laws.specs.Tab.{tab, cut}
+use Rattle.laws.specs.Tab.{tab}
 use Rattle.tasks.specs.declared.Answer.{Answer}
-use Rattle.tasks.specs.TaskSet.{TaskSet, found, row}
+use Rattle.tasks.specs.TaskSet.{found, row}
 use Rattle.tasks.specs.Tests.{orNext}
 use Rattle.slack.specs.declared.rates.Rates.{Rates}
 use Rattle.analysis.specs.declared.settle.Settled.{Settled}
@@ -17,12 +15,8 @@ use Rattle.fields.specs.Columns.{setFrom}
 use Rattle.slack.specs.SettleLaws.{settling-of}
 use Rattle.analysis.specs.SettledLaws.{limits-from, stopped, passed-on, slack-none, slack-count, slack-offered}
 use Rattle.fields.specs.StageLaws.{not-both}
-use native.Mathlib.Omega.{arith}
-use native.Mathlib.Numerals.{add-one}
-use Prim.Native.Nat.{ℕ, _≤_, _<_, _+_, _*_, _-_}
-use mathlib.Core.Path.{_≡_, refl, ap, sym, _∙_}
-use mathlib.Core.Logic.{⊎-elim}
-use lib.ListN.{length, getD, set, length-set}
+use Prim.Native.Nat.{ℕ}
+use mathlib.Core.Path.{_≡_, refl, sym, _∙_}
 use borrow.Author.Needs.{needs}
 use Rattle.analysis.proofs.settle.settle_rated.Statement.{statement}
 use Rattle.analysis.proofs.settle.settle_rated.Tie as tie

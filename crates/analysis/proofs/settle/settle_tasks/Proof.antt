@@ -1,10 +1,9 @@
-use mathlib.Core.List.{List, [], _∷_}
+use mathlib.Core.List.{[], _∷_}
 use Rattle.laws.specs.TabLaws.{tab-ext}
 use Rattle.tasks.specs.declared.Plan.{Plan}
 use Rattle.tasks.specs.declared.Answer.{Answer}
 use Rattle.tasks.specs.declared.Answer.the-variants.{Accepted, Refused}
 use Rattle.tasks.specs.TaskSet.{row}
-use Rattle.tasks.specs.Content.{contentOf}
 use Rattle.tasks.specs.Tests.{firstMet, orNext, test6, test7, test8}
 use Rattle.fields.specs.declared.columns.Columns.{Columns}
 use Rattle.analysis.specs.declared.settle.Settled.{Settled}
@@ -15,12 +14,8 @@ use Rattle.slack.specs.SettleLaws.{Framed, ranges-passed}
 use Rattle.analysis.specs.Settled.{offering, taskTests, RatesSettle, TasksSettle}
 use Rattle.analysis.specs.SettledLaws.{columns-set, fields-tests, rates-tests, stopped, passed-on, slack-tests, slack-had}
 use Rattle.fields.specs.StageLaws.{not-both}
-use native.Mathlib.Omega.{arith}
-use native.Mathlib.Numerals.{add-one}
-use Prim.Native.Nat.{ℕ, _≤_, _<_, _+_, _*_, _-_}
-use mathlib.Core.Path.{_≡_, refl, ap, ap₂, sym, _∙_}
-use mathlib.Core.Logic.{⊎-elim}
-use lib.ListN.{length, getD, set, length-set}
+use Prim.Native.Nat.{ℕ}
+use mathlib.Core.Path.{_≡_, ap₂, sym, _∙_}
 use borrow.Author.Needs.{needs}
 use Rattle.analysis.proofs.settle.settle_tasks.Statement.{statement}
 use Rattle.analysis.proofs.settle.settle_tasks.Tie as tie

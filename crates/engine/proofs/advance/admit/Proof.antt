@@ -3,7 +3,6 @@ use Rattle.state.specs.StepLaws.{AdmitCode, admit-code}
 use Rattle.state.specs.Fit.{Shaped, length-mapped}
 use Rattle.tasks.specs.TaskSet.{row}
 use native.Mathlib.Omega.{arith}
-use Prim.Native.Nat.{_-_}
 use borrow.Author.Needs.{needs}
 use Rattle.engine.proofs.advance.admit.Statement.{statement}
 use Rattle.engine.proofs.advance.admit.Tie as tie

@@ -3,7 +3,6 @@ use Rattle.state.specs.StepLaws.{sound-limits, TickCode, tick-code}
 use Rattle.state.specs.FitLaws.{in-cores}
 use Rattle.state.specs.Fit.{Shaped, length-mapped}
 use native.Mathlib.Omega.{arith}
-use Prim.Native.Nat.{_-_}
 use borrow.Author.Needs.{needs}
 use Rattle.engine.proofs.advance.tick.Statement.{statement}
 use Rattle.engine.proofs.advance.tick.Tie as tie

@@ -2,7 +2,6 @@
 use Rattle.state.specs.CallLaws.{admission}
 use Rattle.tasks.specs.Tests.{firstMet, outside}
 use borrow.Author.Tests.{lt-ltb, le-ltb, le-leb, lt-leb}
-use Prim.Native.Nat.{_-_}
 use mathlib.Core.Path.{sym, _∙_}
 use borrow.Author.Needs.{needs}
 use Rattle.engine.proofs.calls.admission_test.Statement.{statement}

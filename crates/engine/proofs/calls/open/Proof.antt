@@ -3,7 +3,6 @@ use Rattle.state.specs.CallLaws.{open-limits, open-refused, open-accepted}
 use Rattle.state.specs.State.{stateOf}
 use Rattle.machine.specs.Machine.{opened}
 use Rattle.tasks.specs.declared.Plan.{Plan}
-use Prim.Native.Nat.{_-_}
 use mathlib.Core.Path.{ap, sym, _∙_}
 use borrow.Author.Needs.{needs}
 use Rattle.engine.proofs.calls.open.Statement.{statement}

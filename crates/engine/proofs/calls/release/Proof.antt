@@ -5,7 +5,6 @@ use Rattle.tasks.specs.Content.{taskOf, noTask}
 use Rattle.tasks.specs.TaskSet.{row}
 use Rattle.tasks.specs.declared.Answer.the-variants.{Refused}
 use native.Mathlib.Omega.{arith}
-use Prim.Native.Nat.{_-_}
 use mathlib.Core.Path.{refl, sym, _∙_}
 use borrow.Author.Needs.{needs}
 use Rattle.engine.proofs.calls.release.Statement.{statement}

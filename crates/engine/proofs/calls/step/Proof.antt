@@ -1,6 +1,5 @@
 -- `engine::calls::step` meets its contract.
 use Rattle.state.specs.CallLaws.{step-passed, step-refused, step-taken}
-use Prim.Native.Nat.{_-_}
 use mathlib.Core.Path.{sym, _∙_}
 use borrow.Author.Needs.{needs}
 use Rattle.engine.proofs.calls.step.Statement.{statement}

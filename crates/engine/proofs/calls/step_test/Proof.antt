@@ -2,7 +2,6 @@
 use Rattle.state.specs.Calls.{stepTests}
 use Rattle.tasks.specs.Tests.{firstMet}
 use borrow.Author.Tests.{eq-eqb, ne-eqb, not-true, not-false}
-use Prim.Native.Nat.{_-_}
 use mathlib.Core.Path.{sym, _∙_}
 use borrow.Author.Needs.{needs}
 use Rattle.engine.proofs.calls.step_test.Statement.{statement}

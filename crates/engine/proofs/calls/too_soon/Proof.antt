@@ -1,6 +1,5 @@
 -- `engine::calls::too_soon` meets its contract.
 use borrow.Author.Tests.{not-true, not-false}
-use Prim.Native.Nat.{_-_}
 use borrow.Author.Needs.{needs}
 use Rattle.engine.proofs.calls.too_soon.Statement.{statement}
 use Rattle.engine.proofs.calls.too_soon.Tie as tie

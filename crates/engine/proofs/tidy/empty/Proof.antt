@@ -1,6 +1,5 @@
 -- `engine::tidy::empty` meets its contract.
 use Rattle.state.specs.CallLaws.{opened-empty}
-use Prim.Native.Nat.{_-_}
 use Rattle.engine.proofs.tidy.empty.Statement.{statement}
 use Rattle.engine.proofs.tidy.empty.Tie as tie
 

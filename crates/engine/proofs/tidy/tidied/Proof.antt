@@ -1,6 +1,5 @@
 -- `engine::tidy::tidied` meets its contract.
 use Rattle.state.specs.TidyLaws.{tidied-code}
-use Prim.Native.Nat.{_-_}
 use borrow.Author.Needs.{needs}
 use Rattle.engine.proofs.tidy.tidied.Statement.{statement}
 use Rattle.engine.proofs.tidy.tidied.Tie as tie

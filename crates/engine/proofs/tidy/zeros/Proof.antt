@@ -2,7 +2,6 @@
 use Rattle.tasks.specs.Content.{noTask}
 use Rattle.state.specs.CallLaws.{zero-empty}
 use Rattle.state.specs.State.{zeroPlan}
-use Prim.Native.Nat.{_-_}
 use mathlib.Core.Path.{sym, _∙_}
 use borrow.Author.Needs.{needs}
 use Rattle.engine.proofs.tidy.zeros.Statement.{statement}

@@ -1,11 +1,6 @@
 use Rattle.fields.specs.Bounds.{boundsTest}
 use Rattle.fields.specs.StageLaws.{scan-found, scan-none}
-use native.Mathlib.Omega.{arith}
-use native.Mathlib.Numerals.{add-one}
-use Prim.Native.Nat.{ℕ, _≤_, _<_, _+_, _*_, _-_}
-use mathlib.Core.Path.{_≡_, refl, ap, sym, _∙_}
-use mathlib.Core.Logic.{⊎-elim}
-use lib.ListN.{length, getD, set, length-set}
+use mathlib.Core.Path.{sym}
 use borrow.Author.Needs.{needs}
 use Rattle.fields.proofs.bounds.bounds.Statement.{statement}
 use Rattle.fields.proofs.bounds.bounds.Tie as tie

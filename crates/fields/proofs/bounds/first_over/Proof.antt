@@ -1,22 +1,12 @@
 use Rattle.fields.specs.Bounds.{overBound}
-use borrow.Author.Tests.{lt-ltb, le-ltb, eq-eqb, ne-eqb}
-use mathlib.Core.Bool.{not}
-use lib.Dec.{ltb, eqb}
-use Prim.Native.Nat.{_/_, _%_}
-use native.Mathlib.Nat.{mul-le-mul}
+use borrow.Author.Tests.{lt-ltb, le-ltb}
 use Rattle.laws.specs.First.{first}
 use Rattle.laws.specs.FirstLaws.{none-more, found-at}
-use Rattle.laws.specs.Tab.{tab, cut}
-use Rattle.laws.specs.TabLaws.{filled-none, getD-tab, tab-getD}
 use Rattle.tasks.specs.TaskSet.{row}
-use Rattle.fields.specs.StageLaws.{column-more}
 use borrow.Author.Needs.{needs}
 use native.Mathlib.Omega.{arith}
-use native.Mathlib.Numerals.{add-one}
-use Prim.Native.Nat.{ℕ, _≤_, _<_, _+_, _*_, _-_}
-use mathlib.Core.Path.{_≡_, refl, ap, sym, _∙_}
-use mathlib.Core.Logic.{⊎-elim}
-use lib.ListN.{length, getD, set, length-set}
+use Prim.Native.Nat.{_≤_, _-_}
+use mathlib.Core.Path.{_≡_, refl, sym}
 use Rattle.fields.proofs.bounds.first_over.Statement.{statement}
 use Rattle.fields.proofs.bounds.first_over.Tie as tie
 use Rattle.fields.proofs.bounds.first_over.Reads as reads

@@ -1,6 +1,3 @@
-use mathlib.Core.List.{List}
-use Rattle.tasks.specs.declared.Task.{Task}
-use lib.ListN.{replicate}
 use Rattle.laws.specs.Tab.{tab, cut}
 use Rattle.laws.specs.TabLaws.{filled-none}
 use Rattle.tasks.specs.Content.{taskOf, noTask}
@@ -8,11 +5,8 @@ use Rattle.fields.specs.Columns.{columnsOf}
 use Rattle.fields.specs.StageLaws.{column-more}
 use borrow.Author.Needs.{needs}
 use native.Mathlib.Omega.{arith}
-use native.Mathlib.Numerals.{add-one}
-use Prim.Native.Nat.{ℕ, _≤_, _<_, _+_, _*_, _-_}
-use mathlib.Core.Path.{_≡_, refl, ap, sym, _∙_}
-use mathlib.Core.Logic.{⊎-elim}
-use lib.ListN.{length, getD, set, length-set}
+use Prim.Native.Nat.{_≤_, _-_}
+use mathlib.Core.Path.{_≡_}
 use Rattle.fields.proofs.columns.split.Statement.{statement}
 use Rattle.fields.proofs.columns.split.Tie as tie
 use Rattle.fields.proofs.columns.split.Reads as reads

@@ -1,15 +1,11 @@
-use lib.Dec.{ltb}
 use Rattle.laws.specs.First.{first}
 use Rattle.laws.specs.FirstLaws.{none-more, found-at}
 use Rattle.tasks.specs.TaskSet.{row}
 use Rattle.tasks.specs.Tests.{outside}
 use borrow.Author.Needs.{needs}
 use native.Mathlib.Omega.{arith}
-use native.Mathlib.Numerals.{add-one}
-use Prim.Native.Nat.{ℕ, _≤_, _<_, _+_, _*_, _-_}
-use mathlib.Core.Path.{_≡_, refl, ap, sym, _∙_}
-use mathlib.Core.Logic.{⊎-elim}
-use lib.ListN.{length, getD, set, length-set}
+use Prim.Native.Nat.{_≤_, _-_}
+use mathlib.Core.Path.{_≡_, refl, sym, _∙_}
 use Rattle.fields.proofs.fields.bad_separation.Statement.{statement}
 use Rattle.fields.proofs.fields.bad_separation.Tie as tie
 use Rattle.fields.proofs.fields.bad_separation.Reads as reads

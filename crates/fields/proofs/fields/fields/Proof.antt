@@ -1,14 +1,6 @@
-use lib.Dec.{ltb}
-use Rattle.tasks.specs.TaskSet.{row}
-use Rattle.tasks.specs.Tests.{firstMet, outside}
+use Rattle.tasks.specs.Tests.{firstMet}
 use Rattle.fields.specs.Stages.{fieldsTest}
 use Rattle.fields.specs.StageLaws.{scan-found, scan-none}
-use native.Mathlib.Omega.{arith}
-use native.Mathlib.Numerals.{add-one}
-use Prim.Native.Nat.{ℕ, _≤_, _<_, _+_, _*_, _-_}
-use mathlib.Core.Path.{_≡_, refl, ap, sym, _∙_}
-use mathlib.Core.Logic.{⊎-elim}
-use lib.ListN.{length, getD, set, length-set}
 use borrow.Author.Needs.{needs}
 use Rattle.fields.proofs.fields.fields.Statement.{statement}
 use Rattle.fields.proofs.fields.fields.Tie as tie

@@ -1,12 +1,5 @@
 use borrow.Author.Tests.{lt-ltb, le-ltb}
 use Rattle.tasks.specs.Tests.{outside}
-use borrow.Author.Needs.{needs}
-use native.Mathlib.Omega.{arith}
-use native.Mathlib.Numerals.{add-one}
-use Prim.Native.Nat.{ℕ, _≤_, _<_, _+_, _*_, _-_}
-use mathlib.Core.Path.{_≡_, refl, ap, sym, _∙_}
-use mathlib.Core.Logic.{⊎-elim}
-use lib.ListN.{length, getD, set, length-set}
 use Rattle.fields.proofs.fields.is_outside.Statement.{statement}
 use Rattle.fields.proofs.fields.is_outside.Tie as tie
 use Rattle.fields.proofs.fields.is_outside.Reads as reads

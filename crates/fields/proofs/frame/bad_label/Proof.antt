@@ -4,11 +4,8 @@ use Rattle.tasks.specs.TaskSet.{row}
 use Rattle.tasks.specs.Tests.{badLabel}
 use borrow.Author.Needs.{needs}
 use native.Mathlib.Omega.{arith}
-use native.Mathlib.Numerals.{add-one}
-use Prim.Native.Nat.{ℕ, _≤_, _<_, _+_, _*_, _-_}
-use mathlib.Core.Path.{_≡_, refl, ap, sym, _∙_}
-use mathlib.Core.Logic.{⊎-elim}
-use lib.ListN.{length, getD, set, length-set}
+use Prim.Native.Nat.{_≤_, _-_}
+use mathlib.Core.Path.{_≡_, refl, sym, _∙_}
 use Rattle.fields.proofs.frame.bad_label.Statement.{statement}
 use Rattle.fields.proofs.frame.bad_label.Tie as tie
 use Rattle.fields.proofs.frame.bad_label.Reads as reads

@@ -1,16 +1,10 @@
 use Rattle.tasks.specs.AnswerLaws.{pass-outside}
 use Rattle.fields.specs.StageLaws.{outside-low, outside-high, scan-found, scan-none}
-use borrow.Author.Tests.{lt-ltb, le-ltb}
-use Rattle.laws.specs.First.{first}
 use Rattle.tasks.specs.TaskSet.{row}
-use Rattle.tasks.specs.Tests.{badLabel, firstMet, lowest, outside}
+use Rattle.tasks.specs.Tests.{badLabel, firstMet}
 use Rattle.fields.specs.Stages.{frameTest}
 use native.Mathlib.Omega.{arith}
-use native.Mathlib.Numerals.{add-one}
-use Prim.Native.Nat.{ℕ, _≤_, _<_, _+_, _*_, _-_}
-use mathlib.Core.Path.{_≡_, refl, ap, sym, _∙_}
-use mathlib.Core.Logic.{⊎-elim}
-use lib.ListN.{length, getD, set, length-set}
+use Prim.Native.Nat.{_+_}
 use borrow.Author.Needs.{needs}
 use Rattle.fields.proofs.frame.frame.Statement.{statement}
 use Rattle.fields.proofs.frame.frame.Tie as tie

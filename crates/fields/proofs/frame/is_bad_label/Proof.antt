@@ -2,11 +2,6 @@ use borrow.Author.Tests.{lt-ltb, le-ltb}
 use Rattle.tasks.specs.TaskSet.{row}
 use Rattle.tasks.specs.Tests.{badLabel}
 use native.Mathlib.Omega.{arith}
-use native.Mathlib.Numerals.{add-one}
-use Prim.Native.Nat.{ℕ, _≤_, _<_, _+_, _*_, _-_}
-use mathlib.Core.Path.{_≡_, refl, ap, sym, _∙_}
-use mathlib.Core.Logic.{⊎-elim}
-use lib.ListN.{length, getD, set, length-set}
 use borrow.Author.Needs.{needs}
 use Rattle.fields.proofs.frame.is_bad_label.Statement.{statement}
 use Rattle.fields.proofs.frame.is_bad_label.Tie as tie

@@ -1,20 +1,18 @@
 use Rattle.laws.specs.Sum.{count}
 use Rattle.largest.specs.Passes.{members}
 use mathlib.Core.List.{List}
-use Rattle.laws.specs.Sum.{sum, sumOver}
+use Rattle.laws.specs.Sum.{sumOver}
 use Rattle.laws.specs.SumLaws.{sumOver-ext, sum-le-mul}
 use Rattle.laws.specs.Rank.{largest}
 use Rattle.laws.specs.LargestLaws.{largest-ext, largest-below, largest-le-sum}
 use Rattle.largest.specs.Passes.{Light}
 use Rattle.tasks.specs.TaskSet.{row}
 use Rattle.slack.specs.RatesLaws.{row-filled}
-use Rattle.slack.specs.Weights.{weightRow, Few, Weighed}
+use Rattle.slack.specs.Weights.{Weighed}
 use native.Mathlib.Omega.{arith}
-use native.Mathlib.Numerals.{add-one}
-use Prim.Native.Nat.{ℕ, _≤_, _<_, _+_, _*_, _-_}
-use mathlib.Core.Path.{_≡_, refl, ap, sym, _∙_}
-use mathlib.Core.Logic.{⊎-elim}
-use lib.ListN.{length, getD, set, length-set}
+use Prim.Native.Nat.{ℕ, _≤_, _<_, _+_, _*_}
+use mathlib.Core.Path.{_≡_, ap, _∙_}
+use lib.ListN.{getD}
 use borrow.Author.Needs.{needs}
 use Rattle.slack.proofs.amount.amount.Statement.{statement}
 use Rattle.slack.proofs.amount.amount.Tie as tie

@@ -4,11 +4,9 @@ use Rattle.laws.specs.Tab.{tab, cut}
 use Rattle.laws.specs.TabLaws.{filled-none, filled-next}
 use borrow.Author.Needs.{needs}
 use native.Mathlib.Omega.{arith}
-use native.Mathlib.Numerals.{add-one}
-use Prim.Native.Nat.{ℕ, _≤_, _<_, _+_, _*_, _-_}
-use mathlib.Core.Path.{_≡_, refl, ap, sym, _∙_}
-use mathlib.Core.Logic.{⊎-elim}
-use lib.ListN.{length, getD, set, length-set}
+use Prim.Native.Nat.{_≤_, _-_}
+use mathlib.Core.Path.{_≡_, ap, _∙_}
+use lib.ListN.{set}
 use Rattle.slack.proofs.amount.first_chosen.Statement.{statement}
 use Rattle.slack.proofs.amount.first_chosen.Tie as tie
 use Rattle.slack.proofs.amount.first_chosen.Reads as reads

@@ -4,14 +4,12 @@ use Rattle.laws.specs.Tab.{tab, cut}
 use Rattle.laws.specs.TabLaws.{filled-none}
 use Rattle.tasks.specs.TaskSet.{row}
 use Rattle.fields.specs.StageLaws.{column-more}
-use Rattle.slack.specs.Weights.{weightRow, Few, Weighed}
+use Rattle.slack.specs.Weights.{weightRow}
 use borrow.Author.Needs.{needs}
 use native.Mathlib.Omega.{arith}
-use native.Mathlib.Numerals.{add-one}
 use Prim.Native.Nat.{ℕ, _≤_, _<_, _+_, _*_, _-_}
-use mathlib.Core.Path.{_≡_, refl, ap, sym, _∙_}
-use mathlib.Core.Logic.{⊎-elim}
-use lib.ListN.{length, getD, set, length-set}
+use mathlib.Core.Path.{_≡_}
+use lib.ListN.{getD}
 use Rattle.slack.proofs.amount.weigh.Statement.{statement}
 use Rattle.slack.proofs.amount.weigh.Tie as tie
 use Rattle.slack.proofs.amount.weigh.Reads as reads

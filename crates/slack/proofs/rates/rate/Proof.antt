@@ -3,20 +3,17 @@ use mathlib.Core.List.{List}
 use Rattle.laws.specs.Multiple.{lcmBelow}
 use Rattle.tasks.specs.declared.Answer.the-variants.{Accepted, Refused}
 use Rattle.fields.specs.StageLaws.{not-both}
-use native.Mathlib.Nat.{mul-le-mul, le-trans, le-of-eq}
+use native.Mathlib.Nat.{mul-le-mul}
 use Rattle.laws.specs.Sum.{sum}
-use Rattle.laws.specs.SumLaws.{sum-ext}
 use Rattle.laws.specs.Tab.{tab, cut}
-use Rattle.tasks.specs.TaskSet.{TaskSet, hyperperiod, share, surplus, row}
+use Rattle.tasks.specs.TaskSet.{hyperperiod, share, surplus, row}
 use Rattle.fields.specs.Columns.{setFrom}
 use Rattle.slack.specs.Rates.{Ranges, Rated, ratesTest}
 use Rattle.slack.specs.RatesLaws.{ratesTest-9, ratesTest-10, ratesTest-pass, multiple-over, multiple-whole, shares-filled, share-within, shares-total, surplus-total}
 use native.Mathlib.Omega.{arith}
-use native.Mathlib.Numerals.{add-one}
-use Prim.Native.Nat.{ℕ, _≤_, _<_, _+_, _*_, _-_}
-use mathlib.Core.Path.{_≡_, refl, ap, sym, _∙_}
-use mathlib.Core.Logic.{⊎-elim}
-use lib.ListN.{length, getD, set, length-set}
+use Prim.Native.Nat.{ℕ, _≤_, _<_, _*_, _-_}
+use mathlib.Core.Path.{_≡_, sym, _∙_}
+use lib.ListN.{getD}
 use borrow.Author.Needs.{needs}
 use Rattle.slack.proofs.rates.rate.Statement.{statement}
 use Rattle.slack.proofs.rates.rate.Tie as tie

@@ -1,19 +1,13 @@
-use lib.ListN.{replicate}
-use native.Mathlib.Nat.{mul-le-mul-left, mul-le-mul-right, mul-le-mul}
+use native.Mathlib.Nat.{mul-le-mul}
 use Prim.Native.Nat.{_/_}
-use Rattle.laws.specs.Sum.{sum}
-use Rattle.laws.specs.SumLaws.{sum-step, sum-le-mul}
 use Rattle.laws.specs.Tab.{tab, cut}
 use Rattle.laws.specs.TabLaws.{filled-none}
 use Rattle.tasks.specs.TaskSet.{row}
 use Rattle.fields.specs.StageLaws.{column-more}
 use borrow.Author.Needs.{needs}
 use native.Mathlib.Omega.{arith}
-use native.Mathlib.Numerals.{add-one}
-use Prim.Native.Nat.{ℕ, _≤_, _<_, _+_, _*_, _-_}
-use mathlib.Core.Path.{_≡_, refl, ap, sym, _∙_}
-use mathlib.Core.Logic.{⊎-elim}
-use lib.ListN.{length, getD, set, length-set}
+use Prim.Native.Nat.{_≤_, _*_, _-_}
+use mathlib.Core.Path.{_≡_}
 use Rattle.slack.proofs.rates.shares.Statement.{statement}
 use Rattle.slack.proofs.rates.shares.Tie as tie
 use Rattle.slack.proofs.rates.shares.Reads as reads

@@ -1,23 +1,12 @@
-use borrow.Author.Tests.{lt-ltb, le-ltb, eq-eqb, ne-eqb}
-use mathlib.Core.Bool.{not}
-use lib.Dec.{ltb, eqb}
-use Prim.Native.Nat.{_/_, _%_}
-use native.Mathlib.Nat.{mul-le-mul}
-use Rattle.laws.specs.First.{first}
-use Rattle.laws.specs.FirstLaws.{none-more, found-at}
+use Prim.Native.Nat.{_%_}
 use Rattle.laws.specs.Tab.{tab, cut}
-use Rattle.laws.specs.TabLaws.{filled-none, getD-tab, tab-getD}
+use Rattle.laws.specs.TabLaws.{filled-none}
 use Rattle.tasks.specs.TaskSet.{row}
 use Rattle.fields.specs.StageLaws.{column-more}
-use Rattle.slack.specs.Settling.{uncovered, lifted, upto}
-use Rattle.slack.specs.SettlingLaws.{upto-above, upto-more, upto-same, changed-more, changed-same}
 use borrow.Author.Needs.{needs}
 use native.Mathlib.Omega.{arith}
-use native.Mathlib.Numerals.{add-one}
-use Prim.Native.Nat.{ℕ, _≤_, _<_, _+_, _*_, _-_}
-use mathlib.Core.Path.{_≡_, refl, ap, sym, _∙_}
-use mathlib.Core.Logic.{⊎-elim}
-use lib.ListN.{length, getD, set, length-set}
+use Prim.Native.Nat.{_≤_, _-_}
+use mathlib.Core.Path.{_≡_}
 use Rattle.slack.proofs.slack.remainders.Statement.{statement}
 use Rattle.slack.proofs.slack.remainders.Tie as tie
 use Rattle.slack.proofs.slack.remainders.Reads as reads

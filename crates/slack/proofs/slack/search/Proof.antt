@@ -1,28 +1,22 @@
 use borrow.Author.Tests.{not-true, not-false}
 use lib.ListN.{List·getD-eq-default}
-use native.Mathlib.Nat.{le-trans, div-le-self, mod-lt, mod-le}
+use native.Mathlib.Nat.{le-trans, div-le-self, mod-le}
 use borrow.Author.Tests.{ltb-true, ltb-false}
 use lib.Dec.{ltb}
-use Rattle.slack.specs.Settling.{lifted, upto}
 use mathlib.Core.Bool.{Bool, true, false}
-use mathlib.Core.List.{List}
 use Prim.Native.Nat.{_/_, _%_}
-use lib.ListN.{length-replicate, getD-replicate, replicate}
+use lib.ListN.{getD-replicate, replicate}
 use Rattle.laws.specs.Sum.{sum, count}
-use Rattle.laws.specs.Tab.{tab, cut}
 use Rattle.largest.specs.Passes.{members}
-use Rattle.tasks.specs.TaskSet.{TaskSet, amount, found, row}
+use Rattle.tasks.specs.TaskSet.{TaskSet, amount, row}
 use Rattle.tasks.specs.RisingLaws.{Rising, rising-start}
 use Rattle.slack.specs.Settling.{Settling}
 use Rattle.slack.specs.SettleLaws.{cores-low, cores-high, more, tasks-high, multiple-low, multiple-high, few, surplus-high, amounts, amount-row}
 use Rattle.slack.specs.SearchLaws.{chosen-first, turn-need, turn-rising, turn-length, turn-past, turn-over, turn-less}
-use borrow.Author.Needs.{needs}
 use native.Mathlib.Omega.{arith}
-use native.Mathlib.Numerals.{add-one}
-use Prim.Native.Nat.{ℕ, _≤_, _<_, _+_, _*_, _-_}
-use mathlib.Core.Path.{_≡_, refl, ap, sym, _∙_}
-use mathlib.Core.Logic.{⊎-elim}
-use lib.ListN.{length, getD, set, length-set}
+use Prim.Native.Nat.{ℕ, _≤_, _*_, _-_}
+use mathlib.Core.Path.{_≡_, refl, sym, _∙_}
+use lib.ListN.{length, getD}
 use Rattle.slack.proofs.slack.search.Statement.{statement}
 use Rattle.slack.proofs.slack.search.Tie as tie
 use Rattle.slack.proofs.slack.search.Reads as reads

@@ -1,12 +1,7 @@
-use mathlib.Core.Path.{_≡_, sym, _∙_, ap}
+use mathlib.Core.Path.{sym, _∙_, ap}
 use Rattle.codec.specs.Stages.{answerOfCounts}
-use Rattle.table.specs.JudgeLaws.{Judges, counts-passed, counts-refused, judged-from}
-use native.Mathlib.Omega.{arith}
-use native.Mathlib.Numerals.{add-one}
-use Prim.Native.Nat.{ℕ, _≤_, _<_, _+_, _*_, _-_}
-use mathlib.Core.Path.{_≡_, refl, ap, sym, _∙_}
-use mathlib.Core.Logic.{⊎-elim}
-use lib.ListN.{length, getD, set, length-set}
+use Rattle.table.specs.JudgeLaws.{counts-passed, counts-refused, judged-from}
+use mathlib.Core.Path.{ap, sym, _∙_}
 use borrow.Author.Needs.{needs}
 use Rattle.table.proofs.verdict.judge.Statement.{statement}
 use Rattle.table.proofs.verdict.judge.Tie as tie

@@ -1,24 +1,19 @@
 use Prim.Native.Nat.{ℕ, _≤_}
-use mathlib.Core.Path.{_≡_, refl, sym, _∙_, ap}
-use Rattle.laws.specs.Tab.{tab}
+use mathlib.Core.Path.{_≡_, sym, _∙_, ap}
 use Rattle.tasks.specs.declared.Plan.{Plan}
 use Rattle.tasks.specs.declared.Answer.{Answer}
 use Rattle.tasks.specs.declared.Answer.the-variants.{Accepted, Refused}
 use Rattle.tasks.specs.Content.{contentOf}
 use Rattle.analysis.specs.declared.settle.Settled.{Settled}
-use Rattle.analysis.specs.Settled.{Settles, offering, hadSlack}
+use Rattle.analysis.specs.Settled.{Settles, offering}
 use Rattle.analysis.specs.SettledLaws.{stopped, passed-on}
 use Rattle.analysis.specs.PlanTest.{boundsOf}
 use Rattle.analysis.specs.PlanTestLaws.{few-tasks}
 use Rattle.table.specs.declared.Judgement.{Judgement}
-use Rattle.table.specs.Judged.{refusedWith, onAccepted, zeroPlan}
+use Rattle.table.specs.Judged.{refusedWith}
 use Rattle.table.specs.JudgeLaws.{Judges, judgedAnswer, withSlack}
-use native.Mathlib.Omega.{arith}
-use native.Mathlib.Numerals.{add-one}
-use Prim.Native.Nat.{ℕ, _≤_, _<_, _+_, _*_, _-_}
-use mathlib.Core.Path.{_≡_, refl, ap, sym, _∙_}
-use mathlib.Core.Logic.{⊎-elim}
-use lib.ListN.{length, getD, set, length-set}
+use Prim.Native.Nat.{ℕ, _≤_}
+use mathlib.Core.Path.{_≡_, ap, sym, _∙_}
 use borrow.Author.Needs.{needs}
 use Rattle.table.proofs.verdict.judge_plan.Statement.{statement}
 use Rattle.table.proofs.verdict.judge_plan.Tie as tie

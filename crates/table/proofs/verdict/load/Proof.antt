@@ -1,11 +1,5 @@
-use Rattle.table.specs.JudgeLaws.{tasks-place, slack-place, long-enough, loaded-from}
-use borrow.Author.Needs.{needs}
+use Rattle.table.specs.JudgeLaws.{long-enough, loaded-from}
 use native.Mathlib.Omega.{arith}
-use native.Mathlib.Numerals.{add-one}
-use Prim.Native.Nat.{ℕ, _≤_, _<_, _+_, _*_, _-_}
-use mathlib.Core.Path.{_≡_, refl, ap, sym, _∙_}
-use mathlib.Core.Logic.{⊎-elim}
-use lib.ListN.{length, getD, set, length-set}
 use Rattle.table.proofs.verdict.load.Statement.{statement}
 use Rattle.table.proofs.verdict.load.Tie as tie
 use Rattle.table.proofs.verdict.load.Reads as reads

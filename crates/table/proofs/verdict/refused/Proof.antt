@@ -1,12 +1,6 @@
 use Rattle.tasks.specs.Content.{noTask}
 use Rattle.table.specs.Judged.{refusedWith, zeroPlan}
-use borrow.Author.Needs.{needs}
-use native.Mathlib.Omega.{arith}
-use native.Mathlib.Numerals.{add-one}
-use Prim.Native.Nat.{ℕ, _≤_, _<_, _+_, _*_, _-_}
-use mathlib.Core.Path.{_≡_, refl, ap, sym, _∙_}
-use mathlib.Core.Logic.{⊎-elim}
-use lib.ListN.{length, getD, set, length-set}
+use mathlib.Core.Path.{refl}
 use Rattle.table.proofs.verdict.refused.Statement.{statement}
 use Rattle.table.proofs.verdict.refused.Tie as tie
 use Rattle.table.proofs.verdict.refused.Reads as reads

@@ -1,10 +1,5 @@
-use Rattle.table.specs.PartLaws.{part-none, part-place, part-within, part-rest}
+use Rattle.table.specs.PartLaws.{part-none, part-within, part-rest}
 use native.Mathlib.Omega.{arith}
-use native.Mathlib.Numerals.{add-one}
-use Prim.Native.Nat.{ℕ, _≤_, _<_, _+_, _*_, _-_}
-use mathlib.Core.Path.{_≡_, refl, ap, sym, _∙_}
-use mathlib.Core.Logic.{⊎-elim}
-use lib.ListN.{length, getD, set, length-set}
 use borrow.Author.Needs.{needs}
 use Rattle.table.proofs.verdict.slack_part.Statement.{statement}
 use Rattle.table.proofs.verdict.slack_part.Tie as tie

@@ -1,10 +1,5 @@
 use Rattle.codec.specs.Stages.{answerOfCounts}
-use native.Mathlib.Omega.{arith}
-use native.Mathlib.Numerals.{add-one}
-use Prim.Native.Nat.{ℕ, _≤_, _<_, _+_, _*_, _-_}
-use mathlib.Core.Path.{_≡_, refl, ap, sym, _∙_}
-use mathlib.Core.Logic.{⊎-elim}
-use lib.ListN.{length, getD, set, length-set}
+use mathlib.Core.Path.{ap, sym}
 use borrow.Author.Needs.{needs}
 use Rattle.table.proofs.verdict.uncounted.Statement.{statement}
 use Rattle.table.proofs.verdict.uncounted.Tie as tie

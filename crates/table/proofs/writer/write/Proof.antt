@@ -1,16 +1,11 @@
-use Prim.Native.Nat.{ℕ}
-use mathlib.Core.Path.{_≡_, sym, _∙_, ap}
+use mathlib.Core.Path.{sym, _∙_, ap}
 use Rattle.tasks.specs.declared.Answer.{Answer}
 use Rattle.table.specs.declared.Written.the-variants.{Length}
 use Rattle.table.specs.Judged.{writtenAs}
 use Rattle.table.specs.WriteLaws.{length-plan}
 use Rattle.table.specs.WriterLaws.{write-refused, plan-few, write-short, write-done}
 use native.Mathlib.Omega.{arith}
-use native.Mathlib.Numerals.{add-one}
-use Prim.Native.Nat.{ℕ, _≤_, _<_, _+_, _*_, _-_}
-use mathlib.Core.Path.{_≡_, refl, ap, sym, _∙_}
-use mathlib.Core.Logic.{⊎-elim}
-use lib.ListN.{length, getD, set, length-set}
+use mathlib.Core.Path.{ap, sym, _∙_}
 use borrow.Author.Needs.{needs}
 use Rattle.table.proofs.writer.write.Statement.{statement}
 use Rattle.table.proofs.writer.write.Tie as tie

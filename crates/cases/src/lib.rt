@@ -1,0 +1,6 @@
+// What the programs `vectors` and `vectors_plans` share: drafts of tables, the comparisons, and the lines that a case prints.
+pub mod draft;
+pub mod judged;
+pub mod same;
+pub mod say;
+pub mod written;
