@@ -3,7 +3,7 @@
 --     plan-few         a plan past 3 to 13 fits its arrays
 --     written-answer, written-length    the number, index and length of the writer's answer
 use Prim.Native.Nat.{ℕ, _≤_, _<_}
-use mathlib.Core.Path.{_≡_}
+use mathlib.Core.Path.{_≡_, refl}
 use mathlib.Core.List.{List, _++_}
 use lib.ListN.{length, drop}
 use borrow.Author.Tests.{lt-ltb, le-ltb}
