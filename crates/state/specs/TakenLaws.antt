@@ -23,7 +23,7 @@ use Rattle.tasks.specs.Content.{Content}
 use Rattle.tasks.specs.Tests.{firstMet, tests}
 use Rattle.tasks.specs.AnswerLaws.{refuse-passed, firstMet-passed, outside-passed, pass-outside}
 use Rattle.tasks.specs.TestsLaws.{tests-limits, tests-compliant, tests-bounded}
-use Rattle.machine.specs.Machine.{Machine, tooSoon, full, Allowed, chosen, onCore, runs}
+use Rattle.machine.specs.Machine.{Machine, tooSoon, full, Allowed, chosen, idle, onCore, runs}
 use Rattle.machine.specs.Reached.{Reached}
 use Rattle.machine.specs.Theorem.{never-full}
 use Rattle.state.specs.Calls.{admitTests}
@@ -92,12 +92,12 @@ module _ (s : TaskSet) (M : Machine) (few : s .cores ≤ 8) where
   unfolding chosen
   short = rw length-take (omega arith)
 
-  pub named-runs : (i : ℕ) → i < 255 → member i (tab (onCore s M) 8) ≡ runs s M i
+  pub named-runs : (i : ℕ) → (i ≡ idle → ⊥) → member i (tab (onCore s M) 8) ≡ runs s M i
   unfolding onCore runs
   named-runs i h =
       rw (
         padded (chosen s M) 255 8 short,
         member-append i (chosen s M) (replicate (8 - length (chosen s M)) 255),
-        never-named i 255 (8 - length (chosen s M)) (ne-eqb i 255 (λ (z : i ≡ 255). omega arith)),
+        never-named i 255 (8 - length (chosen s M)) (ne-eqb i 255 h),
       )
       (or-false (member i (chosen s M)))

@@ -1,0 +1,3 @@
+pub mod Lower
+pub mod LowerLaws
+pub mod TurnLaws
