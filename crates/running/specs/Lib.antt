@@ -1,3 +1,6 @@
 pub mod Lower
 pub mod LowerLaws
 pub mod TurnLaws
+pub mod Running
+pub mod OwnerLaws
+pub mod BookLaws
