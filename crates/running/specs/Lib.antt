@@ -4,3 +4,5 @@ pub mod TurnLaws
 pub mod Running
 pub mod OwnerLaws
 pub mod BookLaws
+pub mod Leap
+pub mod LeapLaws

@@ -2,8 +2,8 @@
 --     left p M               those keys
 --     ran-now                whether a loop ran, by its key
 --     heads-lowered          the heads of the running loops lowered, loop after loop
---     lowest-room, lowest-head, lowest-some     the least of some ticks and the running heads' work is at most each of them, and not 0
---     Least                  what that gives of the machine
+--     all-lowered            all of them
+--     Least, least           the least of some ticks and the running heads' work is at most each of them, and not 0
 use Prim.Native.Nat.{ℕ, zero, suc, _+_, _-_, _*_, _≤_, _<_, min}
 use mathlib.Core.Bool.{Bool, true, false, cond, not, _&&_, and-true, true≢false}
 use mathlib.Core.Path.{_≡_, refl, sym, ap, _∙_}
@@ -32,6 +32,12 @@ use Rattle.running.specs.LowerLaws.{one-lowered, same-queues}
 module _ (p : Plan) (M : Machine) where
   unfoldable pub left : List ℕ
   left = keysAfter (keysOf (jobsIn M) (releaseIn M) (p .task)) (p .cores)
+
+  -- n is at most `room` and every running head's work, and not 0
+  pub record Least (room n : ℕ) : Type 0 where
+    pub in-room : n ≤ room
+    pub some : 1 ≤ room → 1 ≤ n
+    pub in-work : (i : ℕ) → runs (contentOf p .tasks) M i ≡ true → n ≤ headWork (M .lane i .queue)
 
 module _ (p : Plan) (M : Machine) (F : Fit p M) where
   abbrev s : TaskSet
@@ -152,11 +158,6 @@ module _ (p : Plan) (M : Machine) (F : Fit p M) where
     unfolding lowest
     lowest-next i h = rw (ran-now i h, head-row i h)
 
-    pub record Least (n : ℕ) : Type 0 where
-      pub in-room : n ≤ room
-      pub some : 1 ≤ room → 1 ≤ n
-      pub in-work : (i : ℕ) → runs s M i ≡ true → n ≤ headWork (M .lane i .queue)
-
     up-to : (i : ℕ) → i ≤ 16 → (d i ≤ room) × (1 ≤ room → 1 ≤ d i) × ((j : ℕ) → j < i → runs s M j ≡ true → d i ≤ headWork (M .lane j .queue))
     unfolding lowest
     up-to zero h = (le-refl _, λ r. r, λ j l e. absurd (omega arith))
@@ -185,7 +186,7 @@ module _ (p : Plan) (M : Machine) (F : Fit p M) where
               (eq-or-lt-of-le (le-of-suc-le-suc l)),
             )
 
-    pub least : Least (lowest (left p M) (jobsIn M) (remainingIn M) room 16)
+    pub least : Least p M room (lowest (left p M) (jobsIn M) (remainingIn M) room 16)
     least =
         let u = up-to 16 (le-refl _) in
         record {

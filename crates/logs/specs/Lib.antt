@@ -1,2 +1,0 @@
-pub mod LogBytes
-pub mod ReportLaws
