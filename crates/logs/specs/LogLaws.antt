@@ -3,6 +3,7 @@
 --     entry-at                the entry at e, below the count, is what the bytes say; tick-at, loop-at, demand-at: its three numbers
 --     log-length              a log that meets neither 14 nor 15 has just the length that its count gives
 --     log-ticks               and no tick above 1,000,000,000
+--     count-bytes             the count, as a sum of two bytes
 --     count-small, loop-small     the count is below 65,536 and a loop's number below 256, by their width
 --     answer-of-entries       the reader's answer is document 01's
 --     read-accepted, read-refused     what each case of the reader's answer says of the log
@@ -20,7 +21,7 @@ use Rattle.laws.specs.TabLaws.{length-tab, getD-tab}
 use Rattle.tasks.specs.declared.Answer.{Answer}
 use Rattle.tasks.specs.declared.Answer.the-variants.{Accepted, Refused}
 use Rattle.tasks.specs.Tests.{firstMet}
-use Rattle.tasks.specs.AnswerLaws.{refuse-passed, pass-refuse, refuse-met, lowest-passed, lowest-none, lowest-found, firstMet-passed, firstMet-pass, firstMet-stop}
+use Rattle.tasks.specs.AnswerLaws.{refuse-passed, lowest-passed, lowest-none, lowest-found, firstMet-passed, firstMet-pass, firstMet-stop}
 use Rattle.history.specs.Log.{Entry, noEntry, tickAt, loopAt, demandAt}
 use Rattle.codec.specs.Bytes.{byte, number}
 use Rattle.codec.specs.ByteLaws.{Bytes, number-small}
@@ -65,6 +66,10 @@ module _ (l : List ℕ) where
   unfolding test15
   log-ticks a e h = ltb-false _ _ (lowest-passed 15 (λ i. ltb 1000000000 (entryIn l i .tick)) (entryCount l) (passed a .1) e h)
 
+  pub count-bytes : entryCount l ≡ byte l 0 + 256 * byte l 1
+  unfolding entryCount number
+  count-bytes = omega arith
+
   pub count-small : Bytes l → entryCount l < 65536
   unfolding entryCount
   count-small b = number-small 2 l 0 b
@@ -74,11 +79,10 @@ module _ (l : List ℕ) where
   loop-small b e = b (2 + 9 * e + 4)
 
   pub answer-of-entries : answerOfEntries (entriesRead l) ≡ logTest l
-  unfolding entriesRead
+  unfolding entriesRead answerOfEntries
   answer-of-entries = go (logTest l)
     where
       go : (a : Answer) → answerOfEntries (entriesAs a (entryCount l)) ≡ a
-      unfolding answerOfEntries
       go Accepted = refl
       go (Refused k i) = refl
 
@@ -99,12 +103,12 @@ module _ (l : List ℕ) where
   read-refused k i q = sym answer-of-entries ∙ ap answerOfEntries q
 
   pub read-short : (length l ≡ 2 + 9 * entryCount l → ⊥) → entriesRead l ≡ NotRead 14 0
-  unfolding entriesRead logTest test14
-  read-short h = rw (firstMet-stop (test14 l) (test15 l ∷ []) 14 0 (refuse-met 14 _ (rw (ne-eqb (length l) (2 + 9 * entryCount l) h))))
+  unfolding entriesRead logTest test14 firstMet
+  read-short h = rw (ne-eqb (length l) (2 + 9 * entryCount l) h)
 
   long : length l ≡ 2 + 9 * entryCount l → test14 l ≡ Accepted
   unfolding test14
-  long h = pass-refuse 14 _ (rw (eq-eqb (length l) (2 + 9 * entryCount l) h))
+  long h = rw (eq-eqb (length l) (2 + 9 * entryCount l) h)
 
   pub read-late :
       (e : ℕ) → length l ≡ 2 + 9 * entryCount l → first (λ i. ltb 1000000000 (entryIn l i .tick)) (entryCount l) ≡ e → e < entryCount l

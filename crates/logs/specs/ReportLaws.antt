@@ -8,7 +8,7 @@
 --     said-beyond        the bytes past it stay
 --     said-all           where the first n reports are said and later bytes are as they were, the answer is the document's
 use Prim.Native.Nat.{ℕ, zero, suc, _+_, _*_, _-_, _/_, _%_, _≤_, _<_}
-use native.Mathlib.Nat.{add-zero, add-suc, not-suc-le-zero}
+use native.Mathlib.Nat.{add-zero, add-suc, suc-add, not-suc-le-zero}
 use native.Mathlib.Omega.{arith}
 use mathlib.Core.Path.{_≡_, refl, sym, ap, _∙_}
 use mathlib.Core.Bool.{Bool, true, false}
@@ -43,7 +43,7 @@ byte-stored l i [] j h s = absurd (not-suc-le-zero s)
 byte-stored l i (a ∷ v) zero h s =
     rw add-zero (byte-before (set l i a) (suc i) v i (omega arith) ∙ getD-set-same l i a 0 (omega arith))
 byte-stored l i (a ∷ v) (suc j) h s =
-    rw (add-suc i j) (byte-stored (set l i a) (suc i) v j (omega (arith, length-set l i a)) (omega arith))
+    rw (add-suc i j, ← (suc-add i j)) (byte-stored (set l i a) (suc i) v j (omega (arith, length-set l i a)) (omega arith))
 
 unfoldable pub Said : List ℕ → ℕ → Report → Type 0
 Said out e r = (j : ℕ) → j < 8 → byte out (8 * e + j) ≡ byte (reportBytes r) j
@@ -84,14 +84,13 @@ module _ (R : ℕ → Report) (n : ℕ) where
       → ((e : ℕ) → e < n → Said out e (R e))
       → ((j : ℕ) → 8 * n ≤ j → byte out j ≡ byte out₀ j)
       → out ≡ reportsTo R n out₀
-  unfolding reportsTo Said byte
+  unfolding reportsTo Said byte reports
   said-all out out₀ same room said beyond =
       ext-getD 0 out (reports ++ drop (8 * n) out₀)
       (simp (length-append, length-drop) (omega (arith, length-reports)))
       (λ j h. at j (ltb j (8 * n)) refl)
     where
       at : (j : ℕ) (b : Bool) → ltb j (8 * n) ≡ b → byte out j ≡ byte (reports ++ drop (8 * n) out₀) j
-      unfolding reports
       at j true t =
           let m = ltb-true j (8 * n) t in
           let cut : 8 * (j / 8) + j % 8 ≡ j = omega arith in
