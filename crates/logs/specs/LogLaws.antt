@@ -9,6 +9,7 @@
 --     read-accepted, read-refused     what each case of the reader's answer says of the log
 --     read-short, read-late, read-all     how the reader's answer follows from what its code has seen
 use Prim.Native.Nat.{ℕ, _+_, _*_, _^_, _≤_, _<_}
+use native.Mathlib.Nat.{le-antisymm}
 use native.Mathlib.Omega.{arith}
 use mathlib.Core.Path.{_≡_, refl, sym, ap, _∙_}
 use mathlib.Core.Bool.{not}
@@ -17,6 +18,7 @@ use lib.ListN.{length, getD}
 use lib.Dec.{ltb, eqb}
 use borrow.Author.Tests.{ltb-false, eqb-true, eq-eqb, ne-eqb, not-false}
 use Rattle.laws.specs.First.{first}
+use Rattle.laws.specs.FirstLaws.{first-le}
 use Rattle.laws.specs.TabLaws.{length-tab, getD-tab}
 use Rattle.tasks.specs.declared.Answer.{Answer}
 use Rattle.tasks.specs.declared.Answer.the-variants.{Accepted, Refused}
@@ -106,26 +108,27 @@ module _ (l : List ℕ) where
   unfolding entriesRead logTest test14 firstMet
   read-short h = rw (ne-eqb (length l) (2 + 9 * entryCount l) h)
 
-  long : length l ≡ 2 + 9 * entryCount l → test14 l ≡ Accepted
-  unfolding test14
-  long h = rw (eq-eqb (length l) (2 + 9 * entryCount l) h)
+  module _ (n : ℕ) (c : n ≡ entryCount l) (h : length l ≡ 2 + 9 * n) where
+    long : test14 l ≡ Accepted
+    unfolding test14
+    long = rw (eq-eqb (length l) (2 + 9 * entryCount l) (rw c at h))
 
-  pub read-late :
-      (e : ℕ) → length l ≡ 2 + 9 * entryCount l → first (λ i. ltb 1000000000 (entryIn l i .tick)) (entryCount l) ≡ e → e < entryCount l
-      → entriesRead l ≡ NotRead 15 e
-  unfolding entriesRead logTest test15
-  read-late e h q s =
-      rw (
-        firstMet-pass (test14 l) (test15 l ∷ []) (long h),
-        firstMet-stop (test15 l) [] 15 e (lowest-found 15 (λ i. ltb 1000000000 (entryIn l i .tick)) (entryCount l) e q s),
-      )
+    pub read-late : (e : ℕ) → e ≡ first (λ i. ltb 1000000000 (entryIn l i .tick)) n → e < n → entriesRead l ≡ NotRead 15 e
+    unfolding entriesRead logTest test15
+    read-late e q s =
+        rw (
+          firstMet-pass (test14 l) (test15 l ∷ []) long,
+          firstMet-stop (test15 l) [] 15 e
+              (lowest-found 15 (λ i. ltb 1000000000 (entryIn l i .tick)) (entryCount l) e (sym (rw c at q)) (rw c at s)),
+        )
 
-  pub read-all :
-      length l ≡ 2 + 9 * entryCount l → first (λ i. ltb 1000000000 (entryIn l i .tick)) (entryCount l) ≡ entryCount l
-      → entriesRead l ≡ Read (entryCount l)
-  unfolding entriesRead logTest test15 firstMet
-  read-all h q =
-      rw (
-        firstMet-pass (test14 l) (test15 l ∷ []) (long h),
-        firstMet-pass (test15 l) [] (lowest-none 15 (λ i. ltb 1000000000 (entryIn l i .tick)) (entryCount l) q),
-      )
+    pub read-all : (e : ℕ) → e ≡ first (λ i. ltb 1000000000 (entryIn l i .tick)) n → n ≤ e → entriesRead l ≡ Read n
+    unfolding entriesRead logTest test15 firstMet
+    read-all e q s =
+        let f : first (λ i. ltb 1000000000 (entryIn l i .tick)) (entryCount l) ≡ entryCount l =
+        rw (← c) (le-antisymm (first-le (λ i. ltb 1000000000 (entryIn l i .tick)) n) (rw q at s)) in
+        rw (
+          firstMet-pass (test14 l) (test15 l ∷ []) long,
+          firstMet-pass (test15 l) [] (lowest-none 15 (λ i. ltb 1000000000 (entryIn l i .tick)) (entryCount l) f),
+          c,
+        )

@@ -15,13 +15,8 @@ const LAST_TICK: u32 = 1_000_000_000;
 
 // What the reader finds: the count, which gives exactly the log's length, or refusal 14 or 15.
 pub enum Entries {
-    Read {
-        count: usize,
-    },
-    Refused {
-        number: u8,
-        index: u16,
-    },
+    Read { count: usize },
+    Refused { number: u8, index: u16 },
 }
 
 // An entry: the task released, the tick, and the job's demand.

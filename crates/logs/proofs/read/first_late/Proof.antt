@@ -33,7 +33,7 @@ number4-requires c κs = search needs
 returns : tie.Need-returns Inv-loop μ-loop
 unfolding entryIn
 returns c =
-    let l = c .before .before .before .before .loop in
+    let l = c .before .before .before .loop in
     sym (found-at _ (l .e) _ (l .inv .1) (lt-ltb _ _ (rw (c .before .number4 .ensures) at (c .if1 .taken))) (omega arith))
 
 add-e : tie.Need-add-e Inv-loop μ-loop
@@ -45,12 +45,12 @@ loop-less c = search needs
 loop-again : tie.Need-loop-again Inv-loop μ-loop
 unfolding entryIn
 loop-again c =
-    let l = c .before .before .before .before .loop in
+    let l = c .before .before .before .loop in
     (omega arith, none-more _ (l .e) (l .inv .1) (le-ltb _ _ (rw (c .before .number4 .ensures) at (c .if1 .left))))
 
 returns-2 : tie.Need-returns-2 Inv-loop μ-loop
 returns-2 c =
-    let e : c .before .loop .e ≡ c .before .before .args .count = omega arith in
+    let e : c .before .loop .e ≡ c .before .before .before .args .count = omega arith in
     sym (rw e at (c .before .loop .inv .1))
 
 pub first-late-spec : {M : Type 1} → statement M

@@ -27,7 +27,13 @@ number4-requires-2 c κs = search needs
 
 returns : tie.Need-returns
 unfolding entryIn
-returns c = record { tick = ?; task = ?; demand = ?; small = ? }
+returns c =
+    record {
+      tick = c .before .before .number4 .ensures;
+      task = c .before .count-at .ensures .0;
+      demand = c .number42 .ensures;
+      small = c .before .count-at .ensures .1;
+    }
 
 pub release-at-spec : {M : Type 1} → statement M
 release-at-spec =

@@ -1,4 +1,5 @@
 -- `logs::report::put_report` meets its contract: two numbers, one behind the other.
+use Prim.Native.Nat.{_+_, _*_}
 use native.Mathlib.Omega.{arith}
 use mathlib.Core.Path.{_∙_}
 use Rattle.codec.specs.Bytes.{digits}
@@ -24,7 +25,11 @@ same-length : tie.Need-same-length
 same-length c = search needs
 
 returns : tie.Need-returns
-returns c = ?
+returns c =
+    let a = c .before .before .before .before .before .before .before .before .before .args in
+    c .before .before .put42 .ensures
+    ∙ rw (c .before .before .before .before .before .before .put4 .ensures)
+    (sets-next (a .out .now) (8 * a .e) (8 * a .e + 4) (digits 4 (a .kind)) (digits 4 (a .value)) (omega (arith, length-digits 4 (a .kind))))
 
 pub put-report-spec : {M : Type 1} → statement M
 put-report-spec =
