@@ -30,8 +30,8 @@ fn byte_at(t: &[u8], at: usize) -> u32
     t[at] as u32
 }
 
-// A section's count.
-fn count_at(t: &[u8], at: usize) -> usize
+// A number of one byte that counts or indexes, as a section's count.
+pub fn count_at(t: &[u8], at: usize) -> usize
     requires { ⌜ at < length (now t) ⌝ }
     ensures { λ r. ⌜ (r ≡ byte (now (t .entry)) at) × (r < 256) ⌝ }
 {

@@ -25,4 +25,12 @@ pub const SLACK: u8 = 12;
 
 pub const BOUND: u8 = 13;
 
+pub const LOG_LENGTH: u8 = 14;
+
+pub const LOG_TICK: u8 = 15;
+
+pub const ANSWER: u8 = 16;
+
+pub const BACK: u8 = 17;
+
 pub const BUFFER: u8 = 24;

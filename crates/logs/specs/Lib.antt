@@ -1,0 +1,4 @@
+pub mod LogBytes
+pub mod LogStages
+pub mod LogLaws
+pub mod ReportLaws
