@@ -6,3 +6,5 @@ pub mod OwnerLaws
 pub mod BookLaws
 pub mod Leap
 pub mod LeapLaws
+pub mod EnterLaws
+pub mod Entered

@@ -1,6 +1,7 @@
 -- The owners' array and the answer after a tick, by the lists of owners.
 --     owner-at                the owner at a place of a loop
 --     moved-owners            a loop's owners moved down
+--     joined-owners           a loop's owners with one more
 --     ended                   whether a loop's head finishes in the tick after a history
 --     ownersTo, outTo         the owners and the answer with the loops below i noted
 --     response-ended          the responses name those that finish
@@ -8,15 +9,15 @@
 use Prim.Native.Nat.{ℕ, zero, suc, _+_, _*_, _/_, _%_, _≤_, _<_}
 use mathlib.Core.Bool.{Bool, true, false, cond, _&&_, true≢false}
 use mathlib.Core.Path.{_≡_, refl, sym, ap, fun-ext, _∙_}
-use mathlib.Core.List.{List, [], _∷_}
+use mathlib.Core.List.{List, [], _∷_, _++_}
 use native.Mathlib.Nat.{le-refl}
 use native.Mathlib.Omega.{arith}
-use lib.ListN.{length, getD, drop, List·getD-eq-default}
+use lib.ListN.{length, getD, set, drop, List·getD-eq-default}
 use lib.Seq.{sets}
 use lib.Dec.{ltb, eqb}
 use borrow.Author.Tests.{ltb-true, ltb-false, lt-ltb, le-ltb, eqb-true, eqb-false, eq-eqb, ne-eqb}
 use Rattle.laws.specs.Tab.{tab}
-use Rattle.laws.specs.TabLaws.{length-tab, getD-tab, tab-ext}
+use Rattle.laws.specs.TabLaws.{length-tab, getD-tab, set-tab, tab-ext}
 use Rattle.tasks.specs.TaskSet.{TaskSet, row}
 use Rattle.machine.specs.Machine.{Machine, runs, response, responses}
 use Rattle.machine.specs.Sound.{reached-sound}
@@ -71,6 +72,41 @@ moved-owners O i h few =
         small : (r : ℕ) → r < 16 → (r ≡ 15 → ⊥) → suc r < 16
         small r l ne = omega arith
     at j q a m false e c g = owner-at O j q a m
+
+-- a list with one owner more, read at place q
+joined-at : (os : List ℕ) (e q : ℕ) → getD (os ++ e ∷ []) q 0 ≡ cond (eqb q (length os)) e (getD os q 0)
+joined-at [] e zero = refl
+joined-at [] e (suc q) = rw (ne-eqb (suc q) 0 (λ (z : suc q ≡ 0). omega arith))
+joined-at (o ∷ os) e zero = rw (ne-eqb 0 (suc (length os)) (λ (z : 0 ≡ suc (length os)). omega arith))
+joined-at (o ∷ os) e (suc q) = joined-at os e q ∙ ap (λ (b : Bool). cond b e (getD os q 0)) (same (eqb q (length os)) refl)
+  where
+    same : (b : Bool) → eqb q (length os) ≡ b → eqb q (length os) ≡ eqb (suc q) (suc (length os))
+    same true f = f ∙ sym (eq-eqb (suc q) (suc (length os)) (ap suc (eqb-true _ _ f)))
+    same false f = f ∙ sym (ne-eqb (suc q) (suc (length os)) (λ (z : suc q ≡ suc (length os)). eqb-false q (length os) f (omega arith)))
+
+pub joined-owners :
+    (O : ℕ → List ℕ) (i n e : ℕ) → length (O i) ≡ n → n < 16 → i < 16
+    → set (ownersIn O) (16 * i + n) e ≡ ownersIn (λ j. cond (eqb j i) (O j ++ e ∷ []) (O j))
+unfolding ownersIn
+joined-owners O i n e long few h =
+    set-tab (λ k. getD (O (k / 16)) (k % 16) 0) 256 (16 * i + n) e
+    ∙ tab-ext _ _ 256
+    (by-place
+    (λ k. cond (eqb k (16 * i + n)) e (getD (O (k / 16)) (k % 16) 0) ≡ getD (cond (eqb (k / 16) i) (O (k / 16) ++ e ∷ []) (O (k / 16))) (k % 16) 0)
+    (λ j q a b. rw (loop-of j q b, place-in j q b) (at j q b (eqb j i) refl)))
+  where
+    at :
+        (j q : ℕ) → q < 16 → (b : Bool) → eqb j i ≡ b
+        → cond (eqb (16 * j + q) (16 * i + n)) e (getD (O j) q 0) ≡ getD (cond b (O j ++ e ∷ []) (O j)) q 0
+    at j q m true f =
+        let same = eqb-true j i f in
+        rw (same, joined-at (O i) e q, long) (ap (λ (b : Bool). cond b e (getD (O i) q 0)) (place (eqb q n) refl))
+      where
+        place : (b : Bool) → eqb q n ≡ b → eqb (16 * i + q) (16 * i + n) ≡ eqb q n
+        place true y = rw y (eq-eqb (16 * i + q) (16 * i + n) (omega (arith, eqb-true q n y)))
+        place false y = rw y (ne-eqb (16 * i + q) (16 * i + n) (λ (z : 16 * i + q ≡ 16 * i + n). eqb-false q n y (omega arith)))
+    at j q m false f =
+        rw (ne-eqb (16 * j + q) (16 * i + n) (λ (z : 16 * j + q ≡ 16 * i + n). eqb-false j i f (omega arith)))
 
 module _ (s : TaskSet) (g : List Call) (O : ℕ → List ℕ) (out : List ℕ) where
   abbrev M : Machine

@@ -1,0 +1,161 @@
+-- An entry entered keeps the book, whatever its outcome.
+--     Recent h …        the arrays of flags and last releases are those of the machine after h; recent-wait: steps change neither
+--     enter-back        an entry that meets 17
+--     enter-refused     an entry whose release is refused
+--     enter-taken       an entry whose release is taken
+use Prim.Native.Nat.{ℕ, zero, suc, _+_, _-_, _*_, _≤_, _<_}
+use mathlib.Core.Bool.{Bool, true, false, cond, _&&_, true≢false, or-true}
+use mathlib.Core.Path.{_≡_, refl, sym, ap, subst, _∙_}
+use mathlib.Core.Logic.{_⊎_, inl, inr, ⊎-elim}
+use mathlib.Core.List.{List, [], _∷_, _++_}
+use native.Mathlib.Nat.{le-refl, eq-or-lt-of-le, le-of-suc-le-suc}
+use native.Mathlib.Omega.{arith}
+use lib.ListN.{length, getD, set}
+use lib.Seq.{sets}
+use lib.Dec.{ltb, eqb}
+use borrow.Author.Tests.{ltb-true, ltb-false, eqb-true, eqb-false, eq-eqb, ne-eqb}
+use Rattle.laws.specs.Member.{member}
+use Rattle.laws.specs.MemberLaws.{member-append, member-here}
+use Rattle.tasks.specs.declared.Plan.{Plan}
+use Rattle.tasks.specs.TaskSet.{TaskSet, row}
+use Rattle.tasks.specs.Content.{contentOf}
+use Rattle.machine.specs.Machine.{Job, job, Machine, admitted, joined}
+use Rattle.state.specs.State.{jobsIn, releasedIn, lastIn, remainingIn, releaseIn}
+use Rattle.history.specs.Engine.{Outcome, taken, refused, Engine, Call, ask, clock, state, verdict, named, Ends}
+use Rattle.history.specs.EngineLaws.{ends-ask}
+use Rattle.history.specs.Log.{Entry, tickAt, loopAt, demandAt, back, wait, until, calls, outcome, Taken, owed}
+use Rattle.history.specs.LogLaws.{taken-call}
+use Rattle.history.specs.Report.{Report, finished, refusal}
+use Rattle.history.specs.OnMachine.{answerOf, ifTaken, handedOf, machineEngine}
+use Rattle.history.specs.Refusals.{last-wait}
+use Rattle.history.specs.Balance.{not-refused}
+use Rattle.history.specs.Owners.{Owned, owners-taken}
+use Rattle.codec.specs.Bytes.{byte}
+use Rattle.logs.specs.LogBytes.{reportBytes}
+use Rattle.logs.specs.ReportLaws.{Said, said-length, said-beyond, said-here, said-other}
+use Rattle.running.specs.Running.{ownersIn, Below, Book, Running}
+
+below-more : (e : ℕ) (os : List ℕ) → Below e os → Below (suc e) os
+below-more e [] w = tt
+below-more e (o ∷ os) w = (omega (arith, w .0), below-more e os (w .1))
+
+module _ (p : Plan) (l : List Entry) (out₀ : List ℕ) where
+  abbrev s : TaskSet
+  s = contentOf p .tasks
+
+  abbrev E : Engine
+  E = machineEngine s
+
+  pub record Recent (h : List Call) (released : List Bool) (last : List ℕ) : Type 0 where
+    pub released-are : released ≡ releasedIn (state E h)
+    pub last-are : last ≡ lastIn (state E h)
+
+  module _ (e : ℕ) (O : ℕ → List ℕ) (out : List ℕ) (room : 8 * suc e ≤ length out₀) where
+    abbrev written : ℕ → List ℕ
+    written n = sets out (8 * e) (reportBytes (refusal n))
+
+    -- a refusal written, with calls made that change neither queues nor what was named
+    pub book-refused :
+        (h g : List Call) (n : ℕ) → outcome E l e ≡ refused n
+        → ((i : ℕ) → Owned E l i (named E h i (clock h)) (O i) (state E h .lane i .queue) → Owned E l i (named E g i (clock g)) (O i) (state E g .lane i .queue))
+        → ((i d f : ℕ) → Ends E h i d f → Ends E g i d f)
+        → Book p l out₀ e h O out → Book p l out₀ (suc e) g O (written n)
+    book-refused h g n r same ends B =
+        record {
+          owned = λ i less. same i (B .owned i less);
+          unowned = B .unowned;
+          small = λ i. below-more e (O i) (B .small i);
+          long = said-length out e (refusal n) ∙ B .long;
+          beyond = λ j far. said-beyond out e (refusal n) j (omega arith) ∙ B .beyond j (omega arith);
+          refusals = λ k m less q. at k m q (eq-or-lt-of-le (le-of-suc-le-suc less));
+          each = λ k less t. every k t (eq-or-lt-of-le (le-of-suc-le-suc less));
+        }
+      where
+        here : Said (written n) e (refusal n)
+        here = said-here out e (refusal n) (omega (arith, B .long))
+
+        at : (k m : ℕ) → outcome E l k ≡ refused m → (k ≡ e) ⊎ (k < e) → Said (written n) k (refusal m)
+        at k m q (inl z) =
+            let same-number : refused m ≡ refused n = sym q ∙ ap (outcome E l) z ∙ r in
+            let number : m ≡ n = cc in
+            rw (z, number) here
+        at k m q (inr z) = said-other out e (refusal n) k (refusal m) (λ y. absurd (omega arith)) (B .refusals k m z q)
+
+        every :
+            (k : ℕ) → Taken E l k → (k ≡ e) ⊎ (k < e)
+            → (member k (O (loopAt l k)) ≡ true)
+            ⊎ ((f : ℕ) × Ends E g (loopAt l k) (owed E l (loopAt l k) (suc k)) f × Said (written n) k (finished f))
+        every k t (inl z) = absurd (not-refused (sym r ∙ ap (outcome E l) (sym z) ∙ t))
+        every k t (inr z) =
+            ⊎-elim
+            (λ (m : member k (O (loopAt l k)) ≡ true). inl m)
+            (λ (x : (f : ℕ) × Ends E h (loopAt l k) (owed E l (loopAt l k) (suc k)) f × Said out k (finished f)).
+            inr
+            (x .0, ends (loopAt l k) (owed E l (loopAt l k) (suc k)) (x .0) (x .1),
+            said-other out e (refusal n) k (finished (x .0)) (λ y. absurd (omega arith)) (x .2)))
+            (B .each k z t)
+
+    -- a release taken: the entry is the owner of its job
+    abbrev pub ownersWith : ℕ → ℕ → List ℕ
+    ownersWith i j = cond (eqb j i) (O j ++ e ∷ []) (O j)
+
+    pub book-taken :
+        (t : Taken E l e) → Book p l out₀ e (until (tickAt l e) (calls l e)) O out → loopAt l e < s .count
+        → Book p l out₀ (suc e) (calls l (suc e)) (ownersWith (loopAt l e)) out
+    unfolding named handedOf verdict admitted
+    book-taken t B known =
+        record {
+          owned = λ j less. owned j less (eqb j i) refl;
+          unowned = λ j far. rw (ne-eqb j i (λ (z : j ≡ i). absurd (omega arith))) (B .unowned j far);
+          small = λ j. small (eqb j i) (O j) (B .small j);
+          long = B .long;
+          beyond = λ j far. B .beyond j (omega arith);
+          refusals = λ k n less r. refusals k n r (eq-or-lt-of-le (le-of-suc-le-suc less));
+          each = λ k less u. every k u (eq-or-lt-of-le (le-of-suc-le-suc less));
+        }
+      where
+        i : ℕ
+        i = loopAt l e
+
+        g : List Call
+        g = until (tickAt l e) (calls l e)
+
+        made : calls l (suc e) ≡ ask i (demandAt l e) ∷ g
+        made = taken-call l E e t .2
+
+        owned :
+            (j : ℕ) → j < s .count → (b : Bool) → eqb j i ≡ b
+            → Owned E l j (named E (calls l (suc e)) j (clock (calls l (suc e)))) (cond b (O j ++ e ∷ []) (O j)) (state E (calls l (suc e)) .lane j .queue)
+        owned j less true q =
+            let same : j ≡ i = eqb-true j i q in
+            rw same (owners-taken s l e (O i) t (B .owned i known))
+        owned j less false q = rw (made, taken-call l E e t .1, q) (B .owned j less)
+
+        small : (b : Bool) (os : List ℕ) → Below e os → Below (suc e) (cond b (os ++ e ∷ []) os)
+        small true [] w = (le-refl _, tt)
+        small true (o ∷ os) w = (omega (arith, w .0), small true os (w .1))
+        small false os w = below-more e os w
+
+        refusals : (k n : ℕ) → outcome E l k ≡ refused n → (k ≡ e) ⊎ (k < e) → Said out k (refusal n)
+        refusals k n r (inl z) = absurd (not-refused (sym r ∙ ap (outcome E l) z ∙ t))
+        refusals k n r (inr z) = B .refusals k n z r
+
+        joins : (k : ℕ) (b : Bool) (os : List ℕ) → member k os ≡ true → member k (cond b (os ++ e ∷ []) os) ≡ true
+        joins k true os m = member-append k os (e ∷ []) ∙ rw m
+        joins k false os m = m
+
+        new : (b : Bool) → eqb i i ≡ b → (os : List ℕ) → member e (cond b (os ++ e ∷ []) os) ≡ true
+        new true q os = member-append e os (e ∷ []) ∙ rw (member-here e []) (or-true (member e os))
+        new false q os = absurd (eqb-false i i q refl)
+
+        every :
+            (k : ℕ) → Taken E l k → (k ≡ e) ⊎ (k < e)
+            → (member k (ownersWith i (loopAt l k)) ≡ true)
+            ⊎ ((f : ℕ) × Ends E (calls l (suc e)) (loopAt l k) (owed E l (loopAt l k) (suc k)) f × Said out k (finished f))
+        every k u (inl z) = inl (rw z (new (eqb i i) refl (O i)))
+        every k u (inr z) =
+            ⊎-elim
+            (λ (m : member k (O (loopAt l k)) ≡ true). inl (joins k (eqb (loopAt l k) i) (O (loopAt l k)) m))
+            (λ (x : (f : ℕ) × Ends E g (loopAt l k) (owed E l (loopAt l k) (suc k)) f × Said out k (finished f)).
+            inr (x .0, rw made (ends-ask E g i (demandAt l e) (loopAt l k) (owed E l (loopAt l k) (suc k)) (x .0) (x .1)), x .2))
+            (B .each k z u)
