@@ -8,14 +8,13 @@
 --     answer-of-entries       the reader's answer is document 01's
 --     read-accepted, read-refused     what each case of the reader's answer says of the log
 --     read-short, read-late, read-all     how the reader's answer follows from what its code has seen
-use Prim.Native.Nat.{ℕ, _+_, _*_, _^_, _≤_, _<_}
+use Prim.Native.Nat.{ℕ, _+_, _*_, _≤_, _<_}
 use native.Mathlib.Nat.{le-antisymm}
 use native.Mathlib.Omega.{arith}
 use mathlib.Core.Path.{_≡_, refl, sym, ap, _∙_}
-use mathlib.Core.Bool.{not}
 use mathlib.Core.List.{List, [], _∷_}
 use lib.ListN.{length, getD}
-use lib.Dec.{ltb, eqb}
+use lib.Dec.{ltb}
 use borrow.Author.Tests.{ltb-false, eqb-true, eq-eqb, ne-eqb, not-false}
 use Rattle.laws.specs.First.{first}
 use Rattle.laws.specs.FirstLaws.{first-le}
@@ -27,7 +26,6 @@ use Rattle.tasks.specs.AnswerLaws.{refuse-passed, lowest-passed, lowest-none, l
 use Rattle.history.specs.Log.{Entry, noEntry, tickAt, loopAt, demandAt}
 use Rattle.codec.specs.Bytes.{byte, number}
 use Rattle.codec.specs.ByteLaws.{Bytes, number-small}
-use Rattle.logs.specs.declared.read.Entries.{Entries}
 use Rattle.logs.specs.declared.read.Entries.the-variants.{Read, Refused as NotRead}
 use Rattle.logs.specs.LogBytes.{entryCount, entryIn, entriesIn, test14, test15, logTest}
 use Rattle.logs.specs.LogStages.{entriesAs, entriesRead, answerOfEntries}

@@ -1,11 +1,12 @@
 -- `logs::read::first_late` meets its contract. The loop's invariant: no tick before entry e is too large.
-use Prim.Native.Nat.{_≤_, _-_}
+use Prim.Native.Nat.{_+_, _*_, _-_, _≤_, _<_}
 use native.Mathlib.Omega.{arith}
 use mathlib.Core.Path.{_≡_, refl, sym}
 use lib.Dec.{ltb}
 use borrow.Author.Tests.{lt-ltb, le-ltb}
 use Rattle.laws.specs.First.{first}
 use Rattle.laws.specs.FirstLaws.{none-more, found-at}
+use Rattle.codec.specs.Bytes.{number}
 use Rattle.logs.specs.LogBytes.{entryIn}
 use borrow.Author.Needs.{needs}
 use Rattle.logs.proofs.read.first_late.Statement.{statement}
@@ -33,8 +34,9 @@ number4-requires c κs = search needs
 returns : tie.Need-returns Inv-loop μ-loop
 unfolding entryIn
 returns c =
-    let l = c .before .before .before .loop in
-    sym (found-at _ (l .e) _ (l .inv .1) (lt-ltb _ _ (rw (c .before .number4 .ensures) at (c .if1 .taken))) (omega arith))
+    let l = c .before .before .before in
+    let h : 1000000000 < number 4 (l .before .before .args .log .now) (2 + 9 * l .loop .e) = omega (arith, c .before .number4 .ensures) in
+    sym (found-at _ (l .loop .e) _ (l .loop .inv .1) (lt-ltb _ _ h) (omega arith))
 
 add-e : tie.Need-add-e Inv-loop μ-loop
 add-e c = search needs
@@ -45,8 +47,9 @@ loop-less c = search needs
 loop-again : tie.Need-loop-again Inv-loop μ-loop
 unfolding entryIn
 loop-again c =
-    let l = c .before .before .before .loop in
-    (omega arith, none-more _ (l .e) (l .inv .1) (le-ltb _ _ (rw (c .before .number4 .ensures) at (c .if1 .left))))
+    let l = c .before .before .before in
+    let h : number 4 (l .before .before .args .log .now) (2 + 9 * l .loop .e) ≤ 1000000000 = omega (arith, c .before .number4 .ensures) in
+    (omega arith, none-more _ (l .loop .e) (l .loop .inv .1) (le-ltb _ _ h))
 
 returns-2 : tie.Need-returns-2 Inv-loop μ-loop
 returns-2 c =

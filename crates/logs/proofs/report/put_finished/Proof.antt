@@ -12,7 +12,7 @@ same-length c = search needs
 
 returns : tie.Need-returns
 unfolding reportBytes
-returns c = search needs
+returns c = c .before .before .put-report .ensures
 
 pub put-finished-spec : {M : Type 1} → statement M
 put-finished-spec = tie.close (tie.spec put-report-requires same-length returns)
