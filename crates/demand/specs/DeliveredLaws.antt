@@ -4,9 +4,10 @@
 --     plan-history         the claim of all histories, of the delivered engine
 --     plan-demand          demand 3 of a log, of the delivered engine
 --     plan-numbers         the numbers of the entries that it refuses
+--     plan-reports, plan-counts      what is written of the entries, and the two counts, are those of the machine
 use Prim.Native.Nat.{ℕ, suc, _≤_, _<_}
 use mathlib.Core.Bool.{Bool, true, false, not, _&&_, true≢false}
-use mathlib.Core.Path.{_≡_, refl, sym, ap, subst, _∙_}
+use mathlib.Core.Path.{_≡_, refl, sym, ap, subst, fun-ext, _∙_}
 use mathlib.Core.List.{List, [], _∷_}
 use native.Mathlib.Omega.{arith}
 use lib.ListN.{length}
@@ -36,15 +37,16 @@ use Rattle.state.specs.KeptLaws.{step-state, release-state, reached-fit, open-s
 use Rattle.state.specs.TakenLaws.{named-runs}
 use Rattle.state.specs.AllLaws.{all-at, of-all}
 use Rattle.state.specs.ViewLaws.{row-jobs}
-use Rattle.history.specs.Engine.{Outcome, taken, refused, firstOf, Engine, HistoryClaim}
-use Rattle.history.specs.Log.{Entry, tickAt, outcome, Claim}
-use Rattle.history.specs.Report.{met}
+use Rattle.history.specs.Engine.{Outcome, taken, refused, firstOf, clock, HistoryClaim}
+use Rattle.history.specs.Log.{Entry, tickAt, outcome, whole, Claim}
+use Rattle.history.specs.Report.{met, report, takenCount, refusedCount}
 use Rattle.history.specs.OnMachine.{answerOf, ifTaken, handedOf, quietOf, machineEngine}
 use Rattle.history.specs.Balance.{answer-allowed, handed-cases}
 use Rattle.history.specs.Life.{machine-history}
 use Rattle.history.specs.Drain.{quiet-idle, idle-quiet}
 use Rattle.history.specs.Mirror.{Mirrors, mirror-history}
-use Rattle.history.specs.LogClock.{mirror-demand, mirror-numbers}
+use Rattle.history.specs.MirrorLog.{same-report, same-counts}
+use Rattle.history.specs.LogClock.{whole-clock, mirror-demand, mirror-numbers}
 use Rattle.demand.specs.Delivered.{outcomeOf, named, nothingPending, engineOf}
 
 -- a list of tests, in both forms
@@ -205,3 +207,18 @@ module _ (p : Plan) (a : testPlan p ≡ Accepted) where
     plan-numbers =
         mirror-numbers s (contentOf p .slack) (plan-limits p a) (tests-compliant (contentOf p) a) (tests-bounded (contentOf p) a) l
         1000000000 ticks (engineOf p) 4000000000 mirrored (omega arith)
+
+    run-ends : clock (whole (machineEngine s) l) < 4000000000
+    unfolding testPlan
+    run-ends =
+        omega (
+          arith,
+          whole-clock s (contentOf p .slack) (plan-limits p a) (tests-compliant (contentOf p) a) (tests-bounded (contentOf p) a) l 1000000000 ticks,
+        )
+
+    pub plan-reports : report (engineOf p) l ≡ report (machineEngine s) l
+    plan-reports = fun-ext (same-report (engineOf p) (machineEngine s) 4000000000 mirrored l run-ends)
+
+    pub plan-counts :
+        (takenCount (engineOf p) l ≡ takenCount (machineEngine s) l) × (refusedCount (engineOf p) l ≡ refusedCount (machineEngine s) l)
+    plan-counts = same-counts (engineOf p) (machineEngine s) 4000000000 mirrored l run-ends

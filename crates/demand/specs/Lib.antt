@@ -1,2 +1,3 @@
 pub mod Delivered
 pub mod DeliveredLaws
+pub mod Demand3
