@@ -4,6 +4,7 @@
 --     Reports           what a log run writes of the entries is what *taken* and *finishes* say
 --     demand-3          the theorem: the three claims of every entry, one record over the whole log
 --     demand-reports    what is written of each entry
+--     demand-machine    it is what the abstract machine's run says
 --     demand-numbers    a refused entry's number is the first of 17, 20, 21 and 22 that it meets; never-23: it is never 23
 --     demand-histories  the claim of every history of calls, whoever makes them, below the clock's end
 use Prim.Native.Nat.{ℕ, _≤_, _<_}
@@ -25,9 +26,10 @@ use Rattle.logs.specs.LogLaws.{entries-length, entry-at, log-ticks}
 use Rattle.history.specs.Engine.{refused, Engine, HistoryClaim}
 use Rattle.history.specs.Log.{Entry, tickAt, outcome, Finishes, Claim}
 use Rattle.history.specs.Report.{Report, finished, refusal, met, report, report-finished, finished-report, report-refused, refused-report}
+use Rattle.history.specs.OnMachine.{machineEngine}
 use Rattle.history.specs.Refusals.{met-not-23}
 use Rattle.demand.specs.Delivered.{engineOf}
-use Rattle.demand.specs.DeliveredLaws.{plan-history, plan-demand, plan-numbers}
+use Rattle.demand.specs.DeliveredLaws.{plan-history, plan-demand, plan-numbers, plan-reports}
 
 -- "The engine is opened anew": on the plan that the judgement of the table hands back
 abbrev pub runOn : List ℕ → Engine
@@ -59,6 +61,12 @@ module _ (t : List ℕ) (a : verdict t ≡ Accepted) where
         subst (λ (c : Content). Claim (runOn t) (c .tasks) (c .slack) (entriesIn l)) (judged-kept t a)
         (plan-demand (judged t .plan) plan-passes (entriesIn l) ticks)
 
+    -- what is written of the entries is what a run of the abstract machine of that table says
+    pub demand-machine : report (runOn t) (entriesIn l) ≡ report (machineEngine (contentIn t .tasks)) (entriesIn l)
+    demand-machine =
+        subst (λ (c : Content). report (runOn t) (entriesIn l) ≡ report (machineEngine (c .tasks)) (entriesIn l)) (judged-kept t a)
+        (plan-reports (judged t .plan) plan-passes (entriesIn l) ticks)
+
     pub demand-numbers : (e : ℕ) → outcome (runOn t) (entriesIn l) e ≡ met (runOn t) (contentIn t .tasks) (entriesIn l) e
     demand-numbers e =
         subst (λ (c : Content). outcome (runOn t) (entriesIn l) e ≡ met (runOn t) (c .tasks) (entriesIn l) e) (judged-kept t a)
@@ -70,8 +78,9 @@ module _ (t : List ℕ) (a : verdict t ≡ Accepted) where
     pub demand-reports : Reports (runOn t) (entriesIn l)
     demand-reports =
         record {
-          kind-1 = λ e f h.
-              (finished-report (runOn t) (entriesIn l) (contentIn t .tasks) (contentIn t .slack) demand-3 e f h,
-              report-finished (runOn t) (entriesIn l) e f);
+          kind-1 = λ e f h. (
+            finished-report (runOn t) (entriesIn l) (contentIn t .tasks) (contentIn t .slack) demand-3 e f h,
+            report-finished (runOn t) (entriesIn l) e f,
+          );
           kind-2 = λ e k h. (refused-report (runOn t) (entriesIn l) e k, report-refused (runOn t) (entriesIn l) e k);
         }

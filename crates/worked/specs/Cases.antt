@@ -1,10 +1,13 @@
--- Document 01, "Worked tables": P1 to P9 as theorems of the definitions, from a table's bytes to its verdict, slack and bounds.
---     Case         a table's loops and offered slack, and what document 01 says of it
---     cases        P1 to P9, P8 and P9 in both forms; where document 01 gives no budgets or offsets they are ours
+-- Document 01, "Worked tables": P1 to P11 as theorems of the definitions, from a table's and a log's bytes to the verdict, slack and bounds, and
+-- to what a run of the log writes.
+--     Case         a table's loops and offered slack, a log, and what document 01 says of them
+--     cases        P1 to P11, P8, P9 and P10 in both forms; where document 01 gives no budgets or offsets they are ours
 --     agrees       whether the definitions say the same of a case
---     worked       they do of every case
-use Prim.Native.Nat.{ℕ}
+--     worked       they do of every case, with the log run on the abstract machine
+--     worked-runs  and so does the delivered engine's run
+use Prim.Native.Nat.{ℕ, suc}
 use mathlib.Core.Bool.{Bool, true, false, _&&_}
+use mathlib.Core.Path.{_≡_, refl, sym, subst}
 use mathlib.Core.List.{List, [], _∷_, _++_, map}
 use lib.ListN.{length}
 use lib.Dec.{T, eqb}
@@ -19,6 +22,15 @@ use Rattle.tasks.specs.declared.Answer.the-variants.{Accepted, Refused}
 use Rattle.tasks.specs.TaskSet.{hyperperiod, share, weight, surplus, counted, amount, cover, covers, needed, row, raise, same, settle, found, bound}
 use Rattle.tasks.specs.Content.{noTask}
 use Rattle.tasks.specs.Tests.{lowest, firstMet, outside, badLabel, test3, test4, test5, test6, test7, test8, test9, test10, test11, test12, test13, tests}
+use Rattle.machine.specs.Machine.{opened, tooSoon, full, joined, admitted, waiting, point, before, chosen, runs, served, advanced, tick}
+use Rattle.history.specs.Engine.{Engine, verdict as asked, demanded, named}
+use Rattle.history.specs.Log.{Entry, largest as largestTick, back, until, calls, outcome, owed, allOwed, rest, whole}
+use Rattle.history.specs.OnMachine.{answerOf, handedOf, quietOf, machineEngine}
+use Rattle.history.specs.Report.{Report, finished, refusal, finishTick, report}
+use Rattle.table.specs.Judged.{onAccepted}
+use Rattle.demand.specs.Demand3.{runOn, demand-machine}
+use Rattle.logs.specs.LogBytes.{entryCount, entryIn, entriesIn, test14, test15, logTest}
+use Rattle.laws.specs.Member.{member}
 use Rattle.table.specs.Bytes.{byte, number, digits}
 use Rattle.table.specs.Table.{coreCount, taskCount, tasksAt, slackCount, slackAt, taskIn, taskSetIn, contentIn, test1, test2, verdict, taskBytes}
 
@@ -32,13 +44,28 @@ pub record Case : Type 0 where
   pub answer : Answer
   pub slack : List ℕ
   pub bounds : List ℕ
+  pub log : List Entry
+  pub reports : List Report
 
 -- a table that is accepted with this slack and these bounds
 abbrev accepted : List Task → List ℕ → List ℕ → List ℕ → Case
-accepted loops offered slack bounds = record { loops = loops; offered = offered; answer = Accepted; slack = slack; bounds = bounds }
+accepted loops offered slack bounds =
+    record { loops = loops; offered = offered; answer = Accepted; slack = slack; bounds = bounds; log = []; reports = [] }
 
 abbrev refused : List Task → List ℕ → ℕ → ℕ → Case
-refused loops offered k i = record { loops = loops; offered = offered; answer = Refused k i; slack = []; bounds = [] }
+refused loops offered k i =
+    record { loops = loops; offered = offered; answer = Refused k i; slack = []; bounds = []; log = []; reports = [] }
+
+-- an accepted table that a log is run on, with what is written of its entries
+abbrev run : List Task → List Entry → List Report → Case
+run loops log reports = record { loops = loops; offered = []; answer = Accepted; slack = []; bounds = []; log = log; reports = reports }
+
+-- an entry of loop i at tick t with demand c
+abbrev entry : ℕ → ℕ → ℕ → Entry
+entry t i c = record { tick = t; loop = i; demand = c }
+
+abbrev p3 : ℕ → List Task
+p3 y = loop 2 1 2 ∷ loop 2 1 2 ∷ loop 3 3 y ∷ []
 
 abbrev p1 : List Task
 p1 = loop 10 9 10 ∷ loop 10 9 10 ∷ loop 100 20 90 ∷ []
@@ -47,7 +74,7 @@ pub cases : List Case
 cases =
     accepted p1 [] (6 ∷ 6 ∷ 0 ∷ []) (25 ∷ 25 ∷ 110 ∷ [])
     ∷ accepted (loop 10 9 5 ∷ loop 10 9 10 ∷ loop 100 20 90 ∷ []) [] (9 ∷ 9 ∷ 3 ∷ []) (23 ∷ 28 ∷ 113 ∷ [])
-    ∷ accepted (loop 2 1 2 ∷ loop 2 1 2 ∷ loop 3 3 0 ∷ []) [] (2 ∷ 2 ∷ 1 ∷ []) (5 ∷ 5 ∷ 4 ∷ [])
+    ∷ accepted (p3 0) [] (2 ∷ 2 ∷ 1 ∷ []) (5 ∷ 5 ∷ 4 ∷ [])
     ∷ refused p1 (5 ∷ 6 ∷ 0 ∷ []) 12 0
     ∷ accepted p1 (6 ∷ 6 ∷ 1 ∷ []) (6 ∷ 6 ∷ 1 ∷ []) (25 ∷ 25 ∷ 111 ∷ [])
     ∷ refused p1 (6 ∷ 6 ∷ 11 ∷ []) 12 0
@@ -56,6 +83,9 @@ cases =
     ∷ refused (loop 1 1 1 ∷ loop 100 30 100 ∷ loop 100 30 100 ∷ []) [] 13 0
     ∷ accepted (loop 1000 1 0 ∷ loop 999 1 0 ∷ loop 1 1 1 ∷ []) [] (2 ∷ 2 ∷ 2 ∷ []) (3 ∷ 3 ∷ 4 ∷ [])
     ∷ refused (loop 1000 1 0 ∷ loop 1001 1 0 ∷ loop 1 1 1 ∷ []) [] 9 0
+    ∷ run (p3 0) (entry 0 0 1 ∷ entry 0 1 1 ∷ entry 0 2 3 ∷ []) (finished 1 ∷ finished 2 ∷ finished 3 ∷ [])
+    ∷ run (p3 3) (entry 0 0 1 ∷ entry 0 1 1 ∷ entry 0 2 3 ∷ []) (finished 1 ∷ finished 1 ∷ finished 4 ∷ [])
+    ∷ run (p3 0) (entry 0 0 1 ∷ entry 1 0 1 ∷ entry 2 0 1 ∷ []) (finished 1 ∷ refusal 22 ∷ finished 3 ∷ [])
     ∷ []
 
 pub concat : List (List ℕ) → List ℕ
@@ -67,6 +97,26 @@ pub tableOf : Case → List ℕ
 tableOf c =
     (1 ∷ 2 ∷ 0 ∷ 1 ∷ length (c .loops) ∷ concat (map taskBytes (c .loops)))
     ++ (length (c .offered) ∷ concat (map (digits 4) (c .offered)))
+
+abbrev entryBytes : Entry → List ℕ
+entryBytes e = digits 4 (e .tick) ++ e .loop ∷ digits 4 (e .demand)
+
+pub logOf : Case → List ℕ
+logOf c = digits 2 (length (c .log)) ++ concat (map entryBytes (c .log))
+
+pub sameReport : Report → Report → Bool
+sameReport (finished f) (finished g) = eqb f g
+sameReport (finished f) (refusal k) = false
+sameReport (refusal k) (finished f) = false
+sameReport (refusal k) (refusal n) = eqb k n
+
+-- the reports f of the entries from e on, of n in all, are these
+pub sameBy : (ℕ → Report) → ℕ → ℕ → List Report → Bool
+sameBy f n e [] = eqb e n
+sameBy f n e (r ∷ rs) = sameReport (f e) r && sameBy f n (suc e) rs
+
+abbrev sameReports : Engine → List Entry → ℕ → List Report → Bool
+sameReports E l e rs = sameBy (report E l) (length l) e rs
 
 pub sameAnswer : Answer → Answer → Bool
 sameAnswer Accepted Accepted = true
@@ -85,11 +135,78 @@ agrees c =
     sameAnswer (verdict (tableOf c)) (c .answer)
     && sameList (tab (contentIn (tableOf c) .slack) (length (c .slack))) (c .slack)
     && sameList (tab (bound (contentIn (tableOf c) .tasks) (contentIn (tableOf c) .slack)) (length (c .bounds))) (c .bounds)
+    && sameAnswer (logTest (logOf c)) Accepted
+    && sameReports (machineEngine (contentIn (tableOf c) .tasks)) (entriesIn (logOf c)) 0 (c .reports)
 
 pub agreeAll : List Case → Bool
 agreeAll [] = true
 agreeAll (c ∷ l) = agrees c && agreeAll l
 
 pub worked : T (agreeAll cases)
-unfolding cases concat tableOf sameAnswer sameList agrees agreeAll first sum sumOver tab cut place ranked largest lcm lcmBelow hyperperiod share weight surplus counted amount cover covers needed row raise same settle found bound noTask lowest firstMet outside badLabel test3 test4 test5 test6 test7 test8 test9 test10 test11 test12 test13 tests byte number digits coreCount taskCount tasksAt slackCount slackAt taskIn taskSetIn contentIn test1 test2 verdict taskBytes
+unfolding cases concat tableOf sameAnswer sameList agrees agreeAll first sum sumOver tab cut place ranked largest lcm lcmBelow hyperperiod share weight surplus counted amount cover covers needed row raise same settle found bound noTask lowest firstMet outside badLabel test3 test4 test5 test6 test7 test8 test9 test10 test11 test12 test13 tests byte number digits coreCount taskCount tasksAt slackCount slackAt taskIn taskSetIn contentIn test1 test2 verdict taskBytes logOf sameReport sameBy entryCount entryIn entriesIn test14 test15 logTest opened tooSoon full joined admitted waiting point before chosen runs served advanced tick asked demanded named largestTick back until calls outcome owed allOwed rest whole answerOf handedOf quietOf finishTick report member
 worked = tt
+
+-- ---- the same of the delivered engine
+
+-- where the table is accepted, a run of the log on the engine opened on its plan writes the reports
+pub runAgrees : Case → Bool
+runAgrees c = onAccepted (c .answer) (sameReports (runOn (tableOf c)) (entriesIn (logOf c)) 0 (c .reports)) true
+
+pub runAll : List Case → Bool
+runAll [] = true
+runAll (c ∷ l) = runAgrees c && runAll l
+
+parts : (a b : Bool) → T (a && b) → T a × T b
+parts true b t = (tt, t)
+parts false b t = absurd t
+
+both : (a b : Bool) → T a → T b → T (a && b)
+both true b s t = t
+both false b s t = s
+
+accepts : (a : Answer) → T (sameAnswer a Accepted) → a ≡ Accepted
+unfolding sameAnswer
+accepts Accepted t = refl
+accepts (Refused k i) t = absurd t
+
+-- the first, the fourth and the last of five
+three : (a b c d e : Bool) → T (a && b && c && d && e) → T a × T d × T e
+three true true true true e t = (tt, tt, t)
+three true true true false e t = absurd t
+three true true false d e t = absurd t
+three true false c d e t = absurd t
+three false b c d e t = absurd t
+
+delivered : (c : Case) → T (agrees c) → T (runAgrees c)
+unfolding agrees runAgrees
+delivered c t = go (c .answer) (all .0)
+  where
+    all :
+        T (sameAnswer (verdict (tableOf c)) (c .answer)) × T (sameAnswer (logTest (logOf c)) Accepted)
+        × T (sameReports (machineEngine (contentIn (tableOf c) .tasks)) (entriesIn (logOf c)) 0 (c .reports))
+    all =
+        three
+        (sameAnswer (verdict (tableOf c)) (c .answer))
+        (sameList (tab (contentIn (tableOf c) .slack) (length (c .slack))) (c .slack))
+        (sameList (tab (bound (contentIn (tableOf c) .tasks) (contentIn (tableOf c) .slack)) (length (c .bounds))) (c .bounds))
+        (sameAnswer (logTest (logOf c)) Accepted)
+        (sameReports (machineEngine (contentIn (tableOf c) .tasks)) (entriesIn (logOf c)) 0 (c .reports))
+        t
+
+    go :
+        (a : Answer) → T (sameAnswer (verdict (tableOf c)) a)
+        → T (onAccepted a (sameReports (runOn (tableOf c)) (entriesIn (logOf c)) 0 (c .reports)) true)
+    go Accepted q =
+        subst (λ (f : ℕ → Report). T (sameBy f (length (entriesIn (logOf c))) 0 (c .reports)))
+        (sym (demand-machine (tableOf c) (accepts _ q) (logOf c) (accepts _ (all .1)))) (all .2)
+    go (Refused k i) q = tt
+
+all-delivered : (l : List Case) → T (agreeAll l) → T (runAll l)
+unfolding agreeAll runAll
+all-delivered [] t = tt
+all-delivered (c ∷ l) t =
+    let p = parts (agrees c) (agreeAll l) t in
+    both (runAgrees c) (runAll l) (delivered c (p .0)) (all-delivered l (p .1))
+
+pub worked-runs : T (runAll cases)
+worked-runs = all-delivered cases worked
