@@ -8,3 +8,4 @@ pub mod Leap
 pub mod LeapLaws
 pub mod EnterLaws
 pub mod Entered
+pub mod StepLaws
