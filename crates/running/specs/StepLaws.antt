@@ -1,13 +1,13 @@
 -- The definitions by turns, one turn of the code after the other.
---     lowest-next, lowered-next, notes-next      the value at i + 1
+--     lowest-next, lowered-next                  the value at i + 1
 --     Unused n l                                 the rows of l from n on are 0
 --     still                                      turns that change nothing may be left out
 --     lowest-rest, lowered-rest, notes-rest      those of loops that have no job, or no response
 --     Owing owners out                           every owner is an entry of which the answer has room
---     owing-note                                 that stays so when a loop is noted
+--     notes-more                                 that stays so, and the notes are those at i + 1, when loop i is noted
 use Prim.Native.Nat.{ℕ, zero, suc, _+_, _-_, _*_, _≤_, _<_, min}
 use mathlib.Core.Bool.{Bool, true, false, cond}
-use mathlib.Core.Path.{_≡_, refl, sym, ap, _∙_}
+use mathlib.Core.Path.{_≡_, sym, ap, subst, _∙_}
 use mathlib.Core.List.{List, [], _∷_}
 use native.Mathlib.Nat.{zero-add, suc-add}
 use native.Mathlib.Numerals.{add-one}
@@ -66,10 +66,6 @@ module _ (keys jobs work : List ℕ) where
     lowered-rest k = still (loweredTo keys jobs k work) n (u .0) (λ i a b. rw (no-job i a b))
 
 module _ (finish : ℕ) (responses : List ℕ) (x : Notes) where
-  pub notes-next : (i : ℕ) → notes finish responses x (i + 1) ≡ noteOf finish responses i (notes finish responses x i)
-  unfolding notes
-  notes-next i = rw add-one
-
   pub notes-rest : (n : ℕ) → Unused n responses → notes finish responses x n ≡ notes finish responses x 16
   unfolding notes noteOf
   notes-rest n u = still (notes finish responses x) n (u .0) (λ i a b. rw (le-ltb 0 (row responses i) (omega (arith, u .1 i a b))))
@@ -97,7 +93,7 @@ module _ (i n : ℕ) (l : List ℕ) (h : (k : ℕ) → row l k < n) where
   unfolding moved
   small-moved s k = small-set (movedTo i l 15) n (16 * i + 15) 0 (small-to 15) s k
 
-pub owing-note :
+owing-note :
     (finish i : ℕ) (responses : List ℕ) (x : Notes) → Owing (x .owners) (x .out)
     → Owing (noteOf finish responses i x .owners) (noteOf finish responses i x .out)
 unfolding noteOf
@@ -114,3 +110,14 @@ owing-note finish i responses x w = go (ltb 0 (row responses i))
       small-moved i (w .0) (x .owners) (w .3) (w .2),
     )
     go false = w
+
+pub notes-more :
+    (finish : ℕ) (responses : List ℕ) (x : Notes) (i : ℕ) (owners out owners′ out′ : List ℕ) → Owing owners out
+    → _≡_ {A = Notes} (record { owners = owners; out = out }) (notes finish responses x i)
+    → _≡_ {A = Notes} (record { owners = owners′; out = out′ }) (noteOf finish responses i (record { owners = owners; out = out }))
+    → Owing owners′ out′ × _≡_ {A = Notes} (record { owners = owners′; out = out′ }) (notes finish responses x (i + 1))
+unfolding notes
+notes-more finish responses x i owners out owners′ out′ w now turn = (
+  subst (λ (n : Notes). Owing (n .owners) (n .out)) (sym turn) (owing-note finish i responses (record { owners = owners; out = out }) w),
+  rw add-one (turn ∙ ap (noteOf finish responses i) now),
+)

@@ -31,7 +31,7 @@ loop-again : tie.Need-loop-again Inv-loop μ-loop
 loop-again c =
     let l = c .before .before .loop in
     let a = c .before .before .before .args in
-    (omega arith, c .least-turn .ensures ∙ rw (lowest-next (a .left .now) (a .jobs .now) (a .remaining .now) (a .room) (l .i), l .inv .1))
+    (omega arith, rw (c .least-turn .ensures, lowest-next (a .left .now) (a .jobs .now) (a .remaining .now) (a .room) (l .i), l .inv .1))
 
 returns : tie.Need-returns Inv-loop μ-loop
 returns c =

@@ -35,9 +35,7 @@ element-write-remaining c = search needs
 
 returns-2 : tie.Need-returns-2
 unfolding row
-returns-2 c =
-    let r = c .before .before .before in
-    rw (c .less .ensures, sym (r .runs .ensures) ∙ not-false _ (c .before .before .if1 .left))
+returns-2 c = rw (c .less .ensures, sym (c .before .before .before .runs .ensures) ∙ not-false _ (c .before .before .if1 .left))
 
 pub lower-turn-spec : {M : Type 1} → statement M
 lower-turn-spec =

@@ -1,10 +1,10 @@
 -- `leap::note` meets its contract; the loop's invariant says what its turns so far have made.
 use native.Mathlib.Omega.{arith}
 use Prim.Native.Nat.{_≤_, _-_}
-use mathlib.Core.Path.{_≡_, refl, sym, subst, _∙_}
+use mathlib.Core.Path.{_≡_, refl, _∙_}
 use lib.ListN.{length}
-use Rattle.running.specs.Running.{Notes, noteOf, notes}
-use Rattle.running.specs.StepLaws.{Owing, notes-next, notes-rest, owing-note}
+use Rattle.running.specs.Running.{Notes, notes}
+use Rattle.running.specs.StepLaws.{Owing, notes-more, notes-rest}
 use borrow.Author.Needs.{needs}
 use Rattle.leap.proofs.note.Statement.{statement}
 use Rattle.leap.proofs.note.Tie as tie
@@ -36,11 +36,10 @@ loop-again : tie.Need-loop-again Inv-loop μ-loop
 loop-again c =
     let l = c .before .before .before .before .before .before .loop in
     let a = c .before .before .before .before .before .before .before .before .args in
-    let t = c .before .before .note-turn .ensures in
-    (omega arith, search needs,
-    subst (λ (x : Notes). Owing (x .owners) (x .out)) (sym t)
-    (owing-note (a .finish) (l .i) (a .responses .now) (record { owners = l .owners; out = l .out }) (l .inv .2)),
-    t ∙ rw (notes-next (a .finish) (a .responses .now) (record { owners = a .owners .now; out = a .out .now }) (l .i), l .inv .3))
+    let m =
+    notes-more (a .finish) (a .responses .now) (record { owners = a .owners .now; out = a .out .now }) (l .i)
+    (l .owners) (l .out) _ _ (l .inv .2) (l .inv .3) (c .before .before .note-turn .ensures) in
+    (omega arith, search needs, m .0, m .1)
 
 same-length : tie.Need-same-length Inv-loop μ-loop
 same-length c = search needs

@@ -1,7 +1,6 @@
 -- `leap::note_turn` meets its contract.
 use native.Mathlib.Omega.{arith}
 use Prim.Native.Nat.{_*_}
-use mathlib.Core.Path.{sym, _∙_}
 use borrow.Author.Tests.{lt-ltb, le-ltb}
 use Rattle.tasks.specs.TaskSet.{row}
 use Rattle.running.specs.Running.{noteOf}
