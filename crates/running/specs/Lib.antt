@@ -2,6 +2,7 @@ pub mod Lower
 pub mod LowerLaws
 pub mod TurnLaws
 pub mod Running
+pub mod StepLaws
 pub mod OwnerLaws
 pub mod BookLaws
 pub mod Leap

@@ -6,7 +6,7 @@ ghost use Rattle.state.specs.Serve.{moved, turns};
 ghost use Rattle.state.specs.CodeLaws.{Turned, Are};
 
 // x − y, 0 where y is larger.
-fn less(x: u32, y: u32) -> u32
+pub fn less(x: u32, y: u32) -> u32
     ensures { λ r. ⌜ r ≡ x - y ⌝ }
 {
     if x < y {
@@ -16,7 +16,7 @@ fn less(x: u32, y: u32) -> u32
 }
 
 // The sixteen places of task `i` moved down by one, "oldest first", with the freed place zero.
-fn move_down(places: &mut [u32; 256], i: usize)
+pub fn move_down(places: &mut [u32; 256], i: usize)
     requires { ⌜ i < 16 ⌝ }
     ensures { λ r. ⌜ now (places .exit) ≡ moved i (now (places .entry)) ⌝ }
 {
