@@ -19,7 +19,7 @@ use Rattle.laws.specs.TabLaws.{tab-ext}
 use Rattle.tasks.specs.declared.Plan.{Plan}
 use Rattle.tasks.specs.declared.Answer.the-variants.{Accepted}
 use Rattle.tasks.specs.TaskSet.{TaskSet, row}
-use Rattle.tasks.specs.Content.{contentOf, tidy}
+use Rattle.tasks.specs.Content.{taskOf, contentOf, tidy}
 use Rattle.tasks.specs.Tests.{testPlan}
 use Rattle.machine.specs.Machine.{Machine, full, admitted}
 use Rattle.state.specs.State.{flagOf, tickOf, jobsIn, releasedIn, lastIn, remainingIn, releaseIn}
@@ -92,16 +92,20 @@ module _ (p : Plan) (l : List Entry) (out₀ : List ℕ) where
     entered-clock h =
         omega (arith, X .clock-is, clock-calls l e, largest-least l e 1000000000 (λ j q. X .fitting .ticks j (omega arith)))
 
-    pub entered-ready : (to : ℕ) → e ≤ length l → to ≤ 4000000000 → Ready standing (p .cores) (p .task) clock to jobs work release owners out
-    entered-ready to h far =
+    pub entered-ready :
+        (offsets : List ℕ) (to : ℕ) → ((i : ℕ) → i < 16 → row offsets i ≡ taskOf (p .task) i .offset) → e ≤ length l → 1 ≤ length l → to ≤ 4000000000
+        → Ready standing (p .cores) (p .tasks) offsets clock to jobs work release owners out
+    entered-ready offsets to same h some far =
         record {
           accepted = X .fitting .accepted;
           tidied = X .fitting .tidied;
           cores-are = refl;
-          task-is = refl;
+          tasks-are = refl;
+          offsets-are = same;
           clock-is = X .clock-is;
           limit = far;
           room = omega (arith, X .fitting .room);
+          some-room = omega (arith, X .fitting .room);
           stands = X .running;
         }
 

@@ -4,14 +4,14 @@
 --     later x k O          where it stands k steps later, with the owners O
 --     Ready x …            the arrays are those of where the run stands, the clock is its clock, and a leap up to `to` may be made
 --     Reaches x …          the arrays are those of some steps later, with some owners
-use Prim.Native.Nat.{ℕ, _*_, _≤_}
+use Prim.Native.Nat.{ℕ, _*_, _≤_, _<_}
 use mathlib.Core.Path.{_≡_}
 use mathlib.Core.List.{List}
 use lib.ListN.{length}
-use Rattle.tasks.specs.declared.Task.{Task}
 use Rattle.tasks.specs.declared.Plan.{Plan}
 use Rattle.tasks.specs.declared.Answer.the-variants.{Accepted}
-use Rattle.tasks.specs.Content.{tidy}
+use Rattle.tasks.specs.TaskSet.{row}
+use Rattle.tasks.specs.Content.{taskOf, tidy}
 use Rattle.tasks.specs.Tests.{testPlan}
 use Rattle.history.specs.Engine as history
 use Rattle.history.specs.Engine.{Call}
@@ -41,14 +41,16 @@ abbrev pub Stands : Standing → List ℕ → List ℕ → List ℕ → List ℕ
 Stands x jobs work release owners out =
     Running (x .plan) (x .log) (x .lent) (x .entered) (x .made) (x .owners) jobs work release owners out
 
-pub record Ready (x : Standing) (cores : ℕ) (task : List Task) (clock to : ℕ) (jobs work release owners out : List ℕ) : Type 0 where
+pub record Ready (x : Standing) (cores tasks : ℕ) (offsets : List ℕ) (clock to : ℕ) (jobs work release owners out : List ℕ) : Type 0 where
   pub accepted : testPlan (x .plan) ≡ Accepted
   pub tidied : tidy (x .plan) ≡ x .plan
   pub cores-are : cores ≡ x .plan .cores
-  pub task-is : task ≡ x .plan .task
+  pub tasks-are : tasks ≡ x .plan .tasks
+  pub offsets-are : (i : ℕ) → i < 16 → row offsets i ≡ taskOf (x .plan .task) i .offset
   pub clock-is : clock ≡ history.clock (x .made)
   pub limit : to ≤ 4000000000
   pub room : 8 * x .entered ≤ length (x .lent)
+  pub some-room : 8 ≤ length (x .lent)
   pub stands : Stands x jobs work release owners out
 
 pub record Reaches (x : Standing) (k : ℕ) (jobs work release owners out : List ℕ) : Type 0 where

@@ -10,7 +10,6 @@ use native.Mathlib.Omega.{arith}
 use lib.ListN.{length, replicate}
 use Rattle.laws.specs.Tab.{tab, cut}
 use Rattle.tasks.specs.declared.Plan.{Plan}
-use Rattle.tasks.specs.declared.Task.{Task}
 use Rattle.tasks.specs.TaskSet.{TaskSet}
 use Rattle.tasks.specs.Content.{contentOf}
 use Rattle.machine.specs.Machine.{Machine, runs, tick, responses}
@@ -37,8 +36,8 @@ use Rattle.running.specs.OwnerLaws.{ownersTo, outTo, notes-are}
 use Rattle.running.specs.BookLaws.{book-wait, book-few, book-tick}
 use Rattle.running.specs.Leap.{Standing, later, Stands, Ready, Reaches}
 
-module _ (x : Standing) (cores : ℕ) (task : List Task) (clock to : ℕ) (jobs work release owners out : List ℕ)
-    (R : Ready x cores task clock to jobs work release owners out) (less : clock < to) where
+module _ (x : Standing) (cores tasks : ℕ) (offsets : List ℕ) (clock to : ℕ) (jobs work release owners out : List ℕ)
+    (R : Ready x cores tasks offsets clock to jobs work release owners out) (less : clock < to) where
   abbrev p : Plan
   p = x .plan
 
@@ -63,11 +62,11 @@ module _ (x : Standing) (cores : ℕ) (task : List Task) (clock to : ℕ) (jobs 
   ready-fit = fit-later 0 (omega arith)
 
   -- the keys that the choice leaves
-  left-is : (keys : List ℕ) → keys ≡ keysOf jobs release task → keysAfter keys cores ≡ left p M
+  left-is : (keys : List ℕ) → keys ≡ keysOf jobs release (x .plan .task) → keysAfter keys cores ≡ left p M
   unfolding left
-  left-is keys q = rw (q, R .stands .jobs-are, R .stands .release-are, R .task-is, R .cores-are)
+  left-is keys q = rw (q, R .stands .jobs-are, R .stands .release-are, R .cores-are)
 
-  module _ (keys : List ℕ) (keys-are : keys ≡ keysOf jobs release task) (d : ℕ)
+  module _ (keys : List ℕ) (keys-are : keys ≡ keysOf jobs release (x .plan .task)) (d : ℕ)
       (d-is : d ≡ lowest (keysAfter keys cores) jobs work (to - clock) 16) where
     least-is : lowest (left p M) (jobsIn M) (remainingIn M) (to - clock) 16 ≡ d
     least-is = rw (sym (left-is keys keys-are), sym (R .stands .jobs-are), sym (R .stands .work-are)) (sym d-is)
@@ -110,7 +109,7 @@ module _ (x : Standing) (cores : ℕ) (task : List Task) (clock to : ℕ) (jobs 
 
       left-there : left p N ≡ keysAfter keys cores
       unfolding left
-      left-there = rw (same-jobs, same-release, sym (R .task-is), sym (R .cores-are), keys-are)
+      left-there = rw (same-jobs, same-release, sym (R .cores-are), keys-are)
 
       -- what the turns of the code make
       all-turns :

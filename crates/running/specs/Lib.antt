@@ -10,3 +10,4 @@ pub mod LeapLaws
 pub mod EnterLaws
 pub mod Entered
 pub mod EndLaws
+pub mod ReadyLaws
