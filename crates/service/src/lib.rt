@@ -1,12 +1,13 @@
 // What a tick does to the arrays of the state, task by task.
 use choice::NO_KEY;
 ghost use mathlib.Core.Path.{_≡_};
-ghost use Prim.Native.Nat.{_-_, _<_};
+ghost use Prim.Native.Nat.{_-_, _<_, _≤_};
+ghost use Rattle.state.specs.Pick.{Jobless};
 ghost use Rattle.state.specs.Serve.{moved, turns};
 ghost use Rattle.state.specs.CodeLaws.{Turned, Are};
 
 // x − y, 0 where y is larger.
-fn less(x: u32, y: u32) -> u32
+pub fn less(x: u32, y: u32) -> u32
     ensures { λ r. ⌜ r ≡ x - y ⌝ }
 {
     if x < y {
@@ -16,7 +17,7 @@ fn less(x: u32, y: u32) -> u32
 }
 
 // The sixteen places of task `i` moved down by one, "oldest first", with the freed place zero.
-fn move_down(places: &mut [u32; 256], i: usize)
+pub fn move_down(places: &mut [u32; 256], i: usize)
     requires { ⌜ i < 16 ⌝ }
     ensures { λ r. ⌜ now (places .exit) ≡ moved i (now (places .entry)) ⌝ }
 {
@@ -64,7 +65,8 @@ fn turn(
     jobs[i] = jobs[i] - 1;
 }
 
-// A tick that ends at clock `finish`, for all tasks, with the keys that the choice left.
+// A tick that ends at clock `finish`, for all tasks, with the keys that the choice left. `tasks` is n: beyond it no task has a job, and no turn
+// would change anything.
 pub fn serve(
     finish: u32,
     keys: &[u64; 16],
@@ -72,7 +74,9 @@ pub fn serve(
     remaining: &mut [u32; 256],
     release: &mut [u32; 256],
     responses: &mut [u32; 16],
+    tasks: usize,
 )
+    requires { ⌜ (tasks ≤ 16) × Jobless tasks (now jobs) ⌝ }
     ensures { λ r. ⌜
         Are
         (turns finish (now (keys .entry))
@@ -87,7 +91,7 @@ pub fn serve(
         ⌝ }
 {
     let mut i = 0;
-    while i < 16 {
+    while i < tasks {
         turn(i, finish, keys[i], jobs, remaining, release, responses);
         i += 1;
     }
