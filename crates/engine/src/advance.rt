@@ -21,14 +21,15 @@ pub fn tick(state: State) -> Stepped
     let plan = state.plan;
     let task = plan.task;
     let cores = plan.cores;
+    let tasks = plan.tasks;
     let finish = state.clock + 1;
     let mut jobs = state.jobs;
     let released = state.released;
     let last = state.last;
     let mut remaining = state.remaining;
     let mut release = state.release;
-    let mut left = keys(&jobs, &release, task);
-    let runs = choose(&mut left, cores);
+    let mut left = keys(&jobs, &release, task, tasks);
+    let runs = choose(&mut left, cores, tasks);
     let mut responses = [0u32; 16];
     serve(
         finish,
@@ -37,6 +38,7 @@ pub fn tick(state: State) -> Stepped
         &mut remaining,
         &mut release,
         &mut responses,
+        tasks,
     );
     Stepped {
         answer: Answer::Accepted,

@@ -1,7 +1,8 @@
 // What a tick does to the arrays of the state, task by task.
 use choice::NO_KEY;
 ghost use mathlib.Core.Path.{_≡_};
-ghost use Prim.Native.Nat.{_-_, _<_};
+ghost use Prim.Native.Nat.{_-_, _<_, _≤_};
+ghost use Rattle.state.specs.Pick.{Jobless};
 ghost use Rattle.state.specs.Serve.{moved, turns};
 ghost use Rattle.state.specs.CodeLaws.{Turned, Are};
 
@@ -64,7 +65,8 @@ fn turn(
     jobs[i] = jobs[i] - 1;
 }
 
-// A tick that ends at clock `finish`, for all tasks, with the keys that the choice left.
+// A tick that ends at clock `finish`, for all tasks, with the keys that the choice left. `tasks` is n: beyond it no task has a job, and no turn
+// would change anything.
 pub fn serve(
     finish: u32,
     keys: &[u64; 16],
@@ -72,7 +74,9 @@ pub fn serve(
     remaining: &mut [u32; 256],
     release: &mut [u32; 256],
     responses: &mut [u32; 16],
+    tasks: usize,
 )
+    requires { ⌜ (tasks ≤ 16) × Jobless tasks (now jobs) ⌝ }
     ensures { λ r. ⌜
         Are
         (turns finish (now (keys .entry))
@@ -87,7 +91,7 @@ pub fn serve(
         ⌝ }
 {
     let mut i = 0;
-    while i < 16 {
+    while i < tasks {
         turn(i, finish, keys[i], jobs, remaining, release, responses);
         i += 1;
     }

@@ -4,6 +4,7 @@
 --     state-back       a sound state is the state of its machine
 --     machine-back     a machine that fits is the machine of its state
 --     in-task          a loop's task in the task set of a plan
+--     few-tasks, idle  a sound state has at most sixteen loops, and beyond its table no job and no release
 use Prim.Native.Nat.{ℕ, zero, suc, _+_, _-_, _*_, _/_, _%_, _≤_, _<_}
 use mathlib.Core.Bool.{Bool, true, false, false≢true, true≢false}
 use mathlib.Core.Path.{_≡_, refl, sym, ap, _∙_}
@@ -76,7 +77,7 @@ module _ (s : State) (S : Shaped s) (e : soundOf s ≡ true) where
   limits : Limits (contentOf (s .plan) .tasks)
   limits = plan-limits (s .plan) (parts .accepted)
 
-  few-tasks : s .plan .tasks ≤ 16
+  pub few-tasks : s .plan .tasks ≤ 16
   few-tasks = omega (arith, limits .tasks-high, in-count (s .plan))
 
   pub sound-tidied : tidy (s .plan) ≡ s .plan
@@ -126,7 +127,7 @@ module _ (s : State) (S : Shaped s) (e : soundOf s ≡ true) where
       go true q = loop i (ltb-true i 16 q) .few
       go false q = omega (arith, jobs-past i (ltb-false i 16 q))
 
-  idle : (i : ℕ) → s .plan .tasks ≤ i → (row (s .jobs) i ≡ 0) × (flagAt s i ≡ false)
+  pub idle : (i : ℕ) → s .plan .tasks ≤ i → (row (s .jobs) i ≡ 0) × (flagAt s i ≡ false)
   idle i h = go (ltb i 16) refl
     where
       go : (b : Bool) → ltb i 16 ≡ b → (row (s .jobs) i ≡ 0) × (flagAt s i ≡ false)

@@ -18,6 +18,7 @@ pub mod RankPickLaws
 pub mod TickLaws
 pub mod TurnLaws
 pub mod CodeLaws
+pub mod RestLaws
 pub mod StepLaws
 pub mod Tests
 pub mod CallLaws

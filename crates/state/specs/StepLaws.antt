@@ -2,7 +2,8 @@
 --     tick-code       a tick: the keys, the picks, and the turns of all loops
 --     admit-code      a release
 --     sound-limits    a sound state's plan is within the limits
-use Prim.Native.Nat.{ℕ, _+_, _*_, _<_}
+--     sound-few, sound-jobless    it has at most sixteen loops, and no job beyond them
+use Prim.Native.Nat.{ℕ, _+_, _*_, _≤_, _<_}
 use mathlib.Core.Bool.{true}
 use mathlib.Core.Path.{_≡_, sym, ap, subst, _∙_}
 use mathlib.Core.List.{List}
@@ -22,11 +23,11 @@ use Rattle.state.specs.declared.Stepped.{Stepped}
 use Rattle.state.specs.State.{jobsIn, releasedIn, lastIn, remainingIn, releaseIn, stateOf, machineOf}
 use Rattle.state.specs.SoundState.{soundOf}
 use Rattle.state.specs.Calls.{tasksOf, tickedOf}
-use Rattle.state.specs.Pick.{keysAfter, pickAt, keysOf}
+use Rattle.state.specs.Pick.{keysAfter, pickAt, keysOf, Jobless}
 use Rattle.state.specs.Serve.{turns}
 use Rattle.state.specs.CodeLaws.{Are}
 use Rattle.state.specs.Fit.{Shaped, Fit}
-use Rattle.state.specs.FitLaws.{plan-limits, machine-back, state-back, sound-fit}
+use Rattle.state.specs.FitLaws.{plan-limits, few-tasks, idle, machine-back, state-back, sound-fit}
 use Rattle.state.specs.ViewLaws.{row-jobs}
 use Rattle.state.specs.TickLaws.{runs-picked}
 use Rattle.state.specs.TurnLaws.{turned, ticked-state, all-responses, turns-are}
@@ -34,6 +35,12 @@ use Rattle.state.specs.AdmitLaws.{admitted-state}
 
 pub sound-limits : (s : State) → Shaped s → soundOf s ≡ true → Limits (contentOf (s .plan) .tasks)
 sound-limits s S e = plan-limits (s .plan) (sound-fit s S e .accepted)
+
+pub sound-few : (s : State) → Shaped s → soundOf s ≡ true → s .plan .tasks ≤ 16
+sound-few s S e = few-tasks s S e
+
+pub sound-jobless : (s : State) → Shaped s → soundOf s ≡ true → Jobless (s .plan .tasks) (s .jobs)
+sound-jobless s S e j h l = idle s S e j h .0
 
 -- the code of a tick, on the state t
 unfoldable pub TickCode : State → Type 0

@@ -1,5 +1,6 @@
 -- `service::serve` meets its contract; the loop's invariant says what its turns so far have made.
 use Rattle.state.specs.CodeLaws.{Are, turns-none, turns-more}
+use Rattle.state.specs.RestLaws.{turns-rest}
 use Rattle.state.specs.Serve.{turns}
 use Rattle.tasks.specs.TaskSet.{row}
 use borrow.Author.Needs.{needs}
@@ -10,12 +11,12 @@ use Rattle.service.proofs.serve.Statement.{statement}
 use Rattle.service.proofs.serve.Tie as tie
 
 abbrev Inv-loop : tie.InvT-loop
-Inv-loop finish keys jobs₀ remaining₀ release₀ responses₀ i₀ jobs remaining release responses i =
-    (i ≤ 16)
+Inv-loop finish keys jobs₀ remaining₀ release₀ responses₀ tasks i₀ jobs remaining release responses i =
+    (i ≤ tasks)
     × Are (turns finish keys (record { jobs = jobs₀; work = remaining₀; release = release₀; responses = responses₀ }) i) jobs remaining release responses
 
 abbrev μ-loop : tie.MeasureT-loop
-μ-loop finish keys jobs₀ remaining₀ release₀ responses₀ i₀ jobs remaining release responses i = 16 - i
+μ-loop finish keys jobs₀ remaining₀ release₀ responses₀ tasks i₀ jobs remaining release responses i = tasks - i
 
 loop-holds : tie.Need-loop-holds Inv-loop μ-loop
 loop-holds c = (omega arith, turns-none _ _ _ _ _ _)
@@ -43,7 +44,11 @@ loop-again c =
     (omega arith, turns-more (a .finish) (l .i) (a .keys .now) _ _ _ _ _ _ _ _ _ (l .inv .1) (c .turn .ensures))
 
 returns : tie.Need-returns Inv-loop μ-loop
-returns c = let e : c .before .loop .i ≡ 16 = omega arith in rw e at (c .before .loop .inv .1)
+returns c =
+    let a = c .before .before in
+    let l = c .before .loop in
+    let e : l .i ≡ a .args .tasks = omega arith in
+    rw (turns-rest (a .args .finish) (a .args .keys .now) _ (a .args .tasks) (a .pre .0) (a .pre .1), ← e) (l .inv .1)
 
 pub serve-spec : {M : Type 1} → statement M
 serve-spec =
