@@ -169,7 +169,7 @@ module _ (p : Plan) (l : List Entry) (out₀ : List ℕ) where
     unfolding calls
     made = rw (X .onward)
 
-    outcome-is : outcome E l e ≡ answerOf s machineAt i c
+    pub outcome-is : outcome E l e ≡ answerOf s machineAt i c
     unfolding outcome verdict
     outcome-is = rw (X .onward)
 

@@ -4,7 +4,7 @@
 --     later x k O          where it stands k steps later, with the owners O
 --     Ready x …            the arrays are those of where the run stands, the clock is its clock, and a leap up to `to` may be made
 --     Reaches x …          the arrays are those of some steps later, with some owners
-use Prim.Native.Nat.{ℕ, _*_, _≤_, _<_}
+use Prim.Native.Nat.{ℕ, _-_, _*_, _≤_, _<_}
 use mathlib.Core.Path.{_≡_}
 use mathlib.Core.List.{List}
 use lib.ListN.{length}
@@ -56,3 +56,19 @@ pub record Ready (x : Standing) (cores tasks : ℕ) (offsets : List ℕ) (clock 
 pub record Reaches (x : Standing) (k : ℕ) (jobs work release owners out : List ℕ) : Type 0 where
   pub owned-by : ℕ → List ℕ
   pub stands : Stands (later x k owned-by) jobs work release owners out
+
+-- ---- what the code of a leap, and of the leaps up to a tick, gives
+
+pub record Leapt (cores tasks : ℕ) (offsets : List ℕ) (clock to : ℕ) (jobs work release owners out : List ℕ)
+    (now : ℕ) (jobs′ work′ release′ owners′ out′ : List ℕ) : Type 0 where
+  pub onward : clock < now
+  pub within : now ≤ to
+  pub reaches :
+      (x : Standing) → Ready x cores tasks offsets clock to jobs work release owners out
+      → Reaches x (now - clock) jobs′ work′ release′ owners′ out′
+
+abbrev pub Advanced :
+    ℕ → ℕ → List ℕ → ℕ → ℕ → List ℕ → List ℕ → List ℕ → List ℕ → List ℕ → ℕ → List ℕ → List ℕ → List ℕ → List ℕ → List ℕ → Type 0
+Advanced cores tasks offsets clock to jobs work release owners out now jobs′ work′ release′ owners′ out′ =
+    (x : Standing) → Ready x cores tasks offsets clock to jobs work release owners out
+    → Reaches x (now - clock) jobs′ work′ release′ owners′ out′

@@ -11,3 +11,4 @@ pub mod EnterLaws
 pub mod Entered
 pub mod EndLaws
 pub mod ReadyLaws
+pub mod HandLaws

@@ -1,0 +1,2 @@
+// The run of a release log. Document 01, "Release logs".
+mod onward;

@@ -1,0 +1,139 @@
+-- An entry's release handed over at its tick, by the arrays.
+--     Columns p …            a plan's separations and budgets, in arrays of their own
+--     Handing p l out₀ e …   the run has come to entry e's tick, with the entry's three numbers and the plan's columns
+--     Handed                 what the code that hands it over gives: the entry is entered, and whether it was taken
+--     answer-20              a loop that isn't in the table
+--     answer-rest            one that is: the first of 21, 22 and 23, by the arrays
+--     hand-refused, hand-taken      the two ends of the code
+use Prim.Native.Nat.{ℕ, zero, suc, _+_, _*_, _≤_, _<_}
+use mathlib.Core.Bool.{Bool, true, false, cond}
+use mathlib.Core.Path.{_≡_, refl, sym, ap, subst, _∙_}
+use mathlib.Core.Option.{Option, none, some}
+use mathlib.Core.List.{List, [], _∷_}
+use native.Mathlib.Numerals.{add-one}
+use native.Mathlib.Omega.{arith}
+use lib.ListN.{length, getD, set}
+use lib.Seq.{sets}
+use lib.Dec.{leb}
+use borrow.Author.Tests.{le-leb, lt-leb}
+use Rattle.tasks.specs.declared.Plan.{Plan}
+use Rattle.tasks.specs.declared.Answer.{Answer}
+use Rattle.tasks.specs.declared.Answer.the-variants.{Accepted, Refused}
+use Rattle.tasks.specs.TaskSet.{TaskSet, row}
+use Rattle.tasks.specs.Content.{taskOf, contentOf}
+use Rattle.tasks.specs.Tests.{refuse, firstMet, outside}
+use Rattle.machine.specs.Machine.{Machine, within, tooSoon, full}
+use Rattle.state.specs.State.{flagOf, tickOf, lastOf, jobsIn, releasedIn, lastIn}
+use Rattle.state.specs.ViewLaws.{row-jobs, flag-in, row-last}
+use Rattle.state.specs.FitLaws.{in-task, in-count, plan-limits}
+use Rattle.state.specs.CallLaws.{admission}
+use Rattle.history.specs.Engine.{Outcome, taken, refused, isTaken, firstOf, state}
+use Rattle.history.specs.Log.{Entry, tickAt, loopAt, demandAt, outcome}
+use Rattle.history.specs.LogLaws.{clock-entry}
+use Rattle.history.specs.Report.{refusal}
+use Rattle.history.specs.OnMachine.{answerOf, machineEngine}
+use Rattle.history.specs.Balance.{machine-clock}
+use Rattle.logs.specs.LogBytes.{reportBytes}
+use Rattle.demand.specs.Delivered.{outcomeOf}
+use Rattle.running.specs.Entered.{Entered, AtTick, upTo, machineAt, outcome-is, refused-entered, taken-entered}
+
+pub record Columns (p : Plan) (tasks : ℕ) (separations budgets : List ℕ) : Type 0 where
+  pub tasks-are : tasks ≡ p .tasks
+  pub separations-are : (i : ℕ) → i < tasks → row separations i ≡ taskOf (p .task) i .separation
+  pub budgets-are : (i : ℕ) → i < tasks → row budgets i ≡ taskOf (p .task) i .budget
+
+pub record Handing (p : Plan) (l : List Entry) (out₀ : List ℕ) (e tick task demand tasks : ℕ) (separations budgets jobs : List ℕ)
+    (released : List Bool) (last work release owners out : List ℕ) : Type 0 where
+  pub at : AtTick p l out₀ e jobs released last work release owners out
+  pub less : e < length l
+  pub columns : Columns p tasks separations budgets
+  pub tick-is : tick ≡ tickAt l e
+  pub task-is : task ≡ loopAt l e
+  pub demand-is : demand ≡ demandAt l e
+
+-- 1 where entry e is taken, else 0
+abbrev pub takes : Plan → List Entry → ℕ → ℕ
+takes p l e = cond (isTaken (outcome (machineEngine (contentOf p .tasks)) l e)) 1 0
+
+abbrev pub Handed :
+    ℕ → ℕ → ℕ → ℕ → ℕ → List ℕ → List ℕ → List ℕ → List Bool → List ℕ → List ℕ → List ℕ → List ℕ → List ℕ → ℕ → List ℕ → List Bool → List ℕ
+    → List ℕ → List ℕ → List ℕ → List ℕ → Type 0
+Handed e tick task demand tasks separations budgets jobs released last work release owners out r jobs′ released′ last′ work′ release′ owners′ out′ =
+    (p : Plan) (l : List Entry) (out₀ : List ℕ)
+    → Handing p l out₀ e tick task demand tasks separations budgets jobs released last work release owners out
+    → Entered p l out₀ (e + 1) tick jobs′ released′ last′ work′ release′ owners′ out′ × (r ≡ takes p l e)
+
+-- a list of tests, in both forms
+first-outcome :
+    (a b c : Bool) → outcomeOf (firstMet (refuse 21 a ∷ refuse 22 b ∷ refuse 23 c ∷ [])) ≡ firstOf ((21, a) ∷ (22, b) ∷ (23, c) ∷ [])
+unfolding firstMet
+first-outcome true b c = refl
+first-outcome false true c = refl
+first-outcome false false true = refl
+first-outcome false false false = refl
+
+last-back : (o : Option ℕ) → lastOf (flagOf o) (tickOf o) ≡ o
+last-back none = refl
+last-back (some t) = refl
+
+module _ (p : Plan) (l : List Entry) (out₀ : List ℕ) (e tick task demand tasks : ℕ) (separations budgets jobs : List ℕ)
+    (released : List Bool) (last work release owners out : List ℕ)
+    (H : Handing p l out₀ e tick task demand tasks separations budgets jobs released last work release owners out) where
+  abbrev s : TaskSet
+  s = contentOf p .tasks
+
+  abbrev M : Machine
+  M = machineAt p l out₀ e jobs released last work release owners out (H .at) (H .less)
+
+  pub answer-20 : tasks ≤ task → answerOf s M (loopAt l e) (demandAt l e) ≡ refused 20
+  unfolding answerOf
+  answer-20 h =
+      rw (le-leb (s .count) (loopAt l e) (omega (arith, H .columns .tasks-are, in-count p, H .task-is)))
+
+  module _ (h : task < tasks) where
+    low : task < 16
+    low = omega (arith, H .columns .tasks-are, in-count p, plan-limits p (H .at .fitting .accepted) .tasks-high)
+
+    now : tick ≡ M .clock
+    now = H .tick-is ∙ sym (machine-clock s (upTo p l out₀ e) ∙ clock-entry l e (H .at .onward))
+
+    pub answer-rest :
+        outcomeOf (admission (row separations task) (row budgets task) tick demand (row jobs task) (getD released task false) (row last task))
+        ≡ answerOf s M (loopAt l e) (demandAt l e)
+    unfolding admission answerOf tooSoon full
+    answer-rest =
+        rw (
+          lt-leb (s .count) (loopAt l e) (omega (arith, H .columns .tasks-are, in-count p, H .task-is)),
+          H .at .running .jobs-are,
+          H .at .recent .released-are,
+          H .at .recent .last-are,
+          row-jobs M task low,
+          flag-in M task low,
+          row-last M task low,
+          last-back (M .lane task .last),
+          H .columns .separations-are task h,
+          H .columns .budgets-are task h,
+          now,
+          sym (H .task-is),
+          sym (H .demand-is),
+          in-task p task (omega (arith, H .columns .tasks-are)),
+        )
+        (first-outcome (outside 1 (taskOf (p .task) task .budget) demand) (within (taskOf (p .task) task .separation) (M .clock) (M .lane task .last)) (leb 16 (length (M .lane task .queue))))
+
+  pub hand-refused :
+      (n : ℕ) (out′ : List ℕ) → answerOf s M (loopAt l e) (demandAt l e) ≡ refused n → out′ ≡ sets out (8 * e) (reportBytes (refusal n))
+      → Entered p l out₀ (e + 1) tick jobs released last work release owners out′ × (0 ≡ takes p l e)
+  hand-refused n out′ met q =
+      (rw (add-one e, q, H .tick-is)
+      (refused-entered p l out₀ e jobs released last work release owners out (H .at) (H .less) n met),
+      rw (outcome-is p l out₀ e jobs released last work release owners out (H .at) (H .less), met))
+
+  pub hand-taken :
+      answerOf s M (loopAt l e) (demandAt l e) ≡ taken
+      → Entered p l out₀ (e + 1) tick (set jobs task (row jobs task + 1)) (set released task true) (set last task tick)
+      (set work (16 * task + row jobs task) demand) (set release (16 * task + row jobs task) tick) (set owners (16 * task + row jobs task) e) out
+      × (1 ≡ takes p l e)
+  hand-taken free =
+      (rw (add-one e, H .tick-is, H .task-is, H .demand-is)
+      (taken-entered p l out₀ e jobs released last work release owners out (H .at) (H .less) free),
+      rw (outcome-is p l out₀ e jobs released last work release owners out (H .at) (H .less), free))
