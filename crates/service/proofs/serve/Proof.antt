@@ -1,7 +1,7 @@
 -- `service::serve` meets its contract; the loop's invariant says what its turns so far have made.
 use Rattle.state.specs.CodeLaws.{Are, turns-none, turns-more}
 use Rattle.state.specs.RestLaws.{turns-rest}
-use Rattle.state.specs.Serve.{turns}
+use Rattle.state.specs.Serve.{Arrays, turns}
 use Rattle.tasks.specs.TaskSet.{row}
 use borrow.Author.Needs.{needs}
 use native.Mathlib.Omega.{arith}
@@ -48,7 +48,9 @@ returns c =
     let a = c .before .before in
     let l = c .before .loop in
     let e : l .i ≡ a .args .tasks = omega arith in
-    rw (turns-rest (a .args .finish) (a .args .keys .now) _ (a .args .tasks) (a .pre .0) (a .pre .1), ← e) (l .inv .1)
+    let x : Arrays =
+    record { jobs = a .args .jobs .now; work = a .args .remaining .now; release = a .args .release .now; responses = a .args .responses .now } in
+    rw (turns-rest (a .args .finish) (a .args .keys .now) x (a .args .tasks) (a .pre .0) (a .pre .1), ← e) (l .inv .1)
 
 pub serve-spec : {M : Type 1} → statement M
 serve-spec =

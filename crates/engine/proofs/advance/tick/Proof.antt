@@ -1,7 +1,10 @@
 -- `engine::advance::tick` meets its contract.
-use Rattle.state.specs.StepLaws.{sound-limits, TickCode, tick-code}
+use Rattle.state.specs.StepLaws.{sound-limits, sound-few, sound-jobless, TickCode, tick-code}
+use Rattle.state.specs.RestLaws.{keys-rest}
 use Rattle.state.specs.FitLaws.{in-cores}
 use Rattle.state.specs.Fit.{Shaped, length-mapped}
+use Rattle.state.specs.Pick.{Jobless}
+use Prim.Native.Nat.{_≤_}
 use native.Mathlib.Omega.{arith}
 use borrow.Author.Needs.{needs}
 use Rattle.engine.proofs.advance.tick.Statement.{statement}
@@ -19,19 +22,29 @@ shape c =
       release = search needs;
     }
 
+-- beyond the state's table nobody has a job
+beyond : (c : tie.Start) → (c .args .state .plan .tasks ≤ 16) × Jobless (c .args .state .plan .tasks) (c .args .state .jobs)
+beyond c =
+    let t = c .args .state in
+    (sound-few t (shape c) (c .pre .0), sound-jobless t (shape c) (c .pre .0))
+
 add-finish : tie.Need-add-finish
 add-finish c = search needs
 
 keys-requires : tie.Need-keys-requires
-keys-requires c κs = search needs
+keys-requires c κs = beyond (c .before .before .before .before .before .before .before .before .before .before)
 
 choose-requires : tie.Need-choose-requires
 choose-requires c κs =
     let a = c .before .before .before .before .before .before .before .before .before .before .before .before in
-    omega (arith, sound-limits (a .args .state) (shape a) (a .pre .0) .cores-high, in-cores (a .args .state .plan))
+    let t = a .args .state in (
+      omega (arith, sound-limits t (shape a) (a .pre .0) .cores-high, in-cores (t .plan)),
+      beyond a .0,
+      rw (c .before .keys .ensures) (keys-rest (t .jobs) (t .release) (t .plan .tasks) (beyond a .1) (t .plan .task)),
+    )
 
 serve-requires : tie.Need-serve-requires
-serve-requires c κs = search needs
+serve-requires c κs = beyond (c .before .before .before .before .before .before .before .before .before .before .before .before .before .before .before .before .before .before)
 
 returns : tie.Need-returns
 unfolding TickCode
