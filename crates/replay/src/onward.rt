@@ -23,8 +23,8 @@ fn leap(
     out: &mut [u8],
 ) -> u32
     requires { ⌜
-        (x : Standing)
-        × Ready x cores tasks (now offsets) clock to (now jobs) (now remaining) (now release) (now owners) (now out) × (clock < to)
+        ((x : Standing) × Ready x cores tasks (now offsets) clock to (now jobs) (now remaining) (now release) (now owners) (now out))
+        × (clock < to)
         ⌝ }
     ensures { λ r. ⌜
         Leapt cores tasks (now (offsets .entry)) clock to
@@ -65,8 +65,8 @@ pub fn advance(
     out: &mut [u8],
 )
     requires { ⌜
-        (x : Standing)
-        × Ready x cores tasks (now offsets) from to (now jobs) (now remaining) (now release) (now owners) (now out) × (from ≤ to)
+        ((x : Standing) × Ready x cores tasks (now offsets) from to (now jobs) (now remaining) (now release) (now owners) (now out))
+        × (from ≤ to)
         ⌝ }
     ensures { λ r. ⌜
         Advanced cores tasks (now (offsets .entry)) from to

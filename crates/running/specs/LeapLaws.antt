@@ -1,25 +1,29 @@
 -- A leap's code reaches where it says.
 --     ready-fit       the machine fits its plan
 --     leap-ticks      how many ticks a leap takes: at least one, and not past its end
+--     leap-responses  no loop beyond the table has a response
 --     leap-reaches    what its code makes of the arrays, the owners and the answer
 use Prim.Native.Nat.{ℕ, zero, suc, _+_, _-_, _*_, _≤_, _<_}
+use mathlib.Core.Bool.{Bool, true, false, cond}
 use mathlib.Core.Path.{_≡_, refl, sym, ap, subst, _∙_}
 use mathlib.Core.List.{List}
 use native.Mathlib.Nat.{le-refl}
 use native.Mathlib.Omega.{arith}
 use lib.ListN.{length, replicate}
 use Rattle.laws.specs.Tab.{tab, cut}
+use Rattle.laws.specs.TabLaws.{getD-tab}
 use Rattle.tasks.specs.declared.Plan.{Plan}
-use Rattle.tasks.specs.TaskSet.{TaskSet}
+use Rattle.tasks.specs.TaskSet.{TaskSet, row}
 use Rattle.tasks.specs.Content.{contentOf}
-use Rattle.machine.specs.Machine.{Machine, runs, tick, responses}
+use Rattle.machine.specs.Machine.{Machine, runs, tick, response, responses}
+use Rattle.machine.specs.Choice.{earliest}
 use Rattle.state.specs.declared.State.{State}
 use Rattle.state.specs.State.{jobsIn, remainingIn, releaseIn, stateOf}
 use Rattle.state.specs.Pick.{keysAfter, keysOf}
 use Rattle.state.specs.Serve.{Arrays, turns}
 use Rattle.state.specs.CodeLaws.{Are}
 use Rattle.state.specs.Fit.{Fit}
-use Rattle.state.specs.FitLaws.{plan-limits}
+use Rattle.state.specs.FitLaws.{plan-limits, in-count}
 use Rattle.state.specs.KeptLaws.{reached-fit}
 use Rattle.state.specs.TurnLaws.{turned, ticked-state, all-responses, turns-are}
 use Rattle.history.specs.Engine as history
@@ -138,6 +142,20 @@ module _ (x : Standing) (cores tasks : ℕ) (offsets : List ℕ) (clock to : ℕ
                 responses = tab (cut 16 (responses (runs s N) N) 0) 16;
               }
           all = rw (ends, q, sym same-jobs, sym same-release, sym left-there) (turns-are p N fits 16 (le-refl _))
+
+      pub leap-responses :
+          (w jobs′ work′ release′ resp : List ℕ) → w ≡ loweredTo (keysAfter keys cores) jobs (d - 1) work 16
+          → Are (turns (clock + d) (keysAfter keys cores) (record { jobs = jobs; work = w; release = release; responses = replicate 16 0 }) 16)
+          jobs′ work′ release′ resp
+          → (j : ℕ) → tasks ≤ j → j < 16 → row resp j ≡ 0
+      unfolding row responses
+      leap-responses w jobs′ work′ release′ resp wq A j far low =
+          rw (all-turns w jobs′ work′ release′ resp (low-work w wq) A .3)
+          (getD-tab (responses (runs s N) N) 16 j 0 low ∙ none (runs s N j) refl)
+        where
+          none : (b : Bool) → runs s N j ≡ b → cond b (response (suc (N .clock)) (N .lane j .queue)) 0 ≡ 0
+          none true q = absurd (omega (arith, earliest s N .heads j q .0, in-count p, R .tasks-are))
+          none false q = refl
 
       pub leap-reaches :
           (w jobs′ work′ release′ resp owners′ out′ : List ℕ) → w ≡ loweredTo (keysAfter keys cores) jobs (d - 1) work 16

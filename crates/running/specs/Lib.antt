@@ -11,4 +11,5 @@ pub mod EnterLaws
 pub mod Entered
 pub mod EndLaws
 pub mod ReadyLaws
+pub mod LeapCode
 pub mod HandLaws
