@@ -24,6 +24,7 @@ fn runs(i: usize, left: &[u64; 16], jobs: &[usize; 16]) -> bool
     left[i] == NO_KEY
 }
 
+// The turn of task `i`: where it runs, the lower of `low` and its head's remaining work.
 fn least_turn(
     i: usize,
     left: &[u64; 16],
@@ -66,6 +67,7 @@ pub fn least(
     low
 }
 
+// The turn of task `i`: where it runs, its head has `k` ticks of work less.
 fn lower_turn(i: usize, left: &[u64; 16], jobs: &[usize; 16], remaining: &mut [u32; 256], k: u32)
     requires { ⌜ i < 16 ⌝ }
     ensures { λ r. ⌜
@@ -95,6 +97,7 @@ pub fn lower(left: &[u64; 16], jobs: &[usize; 16], remaining: &mut [u32; 256], t
     }
 }
 
+// The turn of task `i`: a response of 0 says that none of its jobs finished.
 fn note_turn(i: usize, finish: u32, responses: &[u32; 16], owners: &mut [u32; 256], out: &mut [u8])
     requires { ⌜ (i < 16) × Owing (now owners) (now out) ⌝ }
     ensures { λ r. ⌜

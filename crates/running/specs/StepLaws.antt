@@ -12,7 +12,7 @@ use mathlib.Core.List.{List, [], _∷_}
 use native.Mathlib.Nat.{zero-add, suc-add}
 use native.Mathlib.Numerals.{add-one}
 use native.Mathlib.Omega.{arith}
-use lib.ListN.{length, getD, set}
+use lib.ListN.{length, set}
 use lib.Seq.{sets, length-sets}
 use lib.Dec.{ltb}
 use borrow.Author.Tests.{eq-eqb, le-ltb}
@@ -27,7 +27,7 @@ abbrev pub Unused : ℕ → List ℕ → Type 0
 Unused n l = (n ≤ 16) × ((j : ℕ) → n ≤ j → j < 16 → row l j ≡ 0)
 
 still : {A : Type 0} (at : ℕ → A) (n : ℕ) → n ≤ 16 → ((i : ℕ) → n ≤ i → i < 16 → at (suc i) ≡ at i) → at n ≡ at 16
-still {A} at n h same =
+still at n h same =
     let e : 16 - n + n ≡ 16 = omega arith in
     go (16 - n) (omega arith) ∙ ap at e
   where
