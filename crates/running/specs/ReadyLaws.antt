@@ -5,6 +5,7 @@
 --     reaches-none                  no leap: the run stands where it stood
 --     reaches-ready                 where a leap leads, the next may be made
 --     reaches-more                  two leaps are one
+--     advanced-none, advanced-ready, advanced-more      before the first leap, between two, and after one more
 use Prim.Native.Nat.{ℕ, zero, suc, _+_, _-_, _*_, _/_, _%_, _≤_, _<_, max}
 use mathlib.Core.Bool.{Bool, true, false}
 use mathlib.Core.Path.{_≡_, refl, sym, ap, subst, _∙_}
@@ -29,7 +30,7 @@ use Rattle.history.specs.Log.{wait}
 use Rattle.history.specs.OnMachine.{machineEngine}
 use Rattle.running.specs.Running.{ownersIn, Below}
 use Rattle.running.specs.StepLaws.{Unused, Owing}
-use Rattle.running.specs.Leap.{Standing, later, Stands, Ready, Reaches}
+use Rattle.running.specs.Leap.{Standing, later, Stands, Ready, Reaches, Leapt, Advanced}
 use Rattle.running.specs.LeapLaws.{ready-fit}
 use Rattle.running.specs.EndLaws.{wait-wait}
 
@@ -99,3 +100,36 @@ module _ (x : Standing) (cores tasks : ℕ) (offsets : List ℕ) (clock to : ℕ
               subst (λ h. Stands (record { plan = x .plan; log = x .log; lent = x .lent; entered = x .entered; made = h; owners = T .owned-by }) jobs″ work″ release″ owners″ out″)
               (wait-wait d k (x .made) ∙ ap (λ (m : ℕ). wait m (x .made)) (sym e)) (T .stands);
         }
+
+-- ---- leap after leap
+
+module _ (cores tasks : ℕ) (offsets : List ℕ) (from to : ℕ) (jobs work release owners out : List ℕ) where
+  pub advanced-none : Advanced cores tasks offsets from to jobs work release owners out from jobs work release owners out
+  advanced-none x R =
+      let z : from - from ≡ 0 = omega arith in
+      rw z (reaches-none x cores tasks offsets from to jobs work release owners out R)
+
+  module _ (clock : ℕ) (jobs′ work′ release′ owners′ out′ : List ℕ) (later-on : from ≤ clock)
+      (A : Advanced cores tasks offsets from to jobs work release owners out clock jobs′ work′ release′ owners′ out′) where
+    back : clock ≡ from + (clock - from)
+    back = omega arith
+
+    pub advanced-ready :
+        ((x : Standing) × Ready x cores tasks offsets from to jobs work release owners out)
+        → (x : Standing) × Ready x cores tasks offsets clock to jobs′ work′ release′ owners′ out′
+    advanced-ready P =
+        let S = A (P .0) (P .1) in
+        (later (P .0) (clock - from) (S .owned-by),
+        reaches-ready (P .0) cores tasks offsets from to jobs work release owners out (P .1) (clock - from) jobs′ work′ release′ owners′ out′ S clock back)
+
+    pub advanced-more :
+        (now : ℕ) (jobs″ work″ release″ owners″ out″ : List ℕ)
+        → Leapt cores tasks offsets clock to jobs′ work′ release′ owners′ out′ now jobs″ work″ release″ owners″ out″
+        → Advanced cores tasks offsets from to jobs work release owners out now jobs″ work″ release″ owners″ out″
+    advanced-more now jobs″ work″ release″ owners″ out″ L x R =
+        let S = A x R in
+        let T =
+        L .reaches (later x (clock - from) (S .owned-by))
+        (reaches-ready x cores tasks offsets from to jobs work release owners out R (clock - from) jobs′ work′ release′ owners′ out′ S clock back) in
+        reaches-more x cores tasks offsets from to jobs work release owners out R (clock - from) jobs′ work′ release′ owners′ out′ S (now - clock)
+        jobs″ work″ release″ owners″ out″ T (now - from) (omega (arith, L .onward))
