@@ -3,8 +3,14 @@
 
 #![forbid(unsafe_code)]
 
+mod engine;
+mod engine_tally;
+mod forms;
 mod tally;
 
+pub use engine::{compare_release, compare_step, compare_steps};
+pub use engine_tally::EngineTally;
+pub use forms::{to_fast, to_proved};
 pub use tally::Tally;
 
 use reference::Table;
