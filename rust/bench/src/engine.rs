@@ -10,39 +10,48 @@ use comparison::{to_fast, to_proved};
 use reference::{Plan, State, Table, judge};
 use samples::{Random, Shape, brisk, busy, tight};
 
-use crate::turns::{TURNS, best, median_ratio, seconds};
+use crate::turns::{best, median, seconds};
 
-/// States timed of each kind, and how often a turn goes through them.
-const STATES: usize = 100;
-const PASSES: usize = 4;
+/// States timed of each kind.
+const STATES: usize = 50;
+
+/// Turns that each form takes, each once through the states: short ones, so that some are not
+/// disturbed by other work.
+const TURNS: usize = 801;
 
 /// Ticks after the first step of a row.
 const MORE: usize = 32;
 
 const SHAPE: Shape = Shape { cores: 8, tasks: 16 };
 
-/// The seconds of a turn: a step, and a tick.
+/// The seconds of each turn: a step, and a row of steps.
 #[derive(Default)]
 struct Times {
     step: Vec<f64>,
-    tick: Vec<f64>,
+    row: Vec<f64>,
 }
 
 impl Times {
     /// A turn of a form that takes a state and makes so many more steps after the first.
     fn take_turn<S>(&mut self, states: &[S], form: impl Fn(&S, usize)) {
-        let row = |more| {
+        let timed = |more| {
             let pass = || states.iter().for_each(|state| form(black_box(state), more));
-            seconds(PASSES, pass) / states.len() as f64
+            seconds(1, pass) / states.len() as f64
         };
-        let (step, steps) = (row(0), row(MORE));
-        self.step.push(step);
-        self.tick.push((steps - step) / MORE as f64);
+        self.step.push(timed(0));
+        self.row.push(timed(MORE));
+    }
+
+    /// A tick by the best turn or by the median one.
+    fn tick(&self, by: fn(&[f64]) -> f64) -> f64 {
+        (by(&self.row) - by(&self.step)) / MORE as f64
     }
 }
 
 pub fn run() {
-    println!("states of 16 tasks on 8 cores, each task with 16 jobs, {STATES} of each kind");
+    println!(
+        "states of 16 tasks on 8 cores, each task with 16 jobs, {STATES} of each kind, {TURNS} turns"
+    );
     time("jobs finish in nearly every tick", |random| brisk(random, SHAPE));
     time("jobs seldom finish", |random| tight(random, SHAPE));
 }
@@ -57,19 +66,21 @@ fn time(kind: &str, make: fn(&mut Random) -> Table) {
         plain.take_turn(&plain_states, plain_row);
     }
     println!("{kind}:");
-    print("step", &proved.step, &plain.step);
-    print("tick", &proved.tick, &plain.tick);
+    let step = |by: fn(&[f64]) -> f64| (by(&proved.step), by(&plain.step));
+    let tick = |by| (proved.tick(by), plain.tick(by));
+    print("step", step(best), step(median));
+    print("tick", tick(best), tick(median));
 }
 
-fn print(name: &str, proved: &[f64], plain: &[f64]) {
-    let (best_proved, best_plain) = (best(proved), best(plain));
+/// The seconds of the proved and of the plain form, by the best turn and by the median one.
+fn print(name: &str, best: (f64, f64), median: (f64, f64)) {
     println!(
-        "  {name}: proved {:7.0} ns  plain {:7.0} ns  \
-         time ratio proved/plain {:.2} (median of turns {:.2})",
-        1e9 * best_proved,
-        1e9 * best_plain,
-        best_proved / best_plain,
-        median_ratio(proved, plain),
+        "  {name}: proved {:5.0} ns  plain {:5.0} ns  \
+         time ratio proved/plain {:.2} (of the median turns {:.2})",
+        1e9 * best.0,
+        1e9 * best.1,
+        best.0 / best.1,
+        median.0 / median.1,
     );
 }
 

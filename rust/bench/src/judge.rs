@@ -4,11 +4,14 @@
 
 use std::hint::black_box;
 
-use crate::turns::{TURNS, best, median_ratio, seconds};
+use crate::turns::{best, median_ratio, seconds};
 use samples::{Random, Shape, tight};
 
 /// Tables timed for each number of tasks.
 const TABLES: usize = 500;
+
+/// Turns that each form takes.
+const TURNS: usize = 41;
 
 /// A turn goes through all tables this often.
 const PASSES: usize = 8;

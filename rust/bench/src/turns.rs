@@ -1,11 +1,8 @@
 //! What the benchmarks share. The forms that are compared take turns, so that other work on the
-//! machine slows all of them alike. Of each form the best turn counts; the median of the turns'
-//! ratios is printed beside it.
+//! machine slows all of them alike. Of each form the best turn counts; the ratio of the median
+//! turns, or the median of the turns' ratios, is printed beside it.
 
 use std::time::Instant;
-
-/// Turns that each form takes.
-pub const TURNS: usize = 41;
 
 /// The seconds of one pass, of so many.
 pub fn seconds(passes: usize, mut pass: impl FnMut()) -> f64 {
@@ -20,8 +17,14 @@ pub fn best(turns: &[f64]) -> f64 {
     turns.iter().copied().fold(f64::INFINITY, f64::min)
 }
 
+pub fn median(turns: &[f64]) -> f64 {
+    let mut sorted = turns.to_vec();
+    sorted.sort_by(f64::total_cmp);
+    sorted[sorted.len() / 2]
+}
+
+/// The median of the turns' ratios.
 pub fn median_ratio(proved: &[f64], plain: &[f64]) -> f64 {
-    let mut ratios: Vec<f64> = proved.iter().zip(plain).map(|(a, b)| a / b).collect();
-    ratios.sort_by(f64::total_cmp);
-    ratios[ratios.len() / 2]
+    let ratios: Vec<f64> = proved.iter().zip(plain).map(|(a, b)| a / b).collect();
+    median(&ratios)
 }

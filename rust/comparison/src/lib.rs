@@ -1,5 +1,6 @@
-//! Compares the proved judgement, and the plain one written for speed, with the reference: the
-//! answer and every byte of the lent buffer and around it.
+//! Compares the proved code, and the plain code written for speed, with the reference: of a
+//! judgement the answer and every byte of the lent buffer and around it, of a release or a step the
+//! answer and every field that it hands back.
 
 #![forbid(unsafe_code)]
 

@@ -102,7 +102,8 @@ pub fn release(state: &mut State, task: usize, demand: u32) -> Result<(), Refusa
 /// A step and `more` after it: the last one's answer and report; the state becomes the one that it
 /// hands back. Only the first tests whether the state is sound.
 pub fn steps(state: &mut State, more: usize) -> (Result<(), Refusal>, Report) {
-    let mut report = Report { runs: [0; 8], responses: [0; 16] };
+    // What no step reports, so that a part that is left unwritten shows.
+    let mut report = Report { runs: [0xee; 8], responses: [u32::MAX; 16] };
     let answer = ffi::trial_steps(
         &mut state.offered,
         &mut state.cores,
