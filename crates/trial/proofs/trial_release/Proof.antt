@@ -1,8 +1,5 @@
 -- `trial::trial_release` meets its contract.
-use mathlib.Core.Path.{_∙_, ap}
-use Rattle.state.specs.declared.State.{State}
-use Rattle.state.specs.Calls.{releaseOf}
-use Rattle.trial.specs.TrialLaws.{release-left}
+use Rattle.trial.specs.Trials.{ReleaseLeaves}
 use borrow.Author.Needs.{needs}
 use Rattle.trial.proofs.trial_release.Statement.{statement}
 use Rattle.trial.proofs.trial_release.Tie as tie
@@ -20,13 +17,10 @@ code-requires : tie.Need-code-requires
 code-requires c κs = search needs
 
 returns : tie.Need-returns
+unfolding ReleaseLeaves
 returns c =
-    let a = c .before .before .before .before .before .before .before .before .before .before .before .before .before .before .before .before .before .before .before .before .before .before .before .before .before .before .before .before .before .before .before .before .args in
-    release-left _ _ _ _ _ _ _ _ _ _ _ _ _ _ _ _ _
-    (c .before .before .before .before .before .before .before .before .before .before .before .before .before .before .before .before .before .release .ensures
-    ∙ ap (λ (s : State). releaseOf s (a .task) (a .demand)) (c .before .before .before .before .before .before .before .before .before .before .before .before .before .before .before .before .before .before .assembled .ensures))
-    (c .code .ensures)
-    (c .before .hand-back .ensures)
+    let e = rw (c .before .before .before .before .before .before .before .before .before .before .before .before .before .before .before .before .before .before .assembled .ensures) at (c .before .before .before .before .before .before .before .before .before .before .before .before .before .before .before .before .before .release .ensures) in
+    (rw e at (c .code .ensures), rw e at (c .before .hand-back .ensures))
 
 pub trial-release-spec : {M : Type 1} → statement M
 trial-release-spec =

@@ -1,8 +1,5 @@
 -- `trial::trial_steps` meets its contract.
-use mathlib.Core.Path.{_∙_, ap}
-use Rattle.state.specs.declared.State.{State}
-use Rattle.trial.specs.Trials.{stepsOf}
-use Rattle.trial.specs.TrialLaws.{steps-left}
+use Rattle.trial.specs.Trials.{StepsLeave}
 use borrow.Author.Needs.{needs}
 use Rattle.trial.proofs.trial_steps.Statement.{statement}
 use Rattle.trial.proofs.trial_steps.Tie as tie
@@ -20,13 +17,10 @@ code-requires : tie.Need-code-requires
 code-requires c κs = search needs
 
 returns : tie.Need-returns
+unfolding StepsLeave
 returns c =
-    let a = c .before .before .before .before .before .before .before .before .before .before .before .before .before .before .before .before .before .before .before .before .before .before .before .before .before .before .before .before .before .before .before .before .before .before .args in
-    steps-left _ _ _ _ _ _ _ _ _ _ _ _ _ _ _ _ _
-    (c .before .before .before .before .before .before .before .before .before .before .before .before .before .before .before .before .before .before .before .steps .ensures
-    ∙ ap (λ (s : State). stepsOf s (a .more)) (c .before .before .before .before .before .before .before .before .before .before .before .before .before .before .before .before .before .before .before .before .assembled .ensures))
-    (c .code .ensures)
-    (c .before .hand-back .ensures)
+    let e = rw (c .before .before .before .before .before .before .before .before .before .before .before .before .before .before .before .before .before .before .before .before .assembled .ensures) at (c .before .before .before .before .before .before .before .before .before .before .before .before .before .before .before .before .before .before .before .steps .ensures) in
+    (rw e at (c .code .ensures), rw e at (c .before .hand-back .ensures), rw e, rw e)
 
 pub trial-steps-spec : {M : Type 1} → statement M
 trial-steps-spec =
