@@ -3,9 +3,11 @@
 --     step-kept            a step that isn't refused keeps that; tick-kept: so does a tick
 --     steps-next           a tick is the next step; steps-end: at the clock's end the rest of the steps are refused 19
 --     steps-refused        where the first step is refused, so is each later one
+--     release-left, steps-left    what is left behind, from what the code's parts ensure
 use Prim.Native.Nat.{ℕ, zero, suc, _+_, _<_}
-use mathlib.Core.Bool.{true}
+use mathlib.Core.Bool.{Bool, true}
 use mathlib.Core.Path.{_≡_, refl, sym, _∙_, ap}
+use mathlib.Core.List.{List}
 use mathlib.Core.Logic.{⊎-elim}
 use native.Mathlib.Nat.{not-suc-le-zero, le-of-suc-le-suc, eq-or-lt-of-le}
 use native.Mathlib.Numerals.{add-one}
@@ -16,15 +18,16 @@ use Rattle.tasks.specs.declared.Answer.{Answer}
 use Rattle.tasks.specs.declared.Answer.the-variants.{Accepted, Refused}
 use Rattle.tasks.specs.Tests.{firstMet}
 use Rattle.state.specs.declared.State.{State}
+use Rattle.state.specs.declared.Released.{Released}
 use Rattle.state.specs.declared.Stepped.{Stepped}
 use Rattle.state.specs.State.{machineOf}
 use Rattle.state.specs.SoundState.{soundOf}
 use Rattle.state.specs.Calls.{unlessRefused, tasksOf, stepTests, tickedOf, notStepped, stepOf}
 use Rattle.state.specs.CallLaws.{step-passed, step-refused, step-taken}
-use Rattle.state.specs.Fit.{Shaped, Fit}
+use Rattle.state.specs.Fit.{Shaped}
 use Rattle.state.specs.FitLaws.{sound-fit, fit-sound, shaped}
 use Rattle.state.specs.KeptLaws.{ticked-fit}
-use Rattle.trial.specs.Trials.{followed}
+use Rattle.trial.specs.Trials.{answerCode, followed, TasksLeft, PlanLeft, StateLeft, ReleaseLeaves, StepsLeave}
 
 pub record Kept (s : State) : Type 0 where
   pub shape : Shaped s
@@ -102,3 +105,20 @@ module _ (r : Stepped) (i : ℕ) (t : Stepped) (e : t ≡ followed r i) (K : Kep
 
       refused : stepOf (t .state) .answer ≡ Refused 19 0
       refused = sym (ap (λ (u : Stepped). u .answer) here)
+
+-- what is left behind, said of an answer that is equal to another
+module _
+    (offered : Bool) (cores tasks : ℕ) (labels T C Y slack : List ℕ) (clock : ℕ) (jobs : List ℕ) (released : List Bool)
+    (last remaining release : List ℕ) (r : ℕ) where
+  pub release-left :
+      (a b : Released) → a ≡ b → r ≡ answerCode (a .answer) → TasksLeft (a .state .plan .task) T C Y
+      → PlanLeft (a .state .plan) offered cores tasks labels slack → StateLeft (a .state) clock jobs released last remaining release → ReleaseLeaves b r offered cores tasks labels T C Y slack clock jobs released last remaining release
+  unfolding ReleaseLeaves
+  release-left a b e q t p s = (rw e at q, rw e at t, rw e at p, rw e at s)
+
+  pub steps-left :
+      (runs responses : List ℕ) (a b : Stepped) → a ≡ b → (r ≡ answerCode (a .answer)) × (runs ≡ a .runs) × (responses ≡ a .responses)
+      → TasksLeft (a .state .plan .task) T C Y → PlanLeft (a .state .plan) offered cores tasks labels slack → StateLeft (a .state) clock jobs released last remaining release
+      → StepsLeave b r offered cores tasks labels T C Y slack clock jobs released last remaining release runs responses
+  unfolding StepsLeave
+  steps-left runs responses a b e q t p s = (rw e at q, rw e at t, rw e at p, rw e at s)

@@ -1,8 +1,8 @@
 -- What the functions lent to the Rust tests answer and leave behind.
 --     answerCode                 an answer as one number
---     entry, handed              the state whose fields were handed over; separationsOf … offsetsOf: a plan's tasks, field by field
---     stepsOf s k                the answer of the last of k + 1 steps
---     Holds                      the fields that are left behind are a state's
+--     tasksIn, planIn, stateIn   the state whose fields were handed over
+--     stepsOf s k                the answer of the last of k + 1 steps; followed: after a first one
+--     TasksLeft, PlanLeft, StateLeft    the fields that are left behind are a state's
 --     ReleaseLeaves, StepsLeave  all that a release, and steps, leave behind
 use Prim.Native.Nat.{ℕ, zero, suc, _+_, _*_}
 use mathlib.Core.Bool.{Bool}
@@ -10,6 +10,7 @@ use mathlib.Core.Path.{_≡_}
 use mathlib.Core.List.{List}
 use Rattle.laws.specs.Tab.{tab}
 use Rattle.tasks.specs.declared.Task.{Task}
+use Rattle.tasks.specs.declared.Plan.{Plan}
 use Rattle.tasks.specs.declared.Answer.{Answer}
 use Rattle.tasks.specs.declared.Answer.the-variants.{Accepted, Refused}
 use Rattle.tasks.specs.TaskSet.{row}
@@ -43,33 +44,28 @@ followed r (suc k) = stepOf (followed r k .state)
 unfoldable pub stepsOf : State → ℕ → Stepped
 stepsOf s k = followed (stepOf s) k
 
--- the plan's fields, the clock, and the fields of the jobs, in the order of the record
-unfoldable pub handed :
-    Bool → ℕ → ℕ → List ℕ → List ℕ → List ℕ → List ℕ → List ℕ → ℕ → List ℕ → List Bool → List ℕ → List ℕ → List ℕ → State
-handed offered cores tasks labels T C Y slack clock jobs released last remaining release =
-    record {
-      plan = record { offered = offered; cores = cores; tasks = tasks; labels = labels; task = tab (entry T C Y) 16; slack = slack };
-      clock = clock;
-      jobs = jobs;
-      released = released;
-      last = last;
-      remaining = remaining;
-      release = release;
-    }
+unfoldable pub tasksIn : List ℕ → List ℕ → List ℕ → List Task
+tasksIn T C Y = tab (entry T C Y) 16
 
-unfoldable pub Holds :
-    State
-    → Bool → ℕ → ℕ → List ℕ → List ℕ → List ℕ → List ℕ → List ℕ → ℕ → List ℕ → List Bool → List ℕ → List ℕ → List ℕ → Type 0
-Holds s offered cores tasks labels T C Y slack clock jobs released last remaining release =
-    (offered ≡ s .plan .offered)
-    × (cores ≡ s .plan .cores)
-    × (tasks ≡ s .plan .tasks)
-    × (labels ≡ s .plan .labels)
-    × (T ≡ separationsOf (s .plan .task))
-    × (C ≡ budgetsOf (s .plan .task))
-    × (Y ≡ offsetsOf (s .plan .task))
-    × (slack ≡ s .plan .slack)
-    × (clock ≡ s .clock)
+-- the fields of a plan, and the other fields of a state, in the order of the records
+unfoldable pub planIn : Bool → ℕ → ℕ → List ℕ → List Task → List ℕ → Plan
+planIn offered cores tasks labels task slack =
+    record { offered = offered; cores = cores; tasks = tasks; labels = labels; task = task; slack = slack }
+
+unfoldable pub stateIn : Plan → ℕ → List ℕ → List Bool → List ℕ → List ℕ → List ℕ → State
+stateIn p clock jobs released last remaining release =
+    record { plan = p; clock = clock; jobs = jobs; released = released; last = last; remaining = remaining; release = release }
+
+unfoldable pub TasksLeft : List Task → List ℕ → List ℕ → List ℕ → Type 0
+TasksLeft l T C Y = (T ≡ separationsOf l) × (C ≡ budgetsOf l) × (Y ≡ offsetsOf l)
+
+unfoldable pub PlanLeft : Plan → Bool → ℕ → ℕ → List ℕ → List ℕ → Type 0
+PlanLeft p offered cores tasks labels slack =
+    (offered ≡ p .offered) × (cores ≡ p .cores) × (tasks ≡ p .tasks) × (labels ≡ p .labels) × (slack ≡ p .slack)
+
+unfoldable pub StateLeft : State → ℕ → List ℕ → List Bool → List ℕ → List ℕ → List ℕ → Type 0
+StateLeft s clock jobs released last remaining release =
+    (clock ≡ s .clock)
     × (jobs ≡ s .jobs)
     × (released ≡ s .released)
     × (last ≡ s .last)
@@ -77,19 +73,17 @@ Holds s offered cores tasks labels T C Y slack clock jobs released last remainin
     × (release ≡ s .release)
 
 -- a release's answer as a number, and its state's fields
-unfoldable pub ReleaseLeaves :
-    Released → ℕ
-    → Bool → ℕ → ℕ → List ℕ → List ℕ → List ℕ → List ℕ → List ℕ → ℕ → List ℕ → List Bool → List ℕ → List ℕ → List ℕ → Type 0
+unfoldable pub ReleaseLeaves : Released → ℕ → Bool → ℕ → ℕ → List ℕ → List ℕ → List ℕ → List ℕ → List ℕ → ℕ → List ℕ → List Bool → List ℕ → List ℕ → List ℕ → Type 0
 ReleaseLeaves a r offered cores tasks labels T C Y slack clock jobs released last remaining release =
-    (r ≡ answerCode (a .answer)) × Holds (a .state) offered cores tasks labels T C Y slack clock jobs released last remaining release
-
--- a step's answer as a number, its state's fields, what ran on each core, and the responses
-unfoldable pub StepsLeave :
-    Stepped → ℕ
-    → Bool → ℕ → ℕ → List ℕ → List ℕ → List ℕ → List ℕ → List ℕ → ℕ → List ℕ → List Bool → List ℕ → List ℕ → List ℕ
-    → List ℕ → List ℕ → Type 0
-StepsLeave a r offered cores tasks labels T C Y slack clock jobs released last remaining release runs responses =
     (r ≡ answerCode (a .answer))
-    × Holds (a .state) offered cores tasks labels T C Y slack clock jobs released last remaining release
-    × (runs ≡ a .runs)
-    × (responses ≡ a .responses)
+    × TasksLeft (a .state .plan .task) T C Y
+    × PlanLeft (a .state .plan) offered cores tasks labels slack
+    × StateLeft (a .state) clock jobs released last remaining release
+
+-- a step's answer as a number, what ran on each core, the responses, and its state's fields
+unfoldable pub StepsLeave : Stepped → ℕ → Bool → ℕ → ℕ → List ℕ → List ℕ → List ℕ → List ℕ → List ℕ → ℕ → List ℕ → List Bool → List ℕ → List ℕ → List ℕ → List ℕ → List ℕ → Type 0
+StepsLeave a r offered cores tasks labels T C Y slack clock jobs released last remaining release runs responses =
+    ((r ≡ answerCode (a .answer)) × (runs ≡ a .runs) × (responses ≡ a .responses))
+    × TasksLeft (a .state .plan .task) T C Y
+    × PlanLeft (a .state .plan) offered cores tasks labels slack
+    × StateLeft (a .state) clock jobs released last remaining release

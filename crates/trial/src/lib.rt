@@ -8,9 +8,8 @@ use tasks::Answer;
 use tasks::Plan;
 use tasks::Task;
 ghost use mathlib.Core.Path.{_≡_};
-ghost use Rattle.laws.specs.Tab.{tab};
 ghost use Rattle.state.specs.Calls.{releaseOf};
-ghost use Rattle.trial.specs.Trials.{answerCode, entry, separationsOf, budgetsOf, offsetsOf, stepsOf, handed, Holds, ReleaseLeaves, StepsLeave};
+ghost use Rattle.trial.specs.Trials.{answerCode, separationsOf, budgetsOf, offsetsOf, stepsOf, tasksIn, planIn, stateIn, TasksLeft, PlanLeft, StateLeft, ReleaseLeaves, StepsLeave};
 
 const CLOCK: u8 = 19;
 
@@ -32,7 +31,7 @@ fn code(answer: Answer) -> u64
 }
 
 fn entries(separation: &[u32; 16], budget: &[u32; 16], offset: &[u32; 16]) -> [Task; 16]
-    ensures { λ r. ⌜ r ≡ tab (entry (now (separation .entry)) (now (budget .entry)) (now (offset .entry))) 16 ⌝ }
+    ensures { λ r. ⌜ r ≡ tasksIn (now (separation .entry)) (now (budget .entry)) (now (offset .entry)) ⌝ }
 {
     let mut task = [Task {
         separation: 0,
@@ -102,16 +101,32 @@ fn steps(state: State, more: usize) -> Stepped
     stepped
 }
 
-// The state whose fields were handed over.
-fn assembled(
+// The plan whose fields were handed over.
+fn plan_in(
     offered: bool,
     cores: usize,
     tasks: usize,
     labels: &[u8; 8],
-    separation: &[u32; 16],
-    budget: &[u32; 16],
-    offset: &[u32; 16],
+    task: [Task; 16],
     slack: &[u32; 16],
+) -> Plan
+    ensures { λ r. ⌜ r ≡ planIn offered cores tasks (now (labels .entry)) task (now (slack .entry)) ⌝ }
+{
+    let labels = *labels;
+    let slack = *slack;
+    Plan {
+        offered,
+        cores,
+        tasks,
+        labels,
+        task,
+        slack,
+    }
+}
+
+// The state of that plan.
+fn state_in(
+    plan: Plan,
     clock: u32,
     jobs: &[usize; 16],
     released: &[bool; 16],
@@ -120,29 +135,17 @@ fn assembled(
     release: &[u32; 256],
 ) -> State
     ensures { λ r. ⌜
-        r
-        ≡ handed offered cores tasks (now (labels .entry)) (now (separation .entry)) (now (budget .entry)) (now (offset .entry))
-        (now (slack .entry)) clock (now (jobs .entry)) (now (released .entry)) (now (last .entry)) (now (remaining .entry))
+        r ≡ stateIn plan clock (now (jobs .entry)) (now (released .entry)) (now (last .entry)) (now (remaining .entry))
         (now (release .entry))
         ⌝ }
 {
-    let labels = *labels;
-    let task = entries(separation, budget, offset);
-    let slack = *slack;
     let jobs = *jobs;
     let released = *released;
     let last = *last;
     let remaining = *remaining;
     let release = *release;
     State {
-        plan: Plan {
-            offered,
-            cores,
-            tasks,
-            labels,
-            task,
-            slack,
-        },
+        plan,
         clock,
         jobs,
         released,
@@ -152,17 +155,52 @@ fn assembled(
     }
 }
 
-// The fields of a state, each to where the caller has its own.
-fn hand_back(
+// The fields of a state's tasks, each to where the caller has its own.
+fn put_tasks(
+    state: State,
+    separation: &mut [u32; 16],
+    budget: &mut [u32; 16],
+    offset: &mut [u32; 16],
+)
+    ensures { λ _. ⌜ TasksLeft (state .plan .task) (now (separation .exit)) (now (budget .exit)) (now (offset .exit)) ⌝ }
+{
+    let plan = state.plan;
+    let task = plan.task;
+    let columns = columns_of(task);
+    let separation_after = columns.separation;
+    let budget_after = columns.budget;
+    let offset_after = columns.offset;
+    *separation = separation_after;
+    *budget = budget_after;
+    *offset = offset_after;
+}
+
+// The other fields of its plan.
+fn put_plan(
     state: State,
     offered: &mut bool,
     cores: &mut usize,
     tasks: &mut usize,
     labels: &mut [u8; 8],
-    separation: &mut [u32; 16],
-    budget: &mut [u32; 16],
-    offset: &mut [u32; 16],
     slack: &mut [u32; 16],
+)
+    ensures { λ _. ⌜
+        PlanLeft (state .plan) (now (offered .exit)) (now (cores .exit)) (now (tasks .exit)) (now (labels .exit)) (now (slack .exit))
+        ⌝ }
+{
+    let plan = state.plan;
+    let labels_after = plan.labels;
+    let slack_after = plan.slack;
+    *offered = plan.offered;
+    *cores = plan.cores;
+    *tasks = plan.tasks;
+    *labels = labels_after;
+    *slack = slack_after;
+}
+
+// The fields beside the plan.
+fn put_state(
+    state: State,
     clock: &mut u32,
     jobs: &mut [usize; 16],
     released: &mut [bool; 16],
@@ -171,38 +209,35 @@ fn hand_back(
     release: &mut [u32; 256],
 )
     ensures { λ _. ⌜
-        Holds state (now (offered .exit)) (now (cores .exit)) (now (tasks .exit)) (now (labels .exit)) (now (separation .exit))
-        (now (budget .exit)) (now (offset .exit)) (now (slack .exit)) (now (clock .exit)) (now (jobs .exit)) (now (released .exit))
-        (now (last .exit)) (now (remaining .exit)) (now (release .exit))
+        StateLeft state (now (clock .exit)) (now (jobs .exit)) (now (released .exit)) (now (last .exit)) (now (remaining .exit))
+        (now (release .exit))
         ⌝ }
 {
-    let plan = state.plan;
-    let task = plan.task;
-    let columns = columns_of(task);
-    let labels_after = plan.labels;
-    let separation_after = columns.separation;
-    let budget_after = columns.budget;
-    let offset_after = columns.offset;
-    let slack_after = plan.slack;
     let jobs_after = state.jobs;
     let released_after = state.released;
     let last_after = state.last;
     let remaining_after = state.remaining;
     let release_after = state.release;
-    *offered = plan.offered;
-    *cores = plan.cores;
-    *tasks = plan.tasks;
-    *labels = labels_after;
-    *separation = separation_after;
-    *budget = budget_after;
-    *offset = offset_after;
-    *slack = slack_after;
     *clock = state.clock;
     *jobs = jobs_after;
     *released = released_after;
     *last = last_after;
     *remaining = remaining_after;
     *release = release_after;
+}
+
+// What ran on each core, and the responses; the answer comes back as a number.
+fn put_report(stepped: Stepped, runs: &mut [u8; 8], responses: &mut [u32; 16]) -> u64
+    ensures { λ r. ⌜
+        (r ≡ answerCode (stepped .answer)) × (now (runs .exit) ≡ stepped .runs) × (now (responses .exit) ≡ stepped .responses)
+        ⌝ }
+{
+    let answer = stepped.answer;
+    let runs_after = stepped.runs;
+    let responses_after = stepped.responses;
+    *runs = runs_after;
+    *responses = responses_after;
+    code(answer)
 }
 
 // A release of a task, with its demand, on the state behind the pointers.
@@ -226,52 +261,23 @@ pub extern "C" fn trial_release(
     demand: u32,
 ) -> u64
     ensures { λ r. ⌜
-        ReleaseLeaves (releaseOf
-        (handed (now (offered .entry)) (now (cores .entry)) (now (tasks .entry)) (now (labels .entry)) (now (separation .entry))
-        (now (budget .entry)) (now (offset .entry)) (now (slack .entry)) (now (clock .entry)) (now (jobs .entry)) (now (released .entry))
-        (now (last .entry)) (now (remaining .entry)) (now (release .entry)))
-        task demand)
-        r (now (offered .exit)) (now (cores .exit)) (now (tasks .exit)) (now (labels .exit)) (now (separation .exit))
-        (now (budget .exit)) (now (offset .exit)) (now (slack .exit)) (now (clock .exit)) (now (jobs .exit)) (now (released .exit))
-        (now (last .exit)) (now (remaining .exit)) (now (release .exit))
+        ReleaseLeaves (releaseOf (stateIn (planIn (now (offered .entry)) (now (cores .entry)) (now (tasks .entry)) (now (labels .entry))
+        (tasksIn (now (separation .entry)) (now (budget .entry)) (now (offset .entry))) (now (slack .entry))) (now (clock .entry))
+        (now (jobs .entry)) (now (released .entry)) (now (last .entry)) (now (remaining .entry)) (now (release .entry))) task demand) r
+        (now (offered .exit)) (now (cores .exit)) (now (tasks .exit)) (now (labels .exit)) (now (separation .exit)) (now (budget .exit))
+        (now (offset .exit)) (now (slack .exit)) (now (clock .exit)) (now (jobs .exit)) (now (released .exit)) (now (last .exit))
+        (now (remaining .exit)) (now (release .exit))
         ⌝ }
 {
-    let state = assembled(
-        *offered,
-        *cores,
-        *tasks,
-        labels,
-        separation,
-        budget,
-        offset,
-        slack,
-        *clock,
-        jobs,
-        released,
-        last,
-        remaining,
-        release,
-    );
+    let list = entries(separation, budget, offset);
+    let plan = plan_in(*offered, *cores, *tasks, labels, list, slack);
+    let state = state_in(plan, *clock, jobs, released, last, remaining, release);
     let done = engine::release(state, task, demand);
     let answer = done.answer;
     let after = done.state;
-    hand_back(
-        after,
-        offered,
-        cores,
-        tasks,
-        labels,
-        separation,
-        budget,
-        offset,
-        slack,
-        clock,
-        jobs,
-        released,
-        last,
-        remaining,
-        release,
-    );
+    put_tasks(after, separation, budget, offset);
+    put_plan(after, offered, cores, tasks, labels, slack);
+    put_state(after, clock, jobs, released, last, remaining, release);
     code(answer)
 }
 
@@ -297,55 +303,21 @@ pub extern "C" fn trial_steps(
     more: usize,
 ) -> u64
     ensures { λ r. ⌜
-        StepsLeave (stepsOf
-        (handed (now (offered .entry)) (now (cores .entry)) (now (tasks .entry)) (now (labels .entry)) (now (separation .entry))
-        (now (budget .entry)) (now (offset .entry)) (now (slack .entry)) (now (clock .entry)) (now (jobs .entry)) (now (released .entry))
-        (now (last .entry)) (now (remaining .entry)) (now (release .entry)))
-        more)
-        r (now (offered .exit)) (now (cores .exit)) (now (tasks .exit)) (now (labels .exit)) (now (separation .exit))
-        (now (budget .exit)) (now (offset .exit)) (now (slack .exit)) (now (clock .exit)) (now (jobs .exit)) (now (released .exit))
-        (now (last .exit)) (now (remaining .exit)) (now (release .exit)) (now (runs .exit)) (now (responses .exit))
+        StepsLeave (stepsOf (stateIn (planIn (now (offered .entry)) (now (cores .entry)) (now (tasks .entry)) (now (labels .entry)) (tasksIn
+        (now (separation .entry)) (now (budget .entry)) (now (offset .entry))) (now (slack .entry))) (now (clock .entry))
+        (now (jobs .entry)) (now (released .entry)) (now (last .entry)) (now (remaining .entry)) (now (release .entry))) more) r
+        (now (offered .exit)) (now (cores .exit)) (now (tasks .exit)) (now (labels .exit)) (now (separation .exit)) (now (budget .exit))
+        (now (offset .exit)) (now (slack .exit)) (now (clock .exit)) (now (jobs .exit)) (now (released .exit)) (now (last .exit))
+        (now (remaining .exit)) (now (release .exit)) (now (runs .exit)) (now (responses .exit))
         ⌝ }
 {
-    let state = assembled(
-        *offered,
-        *cores,
-        *tasks,
-        labels,
-        separation,
-        budget,
-        offset,
-        slack,
-        *clock,
-        jobs,
-        released,
-        last,
-        remaining,
-        release,
-    );
+    let list = entries(separation, budget, offset);
+    let plan = plan_in(*offered, *cores, *tasks, labels, list, slack);
+    let state = state_in(plan, *clock, jobs, released, last, remaining, release);
     let done = steps(state, more);
-    let answer = done.answer;
     let after = done.state;
-    let runs_after = done.runs;
-    let responses_after = done.responses;
-    hand_back(
-        after,
-        offered,
-        cores,
-        tasks,
-        labels,
-        separation,
-        budget,
-        offset,
-        slack,
-        clock,
-        jobs,
-        released,
-        last,
-        remaining,
-        release,
-    );
-    *runs = runs_after;
-    *responses = responses_after;
-    code(answer)
+    put_tasks(after, separation, budget, offset);
+    put_plan(after, offered, cores, tasks, labels, slack);
+    put_state(after, clock, jobs, released, last, remaining, release);
+    put_report(done, runs, responses)
 }

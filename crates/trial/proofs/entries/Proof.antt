@@ -3,7 +3,7 @@ use Rattle.tasks.specs.TaskSet.{row}
 use Rattle.tasks.specs.Content.{noTask}
 use Rattle.laws.specs.TabLaws.{filled-none, filled-next, cut-all}
 use Rattle.laws.specs.Tab.{tab, cut}
-use Rattle.trial.specs.Trials.{entry}
+use Rattle.trial.specs.Trials.{entry, tasksIn}
 use borrow.Author.Needs.{needs}
 use native.Mathlib.Omega.{arith}
 use Prim.Native.Nat.{_≤_, _-_}
@@ -61,6 +61,7 @@ loop-again c =
     )
 
 returns : tie.Need-returns Inv-loop μ-loop
+unfolding tasksIn
 returns c =
     let l = c .before .loop in
     let e : l .i ≡ 16 = omega arith in
