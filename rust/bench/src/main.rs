@@ -1,105 +1,13 @@
-//! Times the proved judgement against the plain one written for speed, on tight tables without
-//! slack, and prints tables per second and the ratio of their times.
-//!
-//! Both judge the same tables, each into one buffer that is not cleared between calls. They take
-//! turns, so that other work on the machine slows both alike. Of each form the best turn counts;
-//! the median of the turns' ratios is printed beside it.
+//! Times the proved code against the plain code written for speed, in the same run: the judgement,
+//! and the engine's step and tick.
 
 #![forbid(unsafe_code)]
 
-use std::hint::black_box;
-use std::time::Instant;
-
-use samples::{Random, Shape, tight};
-
-/// Tables timed for each number of tasks.
-const TABLES: usize = 500;
-
-/// Turns that each form takes.
-const TURNS: usize = 41;
-
-/// A turn goes through all tables this often.
-const PASSES: usize = 8;
-
-const SHAPES: [Shape; 3] =
-    [Shape { cores: 2, tasks: 3 }, Shape { cores: 4, tasks: 8 }, Shape { cores: 8, tasks: 16 }];
-
-/// A judgement's n, or the number and index of its refusal.
-type Answer = Result<usize, (u32, u32)>;
-type Form = fn(&[u8], &mut [u8]) -> Answer;
-
-fn proved(table: &[u8], out: &mut [u8]) -> Answer {
-    dahomike::judge(table, out).map_err(|refusal| (refusal.number, refusal.index))
-}
-
-fn plain(table: &[u8], out: &mut [u8]) -> Answer {
-    fast::judge(table, out).map_err(|refusal| (refusal.number, refusal.index))
-}
+mod engine;
+mod judge;
+mod turns;
 
 fn main() {
-    println!("tight tables without slack, {TABLES} of each size, {TURNS} turns of {PASSES} passes");
-    for shape in SHAPES {
-        let tables = accepted_tables(shape);
-        check(&tables);
-        let (proved_turns, plain_turns) = take_turns(&tables);
-        let (proved, plain) = (best(&proved_turns), best(&plain_turns));
-        println!(
-            "{:2} tasks on {} cores: proved {:8.0}/s  plain {:8.0}/s  \
-             time ratio proved/plain {:.2} (median of turns {:.2})",
-            shape.tasks,
-            shape.cores,
-            1.0 / proved,
-            1.0 / plain,
-            proved / plain,
-            median_ratio(&proved_turns, &plain_turns),
-        );
-    }
-}
-
-/// Tight tables that are accepted, so that each is judged to its end.
-fn accepted_tables(shape: Shape) -> Vec<Vec<u8>> {
-    let mut random = Random::new(2011);
-    std::iter::repeat_with(|| tight(&mut random, shape).bytes())
-        .filter(|table| reference::judge(table).is_ok())
-        .take(TABLES)
-        .collect()
-}
-
-/// Both forms give the same answer on every table that is timed.
-fn check(tables: &[Vec<u8>]) {
-    for table in tables {
-        let (mut by_proved, mut by_plain) = ([0; 128], [0; 128]);
-        assert_eq!(proved(table, &mut by_proved), plain(table, &mut by_plain), "{table:?}");
-        assert_eq!(by_proved, by_plain, "{table:?}");
-    }
-}
-
-/// The seconds a table of each turn, of the proved and of the plain form.
-fn take_turns(tables: &[Vec<u8>]) -> (Vec<f64>, Vec<f64>) {
-    let turns =
-        (0..TURNS).map(|_| (seconds_a_table(proved, tables), seconds_a_table(plain, tables)));
-    turns.unzip()
-}
-
-fn seconds_a_table(form: Form, tables: &[Vec<u8>]) -> f64 {
-    let mut out = [0; 128];
-    let start = Instant::now();
-    for _ in 0..PASSES {
-        for table in tables {
-            let answer = black_box(form)(black_box(table), &mut out);
-            black_box(&out);
-            assert!(answer.is_ok());
-        }
-    }
-    start.elapsed().as_secs_f64() / (PASSES * tables.len()) as f64
-}
-
-fn best(turns: &[f64]) -> f64 {
-    turns.iter().copied().fold(f64::INFINITY, f64::min)
-}
-
-fn median_ratio(proved: &[f64], plain: &[f64]) -> f64 {
-    let mut ratios: Vec<f64> = proved.iter().zip(plain).map(|(a, b)| a / b).collect();
-    ratios.sort_by(f64::total_cmp);
-    ratios[ratios.len() / 2]
+    judge::run();
+    engine::run();
 }

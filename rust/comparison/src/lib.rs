@@ -1,10 +1,17 @@
-//! Compares the proved judgement, and the plain one written for speed, with the reference: the
-//! answer and every byte of the lent buffer and around it.
+//! Compares the proved code, and the plain code written for speed, with the reference: of a
+//! judgement the answer and every byte of the lent buffer and around it, of a release or a step the
+//! answer and every field that it hands back.
 
 #![forbid(unsafe_code)]
 
+mod engine;
+mod engine_tally;
+mod forms;
 mod tally;
 
+pub use engine::{compare_release, compare_step, compare_steps};
+pub use engine_tally::EngineTally;
+pub use forms::{to_fast, to_proved};
 pub use tally::Tally;
 
 use reference::Table;

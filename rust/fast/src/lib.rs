@@ -1,14 +1,18 @@
-//! The judgement of a show table written for speed, which the proved code is timed against:
-//! numbers of at most 64 bits, no heap, one pass over the tasks where one is enough, and one
-//! division by H and one by m for each round of the slack search.
+//! The judgement of a show table and the engine's release and step written for speed, which the
+//! proved code is timed against: numbers of at most 64 bits, no heap, one pass over the tasks where
+//! one is enough, and one division by H and one by m for each round of the slack search.
 
 #![forbid(unsafe_code)]
 
+mod engine;
 mod slack;
 mod table;
 
+pub use engine::{Report, State};
+pub use table::Tasks;
+
 use slack::Demand;
-use table::{Sections, TASKS, Tasks};
+use table::{Sections, TASKS};
 
 /// Why a table was refused: the number of document 01 and the index that it gives with it.
 #[derive(Clone, Copy, Debug, PartialEq, Eq)]
@@ -45,16 +49,10 @@ fn slack(demand: &Demand, tasks: &Tasks, offer: &[[u8; 4]]) -> Result<[u32; TASK
     }
 }
 
-/// 13 and 24, and the answer's bytes.
+/// 24, and the answer's bytes.
 fn write(tasks: &Tasks, slack: &[u32; TASKS], out: &mut [u8]) -> Result<usize, Refusal> {
     let count = tasks.count;
-    let mut bounds = [0; TASKS];
-    for k in 0..count {
-        bounds[k] = u64::from(tasks.offset[k]) + u64::from(slack[k]) + u64::from(tasks.budget[k]);
-        if bounds[k] > 16 * u64::from(tasks.separation[k]) {
-            return refuse(13, k);
-        }
-    }
+    let bounds = bounds(tasks, slack)?;
     let Some(out) = out.get_mut(..8 * count) else {
         return refuse(24, 0);
     };
@@ -62,6 +60,18 @@ fn write(tasks: &Tasks, slack: &[u32; TASKS], out: &mut [u8]) -> Result<usize, R
         *entry = (bounds[k] << 32 | u64::from(slack[k])).to_le_bytes();
     }
     Ok(count)
+}
+
+/// The bound of each task: 13.
+fn bounds(tasks: &Tasks, slack: &[u32; TASKS]) -> Result<[u64; TASKS], Refusal> {
+    let mut bounds = [0; TASKS];
+    for k in 0..tasks.count {
+        bounds[k] = u64::from(tasks.offset[k]) + u64::from(slack[k]) + u64::from(tasks.budget[k]);
+        if bounds[k] > 16 * u64::from(tasks.separation[k]) {
+            return refuse(13, k);
+        }
+    }
+    Ok(bounds)
 }
 
 fn refuse<T>(number: u32, index: usize) -> Result<T, Refusal> {

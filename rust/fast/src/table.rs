@@ -39,21 +39,27 @@ impl<'a> Sections<'a> {
 
     /// The number of cores: 3 and 4.
     pub fn cores(&self) -> Result<usize, Refusal> {
-        if !(2..=8).contains(&self.labels.len()) {
-            return refuse(3, 0);
-        }
-        let mut lowest = 0;
-        for (core, &label) in self.labels.iter().enumerate() {
-            if label < lowest || label > 63 {
-                return refuse(4, core);
-            }
-            lowest = label + 1;
-        }
-        Ok(self.labels.len())
+        cores_of(self.labels)
     }
 }
 
-/// The tasks, field by field.
+/// The number of cores with these labels: 3 and 4.
+pub fn cores_of(labels: &[u8]) -> Result<usize, Refusal> {
+    if !(2..=8).contains(&labels.len()) {
+        return refuse(3, 0);
+    }
+    let mut lowest = 0;
+    for (core, &label) in labels.iter().enumerate() {
+        if label < lowest || label > 63 {
+            return refuse(4, core);
+        }
+        lowest = label + 1;
+    }
+    Ok(labels.len())
+}
+
+/// The tasks, field by field, with zeros past `count`.
+#[derive(Clone, Debug, PartialEq, Eq)]
 pub struct Tasks {
     pub count: usize,
     pub separation: [u32; TASKS],
@@ -87,6 +93,23 @@ impl Tasks {
             }
         }
         Ok(tasks)
+    }
+
+    /// Whether tasks that are not read from bytes pass 5 to 8, with zeros past `count`.
+    pub fn pass(&self, cores: usize) -> bool {
+        let count = self.count;
+        if count <= cores || count > TASKS {
+            return false;
+        }
+        let fields = self.separation.iter().zip(&self.budget).zip(&self.offset);
+        fields.enumerate().all(|(i, ((&separation, &budget), &offset))| {
+            if i >= count {
+                return separation == 0 && budget == 0 && offset == 0;
+            }
+            separation.wrapping_sub(1) < LONGEST_SEPARATION
+                && budget.wrapping_sub(1) < separation
+                && offset <= separation
+        })
     }
 }
 

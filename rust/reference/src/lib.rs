@@ -1,16 +1,20 @@
-//! The judgement of a show table, written from document 01 alone, in its order and with its words
-//! beside each step. It is what the proved code is compared with, so it is plain before it is
-//! quick: numbers are 128 bits wide, and nothing is worked out in a shorter way than the document
-//! says it.
+//! The judgement of a show table and the engine's release and step, written from document 01 alone,
+//! in its order and with its words beside each step. They are what the proved code is compared
+//! with, so they are plain before they are quick: the judgement's numbers are 128 bits wide, and
+//! nothing is worked out in a shorter way than the document says it.
 
 #![forbid(unsafe_code)]
 
+mod engine;
 mod plan;
 mod slack;
+mod state;
 mod table;
 
+pub use engine::{IDLE, Released, Stepped, chosen, points, release, step};
 pub use plan::{Plan, judge, judge_into, write};
 pub use slack::Analysis;
+pub use state::{Clause, Job, LAST_TICK, MOST_JOBS, State, broken, open};
 pub use table::{Table, Task};
 
 /// A refused call "returns its number and an index".

@@ -1,0 +1,38 @@
+-- `trial::trial_release` meets its contract.
+use Rattle.trial.specs.TrialLaws.{release-left}
+use borrow.Author.Needs.{needs}
+use Rattle.trial.proofs.trial_release.Statement.{statement}
+use Rattle.trial.proofs.trial_release.Tie as tie
+
+entries-requires : tie.Need-entries-requires
+entries-requires c κs = search needs
+
+plan-in-requires : tie.Need-plan-in-requires
+plan-in-requires c κs = search needs
+
+state-in-requires : tie.Need-state-in-requires
+state-in-requires c κs = search needs
+
+release-requires : tie.Need-release-requires
+release-requires c κs = search needs
+
+put-tasks-requires : tie.Need-put-tasks-requires
+put-tasks-requires c κs = search needs
+
+put-plan-requires : tie.Need-put-plan-requires
+put-plan-requires c κs = search needs
+
+put-state-requires : tie.Need-put-state-requires
+put-state-requires c κs = search needs
+
+code-requires : tie.Need-code-requires
+code-requires c κs = search needs
+
+returns : tie.Need-returns
+returns c =
+    release-left _ _ _ _ _ _ _ _ _ _ _ _ _ _ _ (c .before .before .before .before .before .before .before .before .before .before .before .before .before .before .before .before .before .before .before .release .result) _
+    (rw (rw (rw (c .before .before .before .before .before .before .before .before .before .before .before .before .before .before .before .before .before .before .before .before .before .before .before .before .before .before .before .before .before .before .before .before .entries .ensures) at (c .before .before .before .before .before .before .before .before .before .before .before .before .before .before .before .before .before .before .before .before .before .before .before .before .before .before .before .plan-in .ensures)) at (c .before .before .before .before .before .before .before .before .before .before .before .before .before .before .before .before .before .before .before .before .state-in .ensures)) at (c .before .before .before .before .before .before .before .before .before .before .before .before .before .before .before .before .before .before .before .release .ensures))
+    (c .code .ensures) (c .before .before .before .before .before .before .before .before .before .before .before .before .before .before .put-tasks .ensures) (c .before .before .before .before .before .before .before .before .put-plan .ensures) (c .before .put-state .ensures)
+
+pub trial-release-spec : {M : Type 1} → statement M
+trial-release-spec = tie.close (tie.spec entries-requires plan-in-requires state-in-requires release-requires put-tasks-requires put-plan-requires put-state-requires code-requires returns)

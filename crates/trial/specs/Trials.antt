@@ -1,0 +1,89 @@
+-- What the functions lent to the Rust tests answer and leave behind.
+--     answerCode                 an answer as one number
+--     tasksIn, planIn, stateIn   the state whose fields were handed over
+--     stepsOf s k                the answer of the last of k + 1 steps; followed: after a first one
+--     TasksLeft, PlanLeft, StateLeft    the fields that are left behind are a state's
+--     ReleaseLeaves, StepsLeave  all that a release, and steps, leave behind
+use Prim.Native.Nat.{ℕ, zero, suc, _+_, _*_}
+use mathlib.Core.Bool.{Bool}
+use mathlib.Core.Path.{_≡_}
+use mathlib.Core.List.{List}
+use Rattle.laws.specs.Tab.{tab}
+use Rattle.tasks.specs.declared.Task.{Task}
+use Rattle.tasks.specs.declared.Plan.{Plan}
+use Rattle.tasks.specs.declared.Answer.{Answer}
+use Rattle.tasks.specs.declared.Answer.the-variants.{Accepted, Refused}
+use Rattle.tasks.specs.TaskSet.{row}
+use Rattle.tasks.specs.Content.{taskOf}
+use Rattle.state.specs.declared.State.{State}
+use Rattle.state.specs.declared.Released.{Released}
+use Rattle.state.specs.declared.Stepped.{Stepped}
+use Rattle.state.specs.Calls.{stepOf}
+
+unfoldable pub answerCode : Answer → ℕ
+answerCode Accepted = 0
+answerCode (Refused k i) = 4294967296 * k + i
+
+unfoldable pub entry : List ℕ → List ℕ → List ℕ → ℕ → Task
+entry T C Y i = record { separation = row T i; budget = row C i; offset = row Y i }
+
+unfoldable pub separationsOf : List Task → List ℕ
+separationsOf l = tab (λ i. taskOf l i .separation) 16
+
+unfoldable pub budgetsOf : List Task → List ℕ
+budgetsOf l = tab (λ i. taskOf l i .budget) 16
+
+unfoldable pub offsetsOf : List Task → List ℕ
+offsetsOf l = tab (λ i. taskOf l i .offset) 16
+
+-- the answer after k more steps, each of the state that the one before it handed back
+unfoldable pub followed : Stepped → ℕ → Stepped
+followed r zero = r
+followed r (suc k) = stepOf (followed r k .state)
+
+unfoldable pub stepsOf : State → ℕ → Stepped
+stepsOf s k = followed (stepOf s) k
+
+unfoldable pub tasksIn : List ℕ → List ℕ → List ℕ → List Task
+tasksIn T C Y = tab (entry T C Y) 16
+
+-- the fields of a plan, and the other fields of a state, in the order of the records
+unfoldable pub planIn : Bool → ℕ → ℕ → List ℕ → List Task → List ℕ → Plan
+planIn offered cores tasks labels task slack =
+    record { offered = offered; cores = cores; tasks = tasks; labels = labels; task = task; slack = slack }
+
+unfoldable pub stateIn : Plan → ℕ → List ℕ → List Bool → List ℕ → List ℕ → List ℕ → State
+stateIn p clock jobs released last remaining release =
+    record { plan = p; clock = clock; jobs = jobs; released = released; last = last; remaining = remaining; release = release }
+
+unfoldable pub TasksLeft : List Task → List ℕ → List ℕ → List ℕ → Type 0
+TasksLeft l T C Y = (T ≡ separationsOf l) × (C ≡ budgetsOf l) × (Y ≡ offsetsOf l)
+
+unfoldable pub PlanLeft : Plan → Bool → ℕ → ℕ → List ℕ → List ℕ → Type 0
+PlanLeft p offered cores tasks labels slack =
+    (offered ≡ p .offered) × (cores ≡ p .cores) × (tasks ≡ p .tasks) × (labels ≡ p .labels) × (slack ≡ p .slack)
+
+unfoldable pub StateLeft : State → ℕ → List ℕ → List Bool → List ℕ → List ℕ → List ℕ → Type 0
+StateLeft s clock jobs released last remaining release =
+    (clock ≡ s .clock)
+    × (jobs ≡ s .jobs)
+    × (released ≡ s .released)
+    × (last ≡ s .last)
+    × (remaining ≡ s .remaining)
+    × (release ≡ s .release)
+
+-- a release's answer as a number, and its state's fields
+unfoldable pub ReleaseLeaves : Released → ℕ → Bool → ℕ → ℕ → List ℕ → List ℕ → List ℕ → List ℕ → List ℕ → ℕ → List ℕ → List Bool → List ℕ → List ℕ → List ℕ → Type 0
+ReleaseLeaves a r offered cores tasks labels T C Y slack clock jobs released last remaining release =
+    (r ≡ answerCode (a .answer))
+    × TasksLeft (a .state .plan .task) T C Y
+    × PlanLeft (a .state .plan) offered cores tasks labels slack
+    × StateLeft (a .state) clock jobs released last remaining release
+
+-- a step's answer as a number, what ran on each core, the responses, and its state's fields
+unfoldable pub StepsLeave : Stepped → ℕ → Bool → ℕ → ℕ → List ℕ → List ℕ → List ℕ → List ℕ → List ℕ → ℕ → List ℕ → List Bool → List ℕ → List ℕ → List ℕ → List ℕ → List ℕ → Type 0
+StepsLeave a r offered cores tasks labels T C Y slack clock jobs released last remaining release runs responses =
+    ((r ≡ answerCode (a .answer)) × (runs ≡ a .runs) × (responses ≡ a .responses))
+    × TasksLeft (a .state .plan .task) T C Y
+    × PlanLeft (a .state .plan) offered cores tasks labels slack
+    × StateLeft (a .state) clock jobs released last remaining release

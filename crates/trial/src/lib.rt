@@ -1,0 +1,323 @@
+// The engine's calls as C functions for the Rust tests and the benchmark. They are no part of the product: the state crosses the border as
+// its fields, each array behind a pointer of its own, so that a test can hand over any state and see each field that comes back.
+use engine::step;
+use engine::tick;
+use state::State;
+use state::Stepped;
+use tasks::Answer;
+use tasks::Plan;
+use tasks::Task;
+ghost use mathlib.Core.Path.{_≡_};
+ghost use Rattle.state.specs.Calls.{releaseOf};
+ghost use Rattle.trial.specs.Trials.{answerCode, separationsOf, budgetsOf, offsetsOf, stepsOf, tasksIn, planIn, stateIn, TasksLeft, PlanLeft, StateLeft, ReleaseLeaves, StepsLeave};
+
+const CLOCK: u8 = 19;
+
+// A plan's tasks, field by field.
+struct Columns {
+    separation: [u32; 16],
+    budget: [u32; 16],
+    offset: [u32; 16],
+}
+
+// An answer as one number: 0, or 4,294,967,296 × refusal number + index.
+fn code(answer: Answer) -> u64
+    ensures { λ r. ⌜ r ≡ answerCode answer ⌝ }
+{
+    match answer {
+        Answer::Accepted => 0,
+        Answer::Refused { number, index } => 4294967296 * (number as u64) + (index as u64),
+    }
+}
+
+fn entries(separation: &[u32; 16], budget: &[u32; 16], offset: &[u32; 16]) -> [Task; 16]
+    ensures { λ r. ⌜ r ≡ tasksIn (now (separation .entry)) (now (budget .entry)) (now (offset .entry)) ⌝ }
+{
+    let mut task = [Task {
+        separation: 0,
+        budget: 0,
+        offset: 0,
+    }; 16];
+    let mut i = 0;
+    while i < 16 {
+        let t = Task {
+            separation: separation[i],
+            budget: budget[i],
+            offset: offset[i],
+        };
+        task[i] = t;
+        i += 1;
+    }
+    task
+}
+
+fn columns_of(task: [Task; 16]) -> Columns
+    ensures { λ r. ⌜ (r .separation ≡ separationsOf task) × (r .budget ≡ budgetsOf task) × (r .offset ≡ offsetsOf task) ⌝ }
+{
+    let mut separation = [0u32; 16];
+    let mut budget = [0u32; 16];
+    let mut offset = [0u32; 16];
+    let mut i = 0;
+    while i < 16 {
+        let t = task[i];
+        separation[i] = t.separation;
+        budget[i] = t.budget;
+        offset[i] = t.offset;
+        i += 1;
+    }
+    Columns {
+        separation,
+        budget,
+        offset,
+    }
+}
+
+// A step, and as many ticks after it as `more` says. Only the step tests whether the state is sound: each later state is so by proof.
+fn steps(state: State, more: usize) -> Stepped
+    ensures { λ r. ⌜ r ≡ stepsOf state more ⌝ }
+{
+    let mut stepped = step(state);
+    let first = stepped.answer;
+    let Answer::Accepted = first else {
+        return stepped;
+    };
+    let mut k = 0;
+    while k < more {
+        let state = stepped.state;
+        if state.clock == 4_000_000_000 {
+            return Stepped {
+                answer: Answer::Refused {
+                    number: CLOCK,
+                    index: 0,
+                },
+                state,
+                runs: [255u8; 8],
+                responses: [0u32; 16],
+            };
+        }
+        stepped = tick(state);
+        k += 1;
+    }
+    stepped
+}
+
+// The plan whose fields were handed over.
+fn plan_in(
+    offered: bool,
+    cores: usize,
+    tasks: usize,
+    labels: &[u8; 8],
+    task: [Task; 16],
+    slack: &[u32; 16],
+) -> Plan
+    ensures { λ r. ⌜ r ≡ planIn offered cores tasks (now (labels .entry)) task (now (slack .entry)) ⌝ }
+{
+    let labels = *labels;
+    let slack = *slack;
+    Plan {
+        offered,
+        cores,
+        tasks,
+        labels,
+        task,
+        slack,
+    }
+}
+
+// The state of that plan.
+fn state_in(
+    plan: Plan,
+    clock: u32,
+    jobs: &[usize; 16],
+    released: &[bool; 16],
+    last: &[u32; 16],
+    remaining: &[u32; 256],
+    release: &[u32; 256],
+) -> State
+    ensures { λ r. ⌜
+        r ≡ stateIn plan clock (now (jobs .entry)) (now (released .entry)) (now (last .entry)) (now (remaining .entry))
+        (now (release .entry))
+        ⌝ }
+{
+    let jobs = *jobs;
+    let released = *released;
+    let last = *last;
+    let remaining = *remaining;
+    let release = *release;
+    State {
+        plan,
+        clock,
+        jobs,
+        released,
+        last,
+        remaining,
+        release,
+    }
+}
+
+// The fields of a state's tasks, each to where the caller has its own.
+fn put_tasks(
+    state: State,
+    separation: &mut [u32; 16],
+    budget: &mut [u32; 16],
+    offset: &mut [u32; 16],
+)
+    ensures { λ _. ⌜ TasksLeft (state .plan .task) (now (separation .exit)) (now (budget .exit)) (now (offset .exit)) ⌝ }
+{
+    let plan = state.plan;
+    let task = plan.task;
+    let columns = columns_of(task);
+    let separation_after = columns.separation;
+    let budget_after = columns.budget;
+    let offset_after = columns.offset;
+    *separation = separation_after;
+    *budget = budget_after;
+    *offset = offset_after;
+}
+
+// The other fields of its plan.
+fn put_plan(
+    state: State,
+    offered: &mut bool,
+    cores: &mut usize,
+    tasks: &mut usize,
+    labels: &mut [u8; 8],
+    slack: &mut [u32; 16],
+)
+    ensures { λ _. ⌜
+        PlanLeft (state .plan) (now (offered .exit)) (now (cores .exit)) (now (tasks .exit)) (now (labels .exit)) (now (slack .exit))
+        ⌝ }
+{
+    let plan = state.plan;
+    let labels_after = plan.labels;
+    let slack_after = plan.slack;
+    *offered = plan.offered;
+    *cores = plan.cores;
+    *tasks = plan.tasks;
+    *labels = labels_after;
+    *slack = slack_after;
+}
+
+// The fields beside the plan.
+fn put_state(
+    state: State,
+    clock: &mut u32,
+    jobs: &mut [usize; 16],
+    released: &mut [bool; 16],
+    last: &mut [u32; 16],
+    remaining: &mut [u32; 256],
+    release: &mut [u32; 256],
+)
+    ensures { λ _. ⌜
+        StateLeft state (now (clock .exit)) (now (jobs .exit)) (now (released .exit)) (now (last .exit)) (now (remaining .exit))
+        (now (release .exit))
+        ⌝ }
+{
+    let jobs_after = state.jobs;
+    let released_after = state.released;
+    let last_after = state.last;
+    let remaining_after = state.remaining;
+    let release_after = state.release;
+    *clock = state.clock;
+    *jobs = jobs_after;
+    *released = released_after;
+    *last = last_after;
+    *remaining = remaining_after;
+    *release = release_after;
+}
+
+// What ran on each core, and the responses; the answer comes back as a number.
+fn put_report(stepped: Stepped, runs: &mut [u8; 8], responses: &mut [u32; 16]) -> u64
+    ensures { λ r. ⌜
+        (r ≡ answerCode (stepped .answer)) × (now (runs .exit) ≡ stepped .runs) × (now (responses .exit) ≡ stepped .responses)
+        ⌝ }
+{
+    let answer = stepped.answer;
+    let runs_after = stepped.runs;
+    let responses_after = stepped.responses;
+    *runs = runs_after;
+    *responses = responses_after;
+    code(answer)
+}
+
+// A release of a task, with its demand, on the state behind the pointers.
+#[no_mangle]
+pub extern "C" fn trial_release(
+    offered: &mut bool,
+    cores: &mut usize,
+    tasks: &mut usize,
+    labels: &mut [u8; 8],
+    separation: &mut [u32; 16],
+    budget: &mut [u32; 16],
+    offset: &mut [u32; 16],
+    slack: &mut [u32; 16],
+    clock: &mut u32,
+    jobs: &mut [usize; 16],
+    released: &mut [bool; 16],
+    last: &mut [u32; 16],
+    remaining: &mut [u32; 256],
+    release: &mut [u32; 256],
+    task: usize,
+    demand: u32,
+) -> u64
+    ensures { λ r. ⌜
+        ReleaseLeaves (releaseOf (stateIn (planIn (now (offered .entry)) (now (cores .entry)) (now (tasks .entry)) (now (labels .entry))
+        (tasksIn (now (separation .entry)) (now (budget .entry)) (now (offset .entry))) (now (slack .entry))) (now (clock .entry))
+        (now (jobs .entry)) (now (released .entry)) (now (last .entry)) (now (remaining .entry)) (now (release .entry))) task demand) r
+        (now (offered .exit)) (now (cores .exit)) (now (tasks .exit)) (now (labels .exit)) (now (separation .exit)) (now (budget .exit))
+        (now (offset .exit)) (now (slack .exit)) (now (clock .exit)) (now (jobs .exit)) (now (released .exit)) (now (last .exit))
+        (now (remaining .exit)) (now (release .exit))
+        ⌝ }
+{
+    let list = entries(separation, budget, offset);
+    let plan = plan_in(*offered, *cores, *tasks, labels, list, slack);
+    let state = state_in(plan, *clock, jobs, released, last, remaining, release);
+    let done = engine::release(state, task, demand);
+    let answer = done.answer;
+    let after = done.state;
+    put_tasks(after, separation, budget, offset);
+    put_plan(after, offered, cores, tasks, labels, slack);
+    put_state(after, clock, jobs, released, last, remaining, release);
+    code(answer)
+}
+
+// A step, and `more` after it, on the state behind the pointers, with the last one's cores and responses.
+#[no_mangle]
+pub extern "C" fn trial_steps(
+    offered: &mut bool,
+    cores: &mut usize,
+    tasks: &mut usize,
+    labels: &mut [u8; 8],
+    separation: &mut [u32; 16],
+    budget: &mut [u32; 16],
+    offset: &mut [u32; 16],
+    slack: &mut [u32; 16],
+    clock: &mut u32,
+    jobs: &mut [usize; 16],
+    released: &mut [bool; 16],
+    last: &mut [u32; 16],
+    remaining: &mut [u32; 256],
+    release: &mut [u32; 256],
+    runs: &mut [u8; 8],
+    responses: &mut [u32; 16],
+    more: usize,
+) -> u64
+    ensures { λ r. ⌜
+        StepsLeave (stepsOf (stateIn (planIn (now (offered .entry)) (now (cores .entry)) (now (tasks .entry)) (now (labels .entry)) (tasksIn
+        (now (separation .entry)) (now (budget .entry)) (now (offset .entry))) (now (slack .entry))) (now (clock .entry))
+        (now (jobs .entry)) (now (released .entry)) (now (last .entry)) (now (remaining .entry)) (now (release .entry))) more) r
+        (now (offered .exit)) (now (cores .exit)) (now (tasks .exit)) (now (labels .exit)) (now (separation .exit)) (now (budget .exit))
+        (now (offset .exit)) (now (slack .exit)) (now (clock .exit)) (now (jobs .exit)) (now (released .exit)) (now (last .exit))
+        (now (remaining .exit)) (now (release .exit)) (now (runs .exit)) (now (responses .exit))
+        ⌝ }
+{
+    let list = entries(separation, budget, offset);
+    let plan = plan_in(*offered, *cores, *tasks, labels, list, slack);
+    let state = state_in(plan, *clock, jobs, released, last, remaining, release);
+    let done = steps(state, more);
+    let after = done.state;
+    put_tasks(after, separation, budget, offset);
+    put_plan(after, offered, cores, tasks, labels, slack);
+    put_state(after, clock, jobs, released, last, remaining, release);
+    put_report(done, runs, responses)
+}

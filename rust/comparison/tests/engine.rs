@@ -1,0 +1,149 @@
+//! The proved release and step against the reference on hundreds of thousands of states, the same
+//! ones on every run.
+
+use comparison::{EngineTally, compare_release, compare_step, compare_steps};
+use reference::{Clause, Plan, State, open};
+use samples::{Random, accepted, busy, harmed, sound, tied};
+
+/// How many plans, sound states of each, runs from an opening, and calls of each run.
+const PLANS: u64 = 8_000;
+const STATES: u64 = 8;
+const RUNS: u64 = 500;
+const CALLS: u64 = 200;
+
+/// How often each refusal number is met, at least.
+const REFUSED_AT_LEAST: u64 = 2_000;
+
+/// How often a state breaks this clause and no other, at least.
+const UNSOUND_AT_LEAST: u64 = 300;
+
+/// How often each of these is met, at least.
+const AT_LEAST: [(u64, &str); 27] = [
+    (20_000, "taken"),
+    (3_000, "taken, the task's first"),
+    (3_000, "taken, exactly T after the last"),
+    (5_000, "taken, demand C"),
+    (200, "taken, into the last place"),
+    (200, "taken, clock 3,999,999,999"),
+    (500, "refused 20, task n"),
+    (500, "refused 20, task 16 or above"),
+    (200, "refused 20, where 21 is met too"),
+    (500, "refused 21, demand 0"),
+    (500, "refused 21, demand C + 1"),
+    (500, "refused 21, where 23 is met too"),
+    (500, "refused 22, one too early"),
+    (500, "refused 22, where 23 is met too"),
+    (50_000, "stepped"),
+    (300, "stepped, nothing pending"),
+    (5_000, "stepped, some cores idle"),
+    (20_000, "stepped, every core runs"),
+    (20_000, "stepped, some tasks wait"),
+    (2_000, "stepped, of two equal points one waits"),
+    (50, "stepped, 8 cores, all 256 places used"),
+    (10_000, "stepped, a job finishes"),
+    (5_000, "stepped, several jobs finish"),
+    (1_000, "stepped to the clock's end"),
+    (500, "several steps, all taken"),
+    (100, "several steps, to the clock's end"),
+    (100, "several steps, the first refused"),
+];
+
+/// A release to try: of a task of the table mostly, with a demand around 1 to C.
+fn any_release(random: &mut Random, state: &State) -> (usize, u32) {
+    let task = match random.index(12) {
+        0 => random.pick(&[state.tasks, 15, 16, 255, usize::MAX]),
+        _ => random.index(state.tasks.clamp(1, 16)),
+    };
+    let budget = state.task.get(task).map_or(0, |task| task.budget);
+    let demand = match random.index(16) {
+        0 => 0,
+        1 => budget.saturating_add(1),
+        2 => u32::MAX,
+        3..=6 => budget,
+        _ => random.between(1, budget.max(1)),
+    };
+    (task, demand)
+}
+
+/// A release on the state and a step on it, and now and then several steps.
+fn both_calls(random: &mut Random, state: &State, tally: &mut EngineTally) {
+    tally.count_state();
+    let (task, demand) = any_release(random, state);
+    compare_release(state, task, demand, tally);
+    compare_step(state, tally);
+    if random.once_in(32) {
+        compare_steps(state, random.index(24), tally);
+    }
+}
+
+/// Random calls from an opening on, each on the state that the one before it handed back.
+fn run(random: &mut Random, plan: &Plan, tally: &mut EngineTally) {
+    let mut state = open(plan);
+    let eager = u64::from(random.between(2, 5));
+    for _ in 0..CALLS {
+        tally.count_state();
+        state = if random.once_in(eager) {
+            compare_step(&state, tally)
+        } else {
+            let (task, demand) = any_release(random, &state);
+            compare_release(&state, task, demand, tally)
+        };
+    }
+}
+
+#[test]
+fn many_states() {
+    let mut random = Random::new(3);
+    let mut tally = EngineTally::default();
+    for _ in 0..PLANS {
+        let plan = accepted(&mut random);
+        for _ in 0..STATES {
+            let state = sound(&mut random, &plan);
+            both_calls(&mut random, &state, &mut tally);
+            let state = harmed(&mut random, state);
+            both_calls(&mut random, &state, &mut tally);
+        }
+        for make in [tied, busy] {
+            let state = make(&mut random, &plan);
+            both_calls(&mut random, &state, &mut tally);
+        }
+    }
+    for _ in 0..RUNS {
+        let plan = accepted(&mut random);
+        run(&mut random, &plan, &mut tally);
+    }
+    tally.print();
+    check(&tally);
+}
+
+fn check(tally: &EngineTally) {
+    assert!(tally.states() >= 200_000);
+    for number in 18..=23 {
+        let met = tally.refused(number);
+        assert!(met >= REFUSED_AT_LEAST, "refused {number}: {met} calls");
+    }
+    for (least, name) in AT_LEAST {
+        let met = tally.named(name);
+        assert!(met >= least, "{name}: {met} calls");
+    }
+    // A pending release after the clock makes the last taken release be after it too.
+    let future = vec![Clause::ReleaseAfterClock, Clause::LastAfterClock];
+    let mut broken = vec![future];
+    let alone = [
+        Clause::Table,
+        Clause::Jobs,
+        Clause::UnusedInTable,
+        Clause::UnusedPlace,
+        Clause::TickWithoutRelease,
+        Clause::Clock,
+        Clause::Apart,
+        Clause::Work,
+        Clause::LastAfterClock,
+        Clause::Newest,
+    ];
+    broken.extend(alone.map(|clause| vec![clause]));
+    for clauses in broken {
+        let met = tally.unsound(&clauses);
+        assert!(met >= UNSOUND_AT_LEAST, "broken {clauses:?}: {met} calls");
+    }
+}

@@ -1,0 +1,125 @@
+//! Document 01's part "The engine": a release and a step, with refusals 18 to 23.
+
+use crate::Refusal;
+use crate::state::{Job, LAST_TICK, MOST_JOBS, State, broken};
+
+/// "the core was idle", as a number.
+pub const IDLE: u8 = 255;
+
+/// What a release answers, and the state that it hands back.
+#[derive(Clone, Debug, PartialEq, Eq)]
+pub struct Released {
+    pub answer: Result<(), Refusal>,
+    pub state: State,
+}
+
+/// What a step answers, and the state that it hands back.
+#[derive(Clone, Debug, PartialEq, Eq)]
+pub struct Stepped {
+    pub answer: Result<(), Refusal>,
+    pub state: State,
+    /// "for each core which loop ran or that it was idle"
+    pub runs: [u8; 8],
+    /// "which loops finished, with finish tick minus release tick (0 for a loop that didn't)"
+    pub responses: [u32; 16],
+}
+
+/// Hands the engine a release. On a refusal "the state returned is the one handed in".
+pub fn release(state: &State, task: usize, demand: u32) -> Released {
+    let mut state = state.clone();
+    let answer = test_release(&state, task, demand);
+    if answer.is_ok() {
+        // "A taken release adds one job, released at the clock, with its demand as remaining work"
+        let mut jobs = state.queue(task);
+        jobs.push(Job { release: state.clock, remaining: demand });
+        state.set_queue(task, &jobs);
+        state.released[task] = true;
+        state.last[task] = state.clock;
+    }
+    Released { answer, state }
+}
+
+/// Steps the engine by one tick. "a refused step names every core idle and no loop finished".
+pub fn step(state: &State) -> Stepped {
+    let mut state = state.clone();
+    let answer = test_step(&state);
+    let (mut runs, mut responses) = ([IDLE; 8], [0; 16]);
+    if answer.is_ok() {
+        let running = chosen(&state);
+        // "Then the clock rises by 1. A job finishes at the clock value after its last tick."
+        state.clock += 1;
+        for (core, &task) in running.iter().enumerate() {
+            // "They take the cores in that order, the earliest on the lowest label."
+            runs[core] = task as u8;
+            responses[task] = run(&mut state, task);
+        }
+    }
+    Stepped { answer, state, runs, responses }
+}
+
+/// 18 and 19.
+fn test_step(state: &State) -> Result<(), Refusal> {
+    // 18: "The engine state isn't sound."
+    if !broken(state).is_empty() {
+        return Err(Refusal::whole(18));
+    }
+    // 19: "The clock stands at 4,000,000,000 (step and release)."
+    if state.clock == LAST_TICK {
+        return Err(Refusal::whole(19));
+    }
+    Ok(())
+}
+
+/// "a release [tests] 18 to 23".
+fn test_release(state: &State, task: usize, demand: u32) -> Result<(), Refusal> {
+    test_step(state)?;
+    // 20: "The loop isn't in the table."
+    if task >= state.tasks {
+        return Err(Refusal::whole(20));
+    }
+    // 21: "The demand is not 1 to C."
+    if !(1..=state.task[task].budget).contains(&demand) {
+        return Err(Refusal::whole(21));
+    }
+    // 22: "The loop's last taken release is less than T ticks ago."
+    if state.released[task] && state.clock - state.last[task] < state.task[task].separation {
+        return Err(Refusal::whole(22));
+    }
+    // 23: "The loop already holds 16 jobs".
+    if state.jobs[task] == MOST_JOBS {
+        return Err(Refusal::whole(23));
+    }
+    Ok(())
+}
+
+/// "Only the oldest unfinished job of each loop may run. At each step the m of these with the
+/// earliest priority points run for one tick, all of them if fewer; equal points go to the lower
+/// loop." The tasks that run, in that order.
+pub fn chosen(state: &State) -> Vec<usize> {
+    let mut points = points(state);
+    points.sort();
+    points.into_iter().take(state.cores).map(|(_, task)| task).collect()
+}
+
+/// "A job's priority point is its release tick + Y": of each task's oldest job, with the task.
+pub fn points(state: &State) -> Vec<(u64, usize)> {
+    let point = |task: usize| {
+        let oldest = *state.queue(task).first()?;
+        Some((u64::from(oldest.release) + u64::from(state.task[task].offset), task))
+    };
+    state.known().filter_map(point).collect()
+}
+
+/// "each tick it runs takes 1 off, and at 0 it is finished." The response of a job that finishes at
+/// the clock, or 0.
+fn run(state: &mut State, task: usize) -> u32 {
+    let mut jobs = state.queue(task);
+    jobs[0].remaining -= 1;
+    let mut response = 0;
+    if jobs[0].remaining == 0 {
+        response = state.clock - jobs[0].release;
+        jobs.remove(0);
+    }
+    state.set_queue(task, &jobs);
+    response
+}
