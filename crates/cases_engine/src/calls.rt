@@ -1,12 +1,12 @@
 // A case for each call: what it answers, and the state that it hands back.
-use crate::made::zeros;
-use crate::same::idle;
-use crate::same::same_state;
-use crate::same::same_table;
 use crate::show;
 use cases::same::same_plan;
 use cases::same::unused_zero;
 use cases::say;
+use cases_states::made::zeros;
+use cases_states::same::idle;
+use cases_states::same::same_state;
+use cases_states::same::same_table;
 use state::State;
 use tasks::Answer;
 use tasks::Plan;

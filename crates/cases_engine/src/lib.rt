@@ -1,5 +1,3 @@
-// What the programs over the engine share: states in the making, the comparisons, and the lines that a case prints.
+// What the programs over the engine share: a case for each call, and the lines that it prints.
 pub mod calls;
-pub mod made;
-pub mod same;
 pub mod show;

@@ -1,6 +1,6 @@
 // The lines that show an answer and a state.
-use crate::same::unused_zero;
 use cases::say;
+use cases_states::same::unused_zero;
 use state::State;
 use tasks::Answer;
 

@@ -1,11 +1,11 @@
 // Openings. The plans that are not accepted are P1's, changed.
 use cases_engine::calls::open;
-use cases_engine::made::counting;
-use cases_engine::made::label;
-use cases_engine::made::offering;
-use cases_engine::made::p1;
-use cases_engine::made::slack;
-use cases_engine::made::task;
+use cases_states::made::counting;
+use cases_states::made::label;
+use cases_states::made::offering;
+use cases_states::made::p1;
+use cases_states::made::slack;
+use cases_states::made::task;
 use tasks::Plan;
 
 // Numbers in places that two cores and three loops don't use.

@@ -1,16 +1,16 @@
 // States whose table part breaks document 01's *sound*: P1's changed so that it meets one of 3 to 13, or isn't zero in an unused place.
 use cases_engine::calls::unsound;
-use cases_engine::made::busy;
-use cases_engine::made::counting;
-use cases_engine::made::label;
-use cases_engine::made::labelled;
-use cases_engine::made::last;
-use cases_engine::made::offering;
-use cases_engine::made::on;
-use cases_engine::made::p1;
-use cases_engine::made::slack;
-use cases_engine::made::task;
-use cases_engine::made::zeros;
+use cases_states::made::busy;
+use cases_states::made::counting;
+use cases_states::made::label;
+use cases_states::made::labelled;
+use cases_states::made::last;
+use cases_states::made::offering;
+use cases_states::made::on;
+use cases_states::made::p1;
+use cases_states::made::slack;
+use cases_states::made::task;
+use cases_states::made::zeros;
 use tasks::Plan;
 
 // The busy state with another table part.

@@ -1,14 +1,14 @@
 // States that break one clause of document 01's *sound* outside the table part. They are the busy state (P1 at tick 50; loop 0 holds jobs
 // released at 30 and 40, loop 1 one of 45, loop 2 none, its last release at 20), or the full one, with the places changed that the name says.
 use cases_engine::calls::unsound;
-use cases_engine::made::at;
-use cases_engine::made::busy;
-use cases_engine::made::full;
-use cases_engine::made::holding;
-use cases_engine::made::last;
-use cases_engine::made::one;
-use cases_engine::made::place;
-use cases_engine::made::two;
+use cases_states::made::at;
+use cases_states::made::busy;
+use cases_states::made::full;
+use cases_states::made::holding;
+use cases_states::made::last;
+use cases_states::made::one;
+use cases_states::made::place;
+use cases_states::made::two;
 
 // Loop 0's seventeenth job would lie in loop 1's first place, where a job stands that goes on rightly.
 fn counts() {

@@ -1,8 +1,8 @@
--- `cases_engine::made::full` is safe and ends: the job places that are left are the measure.
+-- `cases_states::made::full` is safe and ends: the job places that are left are the measure.
 use Prim.Native.Nat.{_-_, _≤_}
 use borrow.Author.Needs.{needs}
-use Rattle.cases_engine.proofs.made.full.Statement.{statement}
-use Rattle.cases_engine.proofs.made.full.Tie as tie
+use Rattle.cases_states.proofs.made.full.Statement.{statement}
+use Rattle.cases_states.proofs.made.full.Tie as tie
 
 abbrev Inv-loop : tie.InvT-loop
 Inv-loop state₀ k₀ state k = k ≤ 16

@@ -1,11 +1,12 @@
-// `step_in_place` on a lent state: what it answers and what it leaves there are those of `step`.
+// Lends states to `step_in_place` and prints what it answers and leaves there, beside what `step` hands back. The stored output is worked
+// out from document 01 by other means.
 use cases::say;
-use cases_engine::made::at;
-use cases_engine::made::busy;
-use cases_engine::made::place;
-use cases_engine::same::same_state;
-use cases_engine::same::same_step;
 use cases_engine::show;
+use cases_states::made::at;
+use cases_states::made::busy;
+use cases_states::made::place;
+use cases_states::same::same_state;
+use cases_states::same::same_step;
 use state::State;
 use state::Stepped;
 
@@ -15,10 +16,13 @@ struct Left {
     state: State,
 }
 
-fn lend(state: State) -> Left {
-    let mut state = state;
-    let stepped = live::step_in_place(&mut state);
+fn left(stepped: Stepped, state: State) -> Left {
     Left { stepped, state }
+}
+
+fn lend(mut state: State) -> Left {
+    let stepped = live::step_in_place(&mut state);
+    left(stepped, state)
 }
 
 fn lent(name: &[u8], state: State) {
@@ -35,7 +39,7 @@ fn lent(name: &[u8], state: State) {
     say::fact(b"it leaves what was lent", same_state(there, state));
 }
 
-pub fn cases() {
+fn main() {
     lent(b"accepted", busy());
     lent(b"18", place(busy(), 16, 45, 0));
     lent(b"19", at(busy(), 4000000000));

@@ -1,13 +1,13 @@
 // Releases that meet 19 to 23 on a sound state, also several at once, and those next to them that are taken.
 use cases_engine::calls::release;
-use cases_engine::made::at;
-use cases_engine::made::busy;
-use cases_engine::made::full;
-use cases_engine::made::holding;
-use cases_engine::made::last;
-use cases_engine::made::opened;
-use cases_engine::made::p1;
-use cases_engine::made::place;
+use cases_states::made::at;
+use cases_states::made::busy;
+use cases_states::made::full;
+use cases_states::made::holding;
+use cases_states::made::last;
+use cases_states::made::opened;
+use cases_states::made::p1;
+use cases_states::made::place;
 use state::State;
 
 // The busy state at the clock's end.

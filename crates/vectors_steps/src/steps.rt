@@ -1,13 +1,13 @@
 // Steps of made-up states: who runs, on which core, who finishes, and what is left.
 use cases_engine::calls::step;
-use cases_engine::made::at;
-use cases_engine::made::busy;
-use cases_engine::made::full;
-use cases_engine::made::last;
-use cases_engine::made::one;
-use cases_engine::made::opened;
-use cases_engine::made::p1;
-use cases_engine::made::two;
+use cases_states::made::at;
+use cases_states::made::busy;
+use cases_states::made::full;
+use cases_states::made::last;
+use cases_states::made::one;
+use cases_states::made::opened;
+use cases_states::made::p1;
+use cases_states::made::two;
 use state::State;
 
 // P1 with nothing pending, at a tick.

@@ -4,7 +4,7 @@ use cases::draft::on_cores;
 use cases::judged;
 use cases_engine::calls::release;
 use cases_engine::calls::step;
-use cases_engine::made::opened;
+use cases_states::made::opened;
 use state::State;
 use tasks::Plan;
 
