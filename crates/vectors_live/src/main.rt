@@ -11,18 +11,18 @@ use state::State;
 use state::Stepped;
 
 // The answer of a call, and the state that was lent to it.
-struct Left {
+struct After {
     stepped: Stepped,
     state: State,
 }
 
-fn left(stepped: Stepped, state: State) -> Left {
-    Left { stepped, state }
+fn both(stepped: Stepped, state: State) -> After {
+    After { stepped, state }
 }
 
-fn lend(mut state: State) -> Left {
+fn lend(mut state: State) -> After {
     let stepped = live::step_in_place(&mut state);
-    left(stepped, state)
+    both(stepped, state)
 }
 
 fn lent(name: &[u8], state: State) {
@@ -33,9 +33,9 @@ fn lent(name: &[u8], state: State) {
     let answer = stepped.answer;
     show::answer(b"step in place", answer);
     let other = engine::step(state);
-    let after = other.state;
+    let next = other.state;
     say::fact(b"it answers as step does", same_step(stepped, other));
-    say::fact(b"it leaves what step hands back", same_state(there, after));
+    say::fact(b"it leaves what step hands back", same_state(there, next));
     say::fact(b"it leaves what was lent", same_state(there, state));
 }
 
