@@ -25,4 +25,16 @@ pub const SLACK: u8 = 12;
 
 pub const BOUND: u8 = 13;
 
+pub const SOUND: u8 = 18;
+
+pub const CLOCK: u8 = 19;
+
+pub const KNOWN: u8 = 20;
+
+pub const DEMAND: u8 = 21;
+
+pub const APART: u8 = 22;
+
+pub const ROOM: u8 = 23;
+
 pub const BUFFER: u8 = 24;
