@@ -51,6 +51,7 @@ fn places() {
 fn clocks() {
     unsound(b"clock 4000000001", at(busy(), 4000000001));
     unsound(b"clock 4294967295", at(busy(), 4294967295));
+    unsound(b"18 before 19", at(place(busy(), 16, 45, 0), 4000000000));
 }
 
 fn orders() {

@@ -1,4 +1,4 @@
-// Releases that meet 19 to 23 on a sound state, also several at once, and those next to them that are taken.
+// Releases that meet 19 to 23 on a sound state, also several at once, and those next to them that are taken. One state isn't sound.
 use cases_engine::calls::release;
 use cases_states::made::at;
 use cases_states::made::busy;
@@ -21,6 +21,7 @@ fn fifteen() -> State {
 }
 
 fn clocks() {
+    release(b"18 before 20", place(busy(), 16, 45, 0), 3, 0);
     release(b"19", ended(), 0, 9);
     release(b"19 before 20", ended(), 3, 9);
     release(b"19 before 21", ended(), 0, 0);
