@@ -1,4 +1,4 @@
-// What the programs `vectors` and `vectors_plans` share: drafts of tables, the comparisons, and the lines that a case prints.
+// What the programs that run cases share: drafts of tables, the comparisons, and the lines that a case prints.
 pub mod draft;
 pub mod judged;
 pub mod same;

@@ -5,7 +5,7 @@ pub fn text(words: &[u8]) {
     io::write_all(STDOUT_FILENO, words);
 }
 
-// A case's first line: whether it is a table or a plan, and its name.
+// A case's first line: its kind, as a table, a plan or a call, and its name.
 pub fn case(kind: &[u8], name: &[u8]) {
     text(b"case ");
     text(kind);

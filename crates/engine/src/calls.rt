@@ -12,24 +12,12 @@ use state::State;
 use state::Stepped;
 use tasks::Answer;
 use tasks::Plan;
+use tasks::refusal;
 ghost use mathlib.Core.Path.{_≡_};
 ghost use Rattle.machine.specs.Machine.{within};
 ghost use Rattle.state.specs.State.{lastOf};
 ghost use Rattle.state.specs.Calls.{openOf, stepTests, releaseOf, stepOf};
 ghost use Rattle.state.specs.CallLaws.{admission};
-
-// Document 01's refusal numbers of a state and of a release.
-const SOUND: u8 = 18;
-
-const CLOCK: u8 = 19;
-
-const KNOWN: u8 = 20;
-
-const DEMAND: u8 = 21;
-
-const APART: u8 = 22;
-
-const ROOM: u8 = 23;
 
 // 18 and 19.
 fn step_test(state: State) -> Answer
@@ -37,13 +25,13 @@ fn step_test(state: State) -> Answer
 {
     if !sound(state) {
         return Answer::Refused {
-            number: SOUND,
+            number: refusal::SOUND,
             index: 0,
         };
     }
     if state.clock == 4_000_000_000 {
         return Answer::Refused {
-            number: CLOCK,
+            number: refusal::CLOCK,
             index: 0,
         };
     }
@@ -74,25 +62,25 @@ fn admission_test(
 {
     if demand < 1 {
         return Answer::Refused {
-            number: DEMAND,
+            number: refusal::DEMAND,
             index: 0,
         };
     }
     if budget < demand {
         return Answer::Refused {
-            number: DEMAND,
+            number: refusal::DEMAND,
             index: 0,
         };
     }
     if too_soon(separation, clock, flag, last) {
         return Answer::Refused {
-            number: APART,
+            number: refusal::APART,
             index: 0,
         };
     }
     if 16 <= jobs {
         return Answer::Refused {
-            number: ROOM,
+            number: refusal::ROOM,
             index: 0,
         };
     }
@@ -129,7 +117,7 @@ pub fn release(state: State, task: usize, demand: u32) -> Released
     if tasks <= task {
         return Released {
             answer: Answer::Refused {
-                number: KNOWN,
+                number: refusal::KNOWN,
                 index: 0,
             },
             state,

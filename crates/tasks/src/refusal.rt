@@ -33,4 +33,16 @@ pub const ANSWER: u8 = 16;
 
 pub const BACK: u8 = 17;
 
+pub const SOUND: u8 = 18;
+
+pub const CLOCK: u8 = 19;
+
+pub const KNOWN: u8 = 20;
+
+pub const DEMAND: u8 = 21;
+
+pub const APART: u8 = 22;
+
+pub const ROOM: u8 = 23;
+
 pub const BUFFER: u8 = 24;
