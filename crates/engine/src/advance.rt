@@ -1,6 +1,7 @@
 // A tick and a release, of a state that is sound.
 use choice::choose;
 use choice::keys;
+use service::join;
 use service::serve;
 use state::State;
 use state::Stepped;
@@ -68,13 +69,16 @@ pub fn admit(state: State, task: usize, demand: u32) -> State
     let mut last = state.last;
     let mut remaining = state.remaining;
     let mut release = state.release;
-    let held = jobs[task];
-    let place = 16 * task + held;
-    jobs[task] = held + 1;
-    released[task] = true;
-    last[task] = clock;
-    remaining[place] = demand;
-    release[place] = clock;
+    join(
+        task,
+        clock,
+        demand,
+        &mut jobs,
+        &mut released,
+        &mut last,
+        &mut remaining,
+        &mut release,
+    );
     State {
         plan,
         clock,

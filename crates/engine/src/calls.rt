@@ -49,7 +49,7 @@ fn too_soon(separation: u32, clock: u32, flag: bool, last: u32) -> bool
 }
 
 // 21, 22 and 23, for a task of the table.
-fn admission_test(
+pub fn admission_test(
     separation: u32,
     budget: u32,
     clock: u32,

@@ -6,6 +6,7 @@ mod tidy;
 
 pub use advance::admit;
 pub use advance::tick;
+pub use calls::admission_test;
 pub use calls::open;
 pub use calls::release;
 pub use calls::step;

@@ -77,7 +77,16 @@ pub fn advance(
     let mut clock = from;
     while clock < to {
         clock = leap(
-            clock, to, cores, tasks, offsets, jobs, remaining, release, owners, out,
+            clock,
+            to,
+            cores,
+            tasks,
+            offsets,
+            jobs,
+            remaining,
+            release,
+            owners,
+            out,
         );
     }
 }

@@ -90,9 +90,11 @@ module _ (p : Plan) (l : List Entry) (out₀ : List ℕ) where
             ⊎-elim
             (λ (m : member k (O (loopAt l k)) ≡ true). inl m)
             (λ (x : (f : ℕ) × Ends E h (loopAt l k) (owed E l (loopAt l k) (suc k)) f × Said out k (finished f)).
-            inr
-            (x .0, ends (loopAt l k) (owed E l (loopAt l k) (suc k)) (x .0) (x .1),
-            said-other out e (refusal n) k (finished (x .0)) (λ y. absurd (omega arith)) (x .2)))
+            inr (
+              x .0,
+              ends (loopAt l k) (owed E l (loopAt l k) (suc k)) (x .0) (x .1),
+              said-other out e (refusal n) k (finished (x .0)) (λ y. absurd (omega arith)) (x .2),
+            ))
             (B .each k z t)
 
     -- a release taken: the entry is the owner of its job

@@ -123,17 +123,19 @@ module _ (p : Plan) (l : List Entry) (out₀ : List ℕ) (e tick task demand tas
   pub hand-refused :
       (n : ℕ) (out′ : List ℕ) → answerOf s M (loopAt l e) (demandAt l e) ≡ refused n → out′ ≡ sets out (8 * e) (reportBytes (refusal n))
       → Entered p l out₀ (e + 1) tick jobs released last work release owners out′ × (0 ≡ takes p l e)
-  hand-refused n out′ met q =
-      (rw (add-one e, q, H .tick-is)
-      (refused-entered p l out₀ e jobs released last work release owners out (H .at) (H .less) n met),
-      rw (outcome-is p l out₀ e jobs released last work release owners out (H .at) (H .less), met))
+  hand-refused n out′ met q = (
+    rw (add-one e, q, H .tick-is)
+        (refused-entered p l out₀ e jobs released last work release owners out (H .at) (H .less) n met),
+    rw (outcome-is p l out₀ e jobs released last work release owners out (H .at) (H .less), met),
+  )
 
   pub hand-taken :
       answerOf s M (loopAt l e) (demandAt l e) ≡ taken
       → Entered p l out₀ (e + 1) tick (set jobs task (row jobs task + 1)) (set released task true) (set last task tick)
       (set work (16 * task + row jobs task) demand) (set release (16 * task + row jobs task) tick) (set owners (16 * task + row jobs task) e) out
       × (1 ≡ takes p l e)
-  hand-taken free =
-      (rw (add-one e, H .tick-is, H .task-is, H .demand-is)
-      (taken-entered p l out₀ e jobs released last work release owners out (H .at) (H .less) free),
-      rw (outcome-is p l out₀ e jobs released last work release owners out (H .at) (H .less), free))
+  hand-taken free = (
+    rw (add-one e, H .tick-is, H .task-is, H .demand-is)
+        (taken-entered p l out₀ e jobs released last work release owners out (H .at) (H .less) free),
+    rw (outcome-is p l out₀ e jobs released last work release owners out (H .at) (H .less), free),
+  )

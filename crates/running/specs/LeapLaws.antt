@@ -123,11 +123,12 @@ module _ (x : Standing) (cores tasks : ℕ) (offsets : List ℕ) (clock to : ℕ
           → (jobs′ ≡ jobsIn (tick s N)) × (work′ ≡ remainingIn (tick s N)) × (release′ ≡ releaseIn (tick s N))
           × (resp ≡ tab (responses (runs s N) N) 16)
       unfolding stateOf left
-      all-turns w jobs′ work′ release′ resp q A =
-          (A .jobs-are ∙ ap (λ (a : Arrays). a .jobs) all ∙ sym (ap (λ (t : State). t .jobs) (ticked-state p N fits)),
-          A .work-are ∙ ap (λ (a : Arrays). a .work) all ∙ sym (ap (λ (t : State). t .remaining) (ticked-state p N fits)),
-          A .release-are ∙ ap (λ (a : Arrays). a .release) all ∙ sym (ap (λ (t : State). t .release) (ticked-state p N fits)),
-          A .responses-are ∙ ap (λ (a : Arrays). a .responses) all ∙ all-responses p N fits)
+      all-turns w jobs′ work′ release′ resp q A = (
+        A .jobs-are ∙ ap (λ (a : Arrays). a .jobs) all ∙ sym (ap (λ (t : State). t .jobs) (ticked-state p N fits)),
+        A .work-are ∙ ap (λ (a : Arrays). a .work) all ∙ sym (ap (λ (t : State). t .remaining) (ticked-state p N fits)),
+        A .release-are ∙ ap (λ (a : Arrays). a .release) all ∙ sym (ap (λ (t : State). t .release) (ticked-state p N fits)),
+        A .responses-are ∙ ap (λ (a : Arrays). a .responses) all ∙ all-responses p N fits,
+      )
         where
           ends : clock + d ≡ suc (N .clock)
           ends = omega (arith, machine-clock s g, clock-wait k h, R .clock-is)

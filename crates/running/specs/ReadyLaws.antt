@@ -67,9 +67,12 @@ module _ (x : Standing) (cores tasks : ℕ) (offsets : List ℕ) (clock to : ℕ
       (idle-lane (x .plan) _ (ready-fit x cores tasks offsets clock to jobs work release owners out R less) j (omega (arith, R .tasks-are))))
 
   pub ready-owing : Owing owners out
-  ready-owing =
-      (max 1 (x .entered), omega (arith, R .room, R .some-room, R .stands .book .long), omega arith,
-      λ k. rw (R .stands .owners-are) (owners-small (x .entered) (x .owners) (R .stands .book .small) k))
+  ready-owing = (
+    max 1 (x .entered),
+    omega (arith, R .room, R .some-room, R .stands .book .long),
+    omega arith,
+    λ k. rw (R .stands .owners-are) (owners-small (x .entered) (x .owners) (R .stands .book .small) k),
+  )
 
   pub reaches-none : Reaches x 0 jobs work release owners out
   reaches-none = record { owned-by = x .owners; stands = R .stands }
@@ -118,9 +121,10 @@ module _ (cores tasks : ℕ) (offsets : List ℕ) (from to : ℕ) (jobs work rel
         ((x : Standing) × Ready x cores tasks offsets from to jobs work release owners out)
         → (x : Standing) × Ready x cores tasks offsets clock to jobs′ work′ release′ owners′ out′
     advanced-ready P =
-        let S = A (P .0) (P .1) in
-        (later (P .0) (clock - from) (S .owned-by),
-        reaches-ready (P .0) cores tasks offsets from to jobs work release owners out (P .1) (clock - from) jobs′ work′ release′ owners′ out′ S clock back)
+        let S = A (P .0) (P .1) in (
+          later (P .0) (clock - from) (S .owned-by),
+          reaches-ready (P .0) cores tasks offsets from to jobs work release owners out (P .1) (clock - from) jobs′ work′ release′ owners′ out′ S clock back,
+        )
 
     pub advanced-more :
         (now : ℕ) (jobs″ work″ release″ owners″ out″ : List ℕ)

@@ -172,18 +172,18 @@ module _ (p : Plan) (M : Machine) (F : Fit p M) where
               omega (arith, I .0),
               λ r. omega (arith, I .1 r, head-some i e),
               λ j l f. ⊎-elim
-              (λ (z : j ≡ i). rw z (omega arith))
-              (λ (z : j < i). omega (arith, I .2 j z f))
-              (eq-or-lt-of-le (le-of-suc-le-suc l)),
+                  (λ (z : j ≡ i). rw z (omega arith))
+                  (λ (z : j < i). omega (arith, I .2 j z f))
+                  (eq-or-lt-of-le (le-of-suc-le-suc l)),
             )
         go I q false e =
             let n = rw e at q in (
               omega (arith, I .0),
               λ r. omega (arith, I .1 r),
               λ j l f. ⊎-elim
-              (λ (z : j ≡ i). absurd (true≢false (sym f ∙ ap (runs s M) z ∙ e)))
-              (λ (z : j < i). omega (arith, I .2 j z f))
-              (eq-or-lt-of-le (le-of-suc-le-suc l)),
+                  (λ (z : j ≡ i). absurd (true≢false (sym f ∙ ap (runs s M) z ∙ e)))
+                  (λ (z : j < i). omega (arith, I .2 j z f))
+                  (eq-or-lt-of-le (le-of-suc-le-suc l)),
             )
 
     pub least : Least p M room (lowest (left p M) (jobsIn M) (remainingIn M) room 16)

@@ -4,7 +4,8 @@ ghost use mathlib.Core.Path.{_≡_};
 ghost use Prim.Native.Nat.{_-_, _<_, _≤_};
 ghost use Rattle.state.specs.Pick.{Jobless};
 ghost use Rattle.state.specs.Serve.{moved, turns};
-ghost use Rattle.state.specs.CodeLaws.{Turned, Are};
+ghost use Rattle.tasks.specs.TaskSet.{row};
+ghost use Rattle.state.specs.CodeLaws.{Turned, Are, Joined};
 
 // x − y, 0 where y is larger.
 pub fn less(x: u32, y: u32) -> u32
@@ -95,4 +96,31 @@ pub fn serve(
         turn(i, finish, keys[i], jobs, remaining, release, responses);
         i += 1;
     }
+}
+
+// "A taken release adds one job, released at the clock, with its demand as remaining work": task `i` has a place free.
+pub fn join(
+    i: usize,
+    clock: u32,
+    demand: u32,
+    jobs: &mut [usize; 16],
+    released: &mut [bool; 16],
+    last: &mut [u32; 16],
+    remaining: &mut [u32; 256],
+    release: &mut [u32; 256],
+)
+    requires { ⌜ (i < 16) × (row (now jobs) i < 16) ⌝ }
+    ensures { λ r. ⌜
+        Joined i clock demand
+        (now (jobs .entry)) (now (released .entry)) (now (last .entry)) (now (remaining .entry)) (now (release .entry))
+        (now (jobs .exit)) (now (released .exit)) (now (last .exit)) (now (remaining .exit)) (now (release .exit))
+        ⌝ }
+{
+    let held = jobs[i];
+    let place = 16 * i + held;
+    jobs[i] = held + 1;
+    released[i] = true;
+    last[i] = clock;
+    remaining[place] = demand;
+    release[place] = clock;
 }

@@ -3,9 +3,10 @@
 --     turn-none      it has no job; turn-left: its key was not taken out: nothing changes
 --     turn-less      its head has more than one tick of work: one less
 --     turn-last      it has one: the job is taken off
+--     Joined         the arrays after a release
 --     Are            the arrays are those after some turns; turns-none, turns-more: after none, after one more
 use Prim.Native.Nat.{ℕ, _+_, _-_, _*_, _≤_, _<_}
-use mathlib.Core.Bool.{true, false, not, and-false}
+use mathlib.Core.Bool.{Bool, true, false, not, and-false}
 use mathlib.Core.Path.{_≡_, refl, _∙_}
 use mathlib.Core.List.{List}
 use native.Mathlib.Numerals.{add-one}
@@ -91,3 +92,14 @@ turns-more finish i keys x jobs work release responses jobs′ work′ release�
       release-are = T .release-after ∙ rw (A .jobs-are, A .work-are, A .release-are);
       responses-are = T .responses-after ∙ rw (A .jobs-are, A .work-are, A .release-are, A .responses-are);
     })
+
+-- ---- a release
+
+-- the arrays after a release of loop i with demand c at clock t: its next place is used
+pub record Joined (i t c : ℕ) (jobs : List ℕ) (released : List Bool) (last work release : List ℕ)
+    (jobs′ : List ℕ) (released′ : List Bool) (last′ work′ release′ : List ℕ) : Type 0 where
+  pub jobs-joined : jobs′ ≡ set jobs i (row jobs i + 1)
+  pub released-joined : released′ ≡ set released i true
+  pub last-joined : last′ ≡ set last i t
+  pub work-joined : work′ ≡ set work (16 * i + row jobs i) c
+  pub release-joined : release′ ≡ set release (16 * i + row jobs i) t

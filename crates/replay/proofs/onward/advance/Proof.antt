@@ -25,9 +25,11 @@ loop-holds c = (omega arith, omega arith, refl, advanced-none _ _ _ _ _ _ _ _ _ 
 leap-requires : tie.Need-leap-requires Inv-loop μ-loop
 leap-requires c κs =
     let a = c .before .before .before .before .before .before .before .before .args in
-    let l = c .before .before .before .before .before .before .loop in
-    (advanced-ready (a .cores) (a .tasks) (a .offsets .now) (a .from) (a .to) (a .jobs .now) (a .remaining .now) (a .release .now) (a .owners .now) (a .out .now)
-    (l .clock) (l .jobs) (l .remaining) (l .release) (l .owners) (l .out) (l .inv .0) (l .inv .3) (c .before .before .before .before .before .before .before .before .pre .0), omega arith)
+    let l = c .before .before .before .before .before .before .loop in (
+      advanced-ready (a .cores) (a .tasks) (a .offsets .now) (a .from) (a .to) (a .jobs .now) (a .remaining .now) (a .release .now) (a .owners .now) (a .out .now)
+          (l .clock) (l .jobs) (l .remaining) (l .release) (l .owners) (l .out) (l .inv .0) (l .inv .3) (c .before .before .before .before .before .before .before .before .pre .0),
+      omega arith,
+    )
 
 loop-less : tie.Need-loop-less Inv-loop μ-loop
 loop-less c =
@@ -38,10 +40,13 @@ loop-again : tie.Need-loop-again Inv-loop μ-loop
 loop-again c =
     let a = c .before .before .before .before .before .before .before .before .before .before .before .args in
     let l = c .before .before .before .before .before .before .before .before .before .loop in
-    let g = c .before .before .leap .ensures in
-    (omega (arith, g .onward), g .within, search needs,
-    advanced-more (a .cores) (a .tasks) (a .offsets .now) (a .from) (a .to) (a .jobs .now) (a .remaining .now) (a .release .now) (a .owners .now) (a .out .now)
-    (l .clock) (l .jobs) (l .remaining) (l .release) (l .owners) (l .out) (l .inv .0) (l .inv .3) _ _ _ _ _ _ g)
+    let g = c .before .before .leap .ensures in (
+      omega (arith, g .onward),
+      g .within,
+      search needs,
+      advanced-more (a .cores) (a .tasks) (a .offsets .now) (a .from) (a .to) (a .jobs .now) (a .remaining .now) (a .release .now) (a .owners .now) (a .out .now)
+          (l .clock) (l .jobs) (l .remaining) (l .release) (l .owners) (l .out) (l .inv .0) (l .inv .3) _ _ _ _ _ _ g,
+    )
 
 same-length : tie.Need-same-length Inv-loop μ-loop
 same-length c = search needs

@@ -24,9 +24,11 @@ points-requires c κs = beyond (c .before .before .before)
 choose-requires : tie.Need-choose-requires
 choose-requires c κs =
     let a = c .before .before .before .before .before in
-    let b = beyond a in
-    (ready-cores (a .pre .0 .0) _ _ _ _ _ _ _ _ _ _ (a .pre .0 .1), b .0,
-    rw (c .before .points .ensures) (points-rest (a .args .jobs .now) (a .args .release .now) (a .args .tasks) (b .1) (a .args .offsets .now)))
+    let b = beyond a in (
+      ready-cores (a .pre .0 .0) _ _ _ _ _ _ _ _ _ _ (a .pre .0 .1),
+      b .0,
+      rw (c .before .points .ensures) (points-rest (a .args .jobs .now) (a .args .release .now) (a .args .tasks) (b .1) (a .args .offsets .now)),
+    )
 
 sub-least : tie.Need-sub-least
 sub-least c = search needs
