@@ -1,2 +1,3 @@
 // The run of a release log. Document 01, "Release logs".
+mod entry;
 mod onward;

@@ -62,6 +62,7 @@ module _ (p : Plan) (l : List Entry) (out₀ : List ℕ) where
   pub record Fitting : Type 0 where
     pub accepted : testPlan p ≡ Accepted
     pub tidied : tidy p ≡ p
+    pub few : length l < 65536
     pub ticks : (k : ℕ) → k < length l → tickAt l k ≤ 1000000000
     pub room : 8 * length l ≤ length out₀
 

@@ -2,6 +2,7 @@
 --     Columns p …            a plan's separations and budgets, in arrays of their own
 --     Handing p l out₀ e …   the run has come to entry e's tick, with the entry's three numbers and the plan's columns
 --     Handed                 what the code that hands it over gives: the entry is entered, and whether it was taken
+--     numberOf               an answer's number
 --     answer-20              a loop that isn't in the table
 --     answer-rest            one that is: the first of 21, 22 and 23, by the arrays
 --     hand-refused, hand-taken      the two ends of the code
@@ -51,6 +52,11 @@ pub record Handing (p : Plan) (l : List Entry) (out₀ : List ℕ) (e tick task 
   pub task-is : task ≡ loopAt l e
   pub demand-is : demand ≡ demandAt l e
 
+-- an answer's number, 0 where it is no refusal
+abbrev pub numberOf : Answer → ℕ
+numberOf Accepted = 0
+numberOf (Refused k i) = k
+
 -- 1 where entry e is taken, else 0
 abbrev pub takes : Plan → List Entry → ℕ → ℕ
 takes p l e = cond (isTaken (outcome (machineEngine (contentOf p .tasks)) l e)) 1 0
@@ -85,14 +91,20 @@ module _ (p : Plan) (l : List Entry) (out₀ : List ℕ) (e tick task demand tas
   abbrev M : Machine
   M = machineAt p l out₀ e jobs released last work release owners out (H .at) (H .less)
 
+  pub hand-room : 8 * e + 8 ≤ length out
+  hand-room = omega (arith, H .less, H .at .fitting .room, H .at .running .book .long)
+
+  pub hand-small : e < 65536
+  hand-small = omega (arith, H .less, H .at .fitting .few)
+
   pub answer-20 : tasks ≤ task → answerOf s M (loopAt l e) (demandAt l e) ≡ refused 20
   unfolding answerOf
   answer-20 h =
       rw (le-leb (s .count) (loopAt l e) (omega (arith, H .columns .tasks-are, in-count p, H .task-is)))
 
   module _ (h : task < tasks) where
-    low : task < 16
-    low = omega (arith, H .columns .tasks-are, in-count p, plan-limits p (H .at .fitting .accepted) .tasks-high)
+    pub hand-low : task < 16
+    hand-low = omega (arith, H .columns .tasks-are, in-count p, plan-limits p (H .at .fitting .accepted) .tasks-high)
 
     now : tick ≡ M .clock
     now = H .tick-is ∙ sym (machine-clock s (upTo p l out₀ e) ∙ clock-entry l e (H .at .onward))
@@ -107,9 +119,9 @@ module _ (p : Plan) (l : List Entry) (out₀ : List ℕ) (e tick task demand tas
           H .at .running .jobs-are,
           H .at .recent .released-are,
           H .at .recent .last-are,
-          row-jobs M task low,
-          flag-in M task low,
-          row-last M task low,
+          row-jobs M task hand-low,
+          flag-in M task hand-low,
+          row-last M task hand-low,
           last-back (M .lane task .last),
           H .columns .separations-are task h,
           H .columns .budgets-are task h,
@@ -119,6 +131,12 @@ module _ (p : Plan) (l : List Entry) (out₀ : List ℕ) (e tick task demand tas
           in-task p task (omega (arith, H .columns .tasks-are)),
         )
         (first-outcome (outside 1 (taskOf (p .task) task .budget) demand) (within (taskOf (p .task) task .separation) (M .clock) (M .lane task .last)) (leb 16 (length (M .lane task .queue))))
+
+    pub hand-answer :
+        (a : Answer)
+        → a ≡ admission (row separations task) (row budgets task) tick demand (row jobs task) (getD released task false) (row last task)
+        → outcomeOf a ≡ answerOf s M (loopAt l e) (demandAt l e)
+    hand-answer a q = ap outcomeOf q ∙ answer-rest
 
   pub hand-refused :
       (n : ℕ) (out′ : List ℕ) → answerOf s M (loopAt l e) (demandAt l e) ≡ refused n → out′ ≡ sets out (8 * e) (reportBytes (refusal n))
