@@ -13,3 +13,4 @@ pub mod EndLaws
 pub mod ReadyLaws
 pub mod LeapCode
 pub mod HandLaws
+pub mod EnterCode
