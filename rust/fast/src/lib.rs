@@ -1,11 +1,16 @@
-//! The judgement of a show table written for speed, which the proved code is timed against:
-//! numbers of at most 64 bits, no heap, one pass over the tasks where one is enough, and one
-//! division by H and one by m for each round of the slack search.
+//! The judgement of a show table and the log run written for speed, which the proved code is timed
+//! against: numbers of at most 64 bits and no heap. The judgement makes one pass over the tasks
+//! where one is enough, and one division by H and one by m for each round of the slack search. The
+//! log run goes from event to event and not from tick to tick.
 
 #![forbid(unsafe_code)]
 
+mod heads;
+mod log;
 mod slack;
 mod table;
+
+pub use log::{run_log, run_log_by_ticks};
 
 use slack::Demand;
 use table::{Sections, TASKS, Tasks};
@@ -19,12 +24,29 @@ pub struct Refusal {
 
 /// Judges a table and writes slack and bound of each task to `out`, as the C judgement does.
 pub fn judge(table: &[u8], out: &mut [u8]) -> Result<usize, Refusal> {
-    let sections = Sections::split(table)?;
-    let cores = sections.cores()?;
-    let tasks = Tasks::read(sections.tasks, cores)?;
-    let demand = Demand::of(&tasks, cores)?;
-    let slack = slack(&demand, &tasks, sections.slack)?;
-    write(&tasks, &slack, out)
+    let plan = Plan::of(table)?;
+    write(&plan, out)
+}
+
+/// An accepted table.
+struct Plan {
+    cores: usize,
+    tasks: Tasks,
+    slack: [u32; TASKS],
+    bound: [u64; TASKS],
+}
+
+impl Plan {
+    /// 1 to 13.
+    fn of(table: &[u8]) -> Result<Plan, Refusal> {
+        let sections = Sections::split(table)?;
+        let cores = sections.cores()?;
+        let tasks = Tasks::read(sections.tasks, cores)?;
+        let demand = Demand::of(&tasks, cores)?;
+        let slack = slack(&demand, &tasks, sections.slack)?;
+        let bound = bounds(&tasks, &slack)?;
+        Ok(Plan { cores, tasks, slack, bound })
+    }
 }
 
 /// The slack, found or offered: 11 and 12.
@@ -45,21 +67,26 @@ fn slack(demand: &Demand, tasks: &Tasks, offer: &[[u8; 4]]) -> Result<[u32; TASK
     }
 }
 
-/// 13 and 24, and the answer's bytes.
-fn write(tasks: &Tasks, slack: &[u32; TASKS], out: &mut [u8]) -> Result<usize, Refusal> {
-    let count = tasks.count;
+/// 13.
+fn bounds(tasks: &Tasks, slack: &[u32; TASKS]) -> Result<[u64; TASKS], Refusal> {
     let mut bounds = [0; TASKS];
-    for k in 0..count {
+    for k in 0..tasks.count {
         bounds[k] = u64::from(tasks.offset[k]) + u64::from(slack[k]) + u64::from(tasks.budget[k]);
         if bounds[k] > 16 * u64::from(tasks.separation[k]) {
             return refuse(13, k);
         }
     }
+    Ok(bounds)
+}
+
+/// 24, and the answer's bytes.
+fn write(plan: &Plan, out: &mut [u8]) -> Result<usize, Refusal> {
+    let count = plan.tasks.count;
     let Some(out) = out.get_mut(..8 * count) else {
         return refuse(24, 0);
     };
     for (k, entry) in out.as_chunks_mut().0.iter_mut().enumerate() {
-        *entry = (bounds[k] << 32 | u64::from(slack[k])).to_le_bytes();
+        *entry = (plan.bound[k] << 32 | u64::from(plan.slack[k])).to_le_bytes();
     }
     Ok(count)
 }

@@ -5,10 +5,14 @@
 
 #![forbid(unsafe_code)]
 
+mod log;
+mod log_run;
 mod plan;
 mod slack;
 mod table;
 
+pub use log::{Entry, Log};
+pub use log_run::{Outcome, outcomes, run_log};
 pub use plan::{Plan, judge, judge_into, write};
 pub use slack::Analysis;
 pub use table::{Table, Task};
@@ -23,7 +27,7 @@ pub struct Refusal {
 impl Refusal {
     /// A refusal that names the entry at `index`.
     pub fn at(number: u32, index: usize) -> Refusal {
-        let index = u32::try_from(index).expect("an index is below 256");
+        let index = u32::try_from(index).expect("an index is below 65,536");
         Refusal { number, index }
     }
 
