@@ -1,11 +1,14 @@
 //! Show tables to compare and to time judgements on, made from a fixed seed: valid ones, tight
 //! ones, ones with an H near its limit, ones that offer slack around compliance, faulty ones and
-//! damaged bytes.
+//! damaged bytes; and release logs for accepted ones.
 
 #![forbid(unsafe_code)]
 
 mod damage;
 mod faults;
+mod log_damage;
+mod log_tables;
+mod logs;
 mod offers;
 mod random;
 mod shapes;
@@ -13,6 +16,9 @@ mod tight;
 
 pub use damage::{damaged, noise};
 pub use faults::faulty;
+pub use log_damage::{damaged_log, noise_log};
+pub use log_tables::{accepted, any_accepted, short};
+pub use logs::{LogKind, log};
 pub use offers::offered;
 pub use random::Random;
 pub use shapes::{Shape, long, mixed, steep};
