@@ -3,7 +3,7 @@
 use crate::{LogForm, LogTally, Logs};
 use reference::Table;
 use samples::{
-    LogKind, Random, accepted, any_accepted, damaged, damaged_log, faulty, log, noise_log, short,
+    LogKind, Random, any_accepted, damaged, damaged_log, faulty, log, noise_log, short_accepted,
 };
 
 /// Parts that are run side by side, each with numbers of its own.
@@ -20,7 +20,7 @@ pub struct Family {
 
 /// Logs that the reference can go through tick by tick.
 pub const NEAR: [Family; 3] = [
-    Family { tables: 5_000, logs: 20, table: accepted_short, log: near },
+    Family { tables: 7_000, logs: 20, table: accepted_short, log: near },
     Family { tables: 1_000, logs: 10, table: accepted_short, log: near_damaged },
     Family { tables: 2_000, logs: 3, table: refused_short, log: near_damaged },
 ];
@@ -63,7 +63,7 @@ fn compare_part(forms: &[LogForm], families: &[Family], fewer: u64, part: u64) -
 }
 
 fn accepted_short(random: &mut Random) -> (Vec<u8>, Table) {
-    let table = accepted(random, short);
+    let table = short_accepted(random);
     (table.bytes(), table)
 }
 
@@ -74,7 +74,7 @@ fn accepted_any(random: &mut Random) -> (Vec<u8>, Table) {
 
 /// A table that is refused, mostly, beside an accepted one.
 fn refused_short(random: &mut Random) -> (Vec<u8>, Table) {
-    let table = accepted(random, short);
+    let table = short_accepted(random);
     let bytes = if random.once_in(2) { refused(random) } else { damaged(random, table.bytes()) };
     (bytes, table)
 }

@@ -94,6 +94,8 @@ impl LogTally {
         self.count_if(entries.is_empty(), "run, log empty");
         let largest = entries.iter().map(|entry| entry.tick).max();
         self.count_if(largest == Some(1_000_000_000), "run, largest tick 1,000,000,000");
+        self.count_if(largest >= Some(5_000), "run, largest tick from 5,000");
+        self.count_if(entries.len() > 1_000, "run, more than 1,000 entries");
         let mut past = vec![Past::default(); plan.tasks.len()];
         let (mut before, mut end) = (None, 0);
         for (entry, outcome) in entries.iter().zip(outcomes) {
@@ -141,12 +143,13 @@ impl LogTally {
         self.count_if(entry.demand == task.budget, "taken, demand C");
         let took = u128::from(finish) - u128::from(entry.tick);
         self.count_if(took > u128::from(entry.demand), "taken, waits for a core or its own loop");
-        self.count_if(took == plan.bound(place), "taken, finishes exactly at its bound");
+        let near = took + 2 >= plan.bound(place);
+        self.count_if(near, "taken, finishes within 2 ticks of its bound");
         past.last = Some(entry.tick);
         past.unfinished.retain(|&finish| finish > u64::from(entry.tick));
         past.unfinished.push(finish);
         self.count_if(past.unfinished.len() >= 2, "taken, its loop then holds 2 jobs or more");
-        self.count_if(past.unfinished.len() >= 5, "taken, its loop then holds 5 jobs or more");
+        self.count_if(past.unfinished.len() >= 8, "taken, its loop then holds 8 jobs or more");
     }
 
     fn count_if(&mut self, met: bool, name: &'static str) {

@@ -7,11 +7,35 @@ const REFERENCE: LogForm = ("reference", reference_run);
 const PROVED: LogForm = ("proved", proved_run);
 const FAST: LogForm = ("fast", fast_run);
 
-/// How often each of these is met at least by logs with near ticks.
-const NEAR_AT_LEAST: [(u64, &str); 1] = [(1, "taken")];
-
-/// How often each of these is met at least by logs with far ticks.
-const FAR_AT_LEAST: [(u64, &str); 1] = [(1, "taken")];
+/// How often each of these is met, at least, by near logs and by far ones.
+const AT_LEAST: [(u64, u64, &str); 26] = [
+    (50_000, 10_000, "run, log keeps the table"),
+    (40_000, 10_000, "run, log does not keep the table"),
+    (20_000, 4_000, "run, slack offered"),
+    (5_000, 1_000, "run, log empty"),
+    (200, 30, "run, more than 1,000 entries"),
+    (2_000, 10_000, "run, largest tick from 5,000"),
+    (0, 1_000, "run, largest tick 1,000,000,000"),
+    (50_000, 10_000, "run, answer exactly long enough"),
+    (50_000, 10_000, "run, answer longer"),
+    (5_000, 1_000, "refused 16, answer empty"),
+    (20_000, 4_000, "refused 16, answer one byte short"),
+    (2_000, 4_000, "refused 15, index above 0"),
+    (500, 1_000, "refused 15, and the answer too short"),
+    (1_000, 200, "refused 14, count absent"),
+    (5_000, 0, "table refused, and the log too"),
+    (10_000, 4_000, "refused 20, first loop outside"),
+    (20_000, 4_000, "refused 21, demand 0"),
+    (20_000, 4_000, "refused 21, demand C + 1"),
+    (10_000, 2_000, "refused 22, one tick too soon"),
+    (10_000, 2_000, "refused 22, at the tick of the last taken"),
+    (1_000_000, 100_000, "taken, exactly T after the last taken"),
+    (500_000, 100_000, "taken, waits for a core or its own loop"),
+    (50_000, 5_000, "taken, its loop then holds 2 jobs or more"),
+    (2_000, 20, "taken, its loop then holds 8 jobs or more"),
+    (10_000, 1_000, "taken, finishes within 2 ticks of its bound"),
+    (0, 50_000, "taken, after 100,000 idle ticks"),
+];
 
 fn reference_run(table: &[u8], log: &[u8], out: &mut [u8]) -> LogAnswer {
     reference::run_log(table, log, out).map_err(|refusal| (refusal.number, refusal.index))
@@ -25,11 +49,12 @@ fn fast_run(table: &[u8], log: &[u8], out: &mut [u8]) -> LogAnswer {
     fast::run_log(table, log, out).map_err(|refusal| (refusal.number, refusal.index))
 }
 
-fn check(tally: &LogTally, at_least: &[(u64, &str)]) {
+/// Prints a tally and holds it to how often each refusal number is to be met.
+fn check_numbers(tally: &LogTally) {
     tally.print();
     for number in [14, 15, 16] {
         let met = tally.calls(number);
-        assert!(met >= 500, "refused {number}: {met} calls");
+        assert!(met >= 3_000, "refused {number}: {met} calls");
     }
     for number in [17, 20, 21, 22] {
         let met = tally.entries(number);
@@ -37,22 +62,33 @@ fn check(tally: &LogTally, at_least: &[(u64, &str)]) {
     }
     // "By it, 23 is never met in such a run."
     assert_eq!(tally.entries(23), 0);
-    for (least, name) in at_least {
-        let met = tally.named(name);
-        assert!(met >= *least, "{name}: {met}");
-    }
+}
+
+fn check_named(tally: &LogTally, least: u64, name: &str) {
+    let met = tally.named(name);
+    assert!(met >= least, "{name}: {met}");
 }
 
 #[test]
 fn near_logs_tick_by_tick() {
     let tally = compare_logs(&[REFERENCE, PROVED, FAST], &NEAR, 1);
-    assert!(tally.logs() >= 200_000);
-    check(&tally, &NEAR_AT_LEAST);
+    assert!(tally.logs() >= 300_000);
+    check_numbers(&tally);
+    for number in 1..=13 {
+        let met = tally.calls(number);
+        assert!(met >= 100, "refused {number}: {met} calls");
+    }
+    for (near, _, name) in AT_LEAST {
+        check_named(&tally, near, name);
+    }
 }
 
 #[test]
 fn far_logs_by_events() {
     let tally = compare_logs(&[FAST, PROVED], &FAR, 1);
     assert!(tally.logs() >= 60_000);
-    check(&tally, &FAR_AT_LEAST);
+    check_numbers(&tally);
+    for (_, far, name) in AT_LEAST {
+        check_named(&tally, far, name);
+    }
 }

@@ -17,7 +17,7 @@ mod tight;
 pub use damage::{damaged, noise};
 pub use faults::faulty;
 pub use log_damage::{damaged_log, noise_log};
-pub use log_tables::{accepted, any_accepted, short};
+pub use log_tables::{any_accepted, short_accepted};
 pub use logs::{LogKind, log};
 pub use offers::offered;
 pub use random::Random;

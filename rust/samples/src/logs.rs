@@ -29,25 +29,49 @@ impl LogKind {
     }
 }
 
+/// One entry in so many: none that a log has.
+const NEVER: u64 = u64::MAX;
+
+/// How the entries of a log are made.
+struct Manner {
+    /// The longest time before an entry that could come at once.
+    wait: u32,
+    /// One entry in so many is of any task, the others of the one that may release first.
+    strays: u64,
+    /// Every demand is the whole budget.
+    full: bool,
+    /// One entry in so many has a fault.
+    faults: u64,
+}
+
+impl Manner {
+    fn any(random: &mut Random, kind: LogKind) -> Manner {
+        Manner {
+            wait: kind.longest_wait(random),
+            strays: random.pick(&[NEVER, NEVER, 2, 4]),
+            full: random.once_in(3),
+            faults: random.pick(&[NEVER, NEVER, NEVER, 2, 4, 12]),
+        }
+    }
+}
+
 /// A log for a table that passes 3 to 8. About half of the logs keep the table.
 pub fn log(random: &mut Random, table: &Table, kind: LogKind) -> Log {
-    let faults = random.pick(&[0, 0, 0, 2, 4, 12]);
-    let wait = kind.longest_wait(random);
-    let count = match random.index(16) {
-        0 => random.index(3),
-        1 => random.index(150),
+    let manner = Manner::any(random, kind);
+    let count = match random.index(256) {
+        0 => random.index(3_000),
+        1..16 => random.index(150),
+        16..32 => random.index(3),
         _ => random.index(40),
     };
     let mut maker = Maker { table, largest: 0, open_from: vec![None; table.tasks.len()] };
     let mut log = Log::default();
     while log.entries.len() < count {
-        let mut entry = maker.good(random, wait);
-        if faults > 0 && random.once_in(faults) {
+        let mut entry = maker.good(random, &manner);
+        if random.once_in(manner.faults) {
             maker.spoil(random, &mut entry);
         }
-        if entry.tick > kind.largest_tick() {
-            entry.tick = kind.largest_tick();
-        }
+        entry.tick = entry.tick.min(kind.largest_tick());
         maker.note(&entry);
         log.entries.push(entry);
         if entry.tick == kind.largest_tick() && random.once_in(4) {
@@ -66,22 +90,21 @@ struct Maker<'a> {
 }
 
 impl Maker<'_> {
-    /// An entry that would be taken: mostly of the task that may release first, with its whole
-    /// budget as demand in half of the cases.
-    fn good(&self, random: &mut Random, wait: u32) -> Entry {
-        let first = |&task: &usize| self.earliest(task);
-        let task = if random.once_in(3) {
-            random.index(self.table.tasks.len())
+    /// An entry that would be taken.
+    fn good(&self, random: &mut Random, manner: &Manner) -> Entry {
+        let tasks = self.table.tasks.len();
+        let start = random.index(tasks);
+        let task = if random.once_in(manner.strays) {
+            start
         } else {
-            let start = random.index(self.table.tasks.len());
-            let from_start = (start..self.table.tasks.len()).chain(0..start);
-            from_start.min_by_key(first).expect("a table has tasks")
+            let from_start = (start..tasks).chain(0..start);
+            from_start.min_by_key(|&task| self.earliest(task)).expect("a table has tasks")
         };
-        let later = if random.once_in(4) { random.between(0, wait) } else { 0 };
+        let later = if random.once_in(4) { random.between(0, manner.wait) } else { 0 };
         let budget = self.table.tasks[task].budget;
         let demand = match random.index(6) {
-            0 => 1,
-            1 | 2 => random.between(1, budget),
+            0 if !manner.full => 1,
+            1 | 2 if !manner.full => random.between(1, budget),
             _ => budget,
         };
         Entry { tick: self.earliest(task) + later, task: task as u8, demand }
