@@ -10,6 +10,7 @@
 use std::hint::black_box;
 use std::time::Instant;
 
+use bench::{best, median_ratio, take_turns};
 use samples::{Random, Shape, tight};
 
 /// Tables timed for each number of tasks.
@@ -41,7 +42,11 @@ fn main() {
     for shape in SHAPES {
         let tables = accepted_tables(shape);
         check(&tables);
-        let (proved_turns, plain_turns) = take_turns(&tables);
+        let (proved_turns, plain_turns) = take_turns(
+            TURNS,
+            || seconds_a_table(proved, &tables),
+            || seconds_a_table(plain, &tables),
+        );
         let (proved, plain) = (best(&proved_turns), best(&plain_turns));
         println!(
             "{:2} tasks on {} cores: proved {:8.0}/s  plain {:8.0}/s  \
@@ -74,13 +79,6 @@ fn check(tables: &[Vec<u8>]) {
     }
 }
 
-/// The seconds a table of each turn, of the proved and of the plain form.
-fn take_turns(tables: &[Vec<u8>]) -> (Vec<f64>, Vec<f64>) {
-    let turns =
-        (0..TURNS).map(|_| (seconds_a_table(proved, tables), seconds_a_table(plain, tables)));
-    turns.unzip()
-}
-
 fn seconds_a_table(form: Form, tables: &[Vec<u8>]) -> f64 {
     let mut out = [0; 128];
     let start = Instant::now();
@@ -92,14 +90,4 @@ fn seconds_a_table(form: Form, tables: &[Vec<u8>]) -> f64 {
         }
     }
     start.elapsed().as_secs_f64() / (PASSES * tables.len()) as f64
-}
-
-fn best(turns: &[f64]) -> f64 {
-    turns.iter().copied().fold(f64::INFINITY, f64::min)
-}
-
-fn median_ratio(proved: &[f64], plain: &[f64]) -> f64 {
-    let mut ratios: Vec<f64> = proved.iter().zip(plain).map(|(a, b)| a / b).collect();
-    ratios.sort_by(f64::total_cmp);
-    ratios[ratios.len() / 2]
 }
