@@ -129,17 +129,18 @@ impl<'a, const LEAP: u32> Run<'a, LEAP> {
             let ticks = self.heads.leap(running, LEAP.min(tick - self.clock));
             self.clock += ticks;
             if self.heads.run(running, ticks) {
-                self.finish(running);
+                self.finish();
             }
         }
         self.clock = tick;
     }
 
-    /// Takes the jobs that are done out of the first `running` heads, from the last to the first: a
-    /// task's next job has a later key, so it comes in behind the ones still to be looked at.
-    fn finish(&mut self, running: usize) {
-        for at in (0..running).rev() {
-            let Some(task) = self.heads.remove_done(at) else { continue };
+    /// Answers for the jobs that are done, and brings up the next of their tasks.
+    fn finish(&mut self) {
+        let mut done = self.heads.remove_done();
+        while done != 0 {
+            let task = done.trailing_zeros() as usize % TASKS;
+            done &= done - 1;
             let (entry, next) = self.queues[task].pop();
             self.out[usize::from(entry)] = answer(FINISHED, self.clock);
             if let Some(job) = next {
