@@ -25,6 +25,11 @@ impl Lent {
             5 => needed + 1,
             _ => needed + random.index(more + 1),
         };
+        Lent::of_length(random, length)
+    }
+
+    /// A buffer of this length at any alignment.
+    pub fn of_length(random: &mut Random, length: usize) -> Lent {
         let mut bytes = vec![0; length + 2 * MARGIN];
         random.fill(&mut bytes);
         Lent { bytes, start: 1 + random.index(MARGIN), length }

@@ -25,13 +25,23 @@ impl Logs<'_> {
         Logs { forms, table, judged: reference::judge(table) }
     }
 
-    /// Runs a log in every form and counts what it met.
+    /// Runs a log in every form, with an answer of any length, and counts what it met.
     pub fn compare(&self, random: &mut Random, log: &[u8], tally: &mut LogTally) {
-        // Where the count and the length differ, the answer is long enough for the longer of the
-        // two, since the call is refused whatever it is lent.
+        // What the entries in the bytes need. Where the count says another number of entries, the
+        // call is refused whatever it is lent.
         let needed = 8 * log.len().saturating_sub(2).div_ceil(9);
-        let (table, held_log) = (Held::new(random, self.table), Held::new(random, log));
         let lent = Lent::new(random, needed, 40);
+        self.compare_in(random, log, &lent, tally);
+    }
+
+    /// The same with an answer of this length.
+    pub fn compare_at(&self, random: &mut Random, log: &[u8], length: usize, tally: &mut LogTally) {
+        let lent = Lent::of_length(random, length);
+        self.compare_in(random, log, &lent, tally);
+    }
+
+    fn compare_in(&self, random: &mut Random, log: &[u8], lent: &Lent, tally: &mut LogTally) {
+        let (table, held_log) = (Held::new(random, self.table), Held::new(random, log));
         let input = [self.table, log];
         let mut first = None;
         for (name, form) in self.forms {
@@ -44,7 +54,7 @@ impl Logs<'_> {
         assert!(table.is_unchanged(), "the table itself was written to: {input:?}");
         assert!(held_log.is_unchanged(), "the log itself was written to: {input:?}");
         let (answer, mut by_first) = first.expect("there is a form");
-        self.check(answer, log, &lent, &mut by_first, tally);
+        self.check(answer, log, lent, &mut by_first, tally);
     }
 
     /// What holds of a run by itself: a refused call writes nothing, and a run is as demand 3 says.

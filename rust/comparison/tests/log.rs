@@ -1,7 +1,9 @@
 //! The proved log run against the reference, tick by tick, on hundreds of thousands of logs, and
 //! against the fast form on logs with ticks up to 1,000,000,000; the same ones on every run.
 
-use comparison::{FAR, LogAnswer, LogForm, LogTally, NEAR, compare_logs};
+use comparison::{FAR, LogAnswer, LogForm, LogTally, Logs, NEAR, compare_logs};
+use reference::{Entry, Log, Table, Task};
+use samples::Random;
 
 const REFERENCE: LogForm = ("reference", reference_run);
 const PROVED: LogForm = ("proved", proved_run);
@@ -91,4 +93,51 @@ fn far_logs_by_events() {
     for (_, far, name) in AT_LEAST {
         check_named(&tally, far, name);
     }
+}
+
+/// P3 on the cores 0 and 1.
+fn p3() -> Vec<u8> {
+    let task = |separation, budget, offset| Task { separation, budget, offset };
+    let tasks = vec![task(2, 1, 2), task(2, 1, 2), task(3, 3, 0)];
+    Table { labels: vec![0, 1], tasks, slack: vec![] }.bytes()
+}
+
+/// So many entries, each taken.
+fn entries(count: u32) -> Vec<u8> {
+    let entry = |index| Entry { tick: 2 * index, task: (index % 2) as u8, demand: 1 };
+    Log { entries: (0..count).map(entry).collect() }.bytes()
+}
+
+#[test]
+fn every_answer_length_around_what_is_needed() {
+    let (mut random, mut tally) = (Random::new(0), LogTally::default());
+    let table = p3();
+    let logs = Logs::new(&[REFERENCE, PROVED, FAST], &table);
+    for count in 0..40 {
+        let needed = 8 * count as usize;
+        for length in 0..needed + 20 {
+            logs.compare_at(&mut random, &entries(count), length, &mut tally);
+        }
+    }
+    let short = 8 * (39 * 40 / 2);
+    assert_eq!((tally.calls(16), tally.logs()), (short, short + 40 * 20));
+}
+
+#[test]
+fn every_length_of_a_short_log() {
+    let (mut random, mut tally) = (Random::new(0), LogTally::default());
+    let table = p3();
+    let logs = Logs::new(&[REFERENCE, PROVED, FAST], &table);
+    let bytes = entries(40);
+    for length in 0..bytes.len() {
+        for count in 0..40u8 {
+            let mut log = bytes[..length].to_vec();
+            if let Some(low) = log.first_mut() {
+                *low = count;
+            }
+            logs.compare_at(&mut random, &log, 400, &mut tally);
+        }
+    }
+    // Each count agrees with one length.
+    assert_eq!(tally.calls(14), tally.logs() - 40);
 }

@@ -42,13 +42,13 @@ pub fn judge(table: &[u8], out: &mut [u8]) -> Result<usize, Refusal> {
     decode(answer).map(|tasks| tasks as usize)
 }
 
-/// Runs a release log on a show table. Where the call is not refused, each entry's 8 bytes stand in
-/// `out` (kind 1 and finish tick, or kind 2 and refusal number, 4 bytes each, low byte first), later
-/// bytes of `out` stay, and the number of taken and of refused entries come back. Where it is
-/// refused, `out` stays as it is.
+/// Runs a release log on a show table. Where the call is not refused, the 8 bytes of each entry
+/// stand in `out` (kind 1 and finish tick, or kind 2 and refusal number, 4 bytes each, low byte
+/// first), later bytes of `out` stay, and the numbers of taken and of refused entries come back.
+/// Where it is refused, `out` stays as it is.
 pub fn run_log(table: &[u8], log: &[u8], out: &mut [u8]) -> Result<(usize, usize), Refusal> {
-    // SAFETY: as in `judge`, with three slices: none is null, and `out` overlaps no other. Table and
-    // log may overlap, since both are only read.
+    // SAFETY: as in `judge`, with three slices: none is null, and `out` overlaps no other. Table
+    // and log may overlap each other, since both are only read.
     let answer = unsafe {
         ffi::dahomike_run_log(
             table.as_ptr(),

@@ -1,7 +1,7 @@
 //! Document 01's part "Release logs": a log run, tick by tick, on a machine of its own.
 //!
 //! When a release finishes is not asked of the machine: it is counted from the steps' answers, as
-//! the document defines it.
+//! the document defines it. Ticks are 64 bits wide, and a sum that wraps stops the run.
 
 use std::collections::VecDeque;
 

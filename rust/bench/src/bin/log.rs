@@ -17,9 +17,11 @@ use samples::Random;
 
 const ENTRIES: usize = 65_535;
 
-/// Turns of each pair, and runs in a turn.
-const TURNS: usize = 41;
-const RUNS: usize = 3;
+/// Turns of one run that each of a pair takes: many short ones, so that some are undisturbed.
+const TURNS: usize = 151;
+
+/// The same where one of a pair goes tick by tick.
+const TICK_TURNS: usize = 9;
 
 /// Entries of the log of long jobs that are timed tick by tick, in the fast form and in the
 /// reference.
@@ -47,7 +49,7 @@ fn reference_by_ticks(table: &[u8], log: &[u8], out: &mut [u8]) -> Counts {
 }
 
 fn main() {
-    println!("logs of {ENTRIES} entries, {TURNS} turns of {RUNS} runs");
+    println!("logs of {ENTRIES} entries, {TURNS} turns each");
     far_against_near();
     long_jobs_against_ticks();
     dense(&dense_table(8, 16, (14, 7)), "dense, 16 tasks on 8 cores");
@@ -67,15 +69,16 @@ impl Case {
     }
 
     /// The seconds of a run of a log.
-    fn seconds(&self, form: Form, log: &[u8], runs: usize) -> f64 {
+    fn seconds(&self, form: Form, log: &[u8]) -> f64 {
         let mut out = vec![0; 8 * ENTRIES];
+        // So that no page of the answer is new to the timed run.
+        black_box(out.as_mut_slice()).fill(1);
         let start = Instant::now();
-        for _ in 0..runs {
-            let counts = black_box(form)(black_box(&self.table), black_box(log), &mut out);
-            assert_eq!(counts.1, 0, "every entry is taken");
-            black_box(&out);
-        }
-        start.elapsed().as_secs_f64() / runs as f64
+        let counts = black_box(form)(black_box(&self.table), black_box(log), &mut out);
+        black_box(&out);
+        let seconds = start.elapsed().as_secs_f64();
+        assert_eq!(counts.1, 0, "every entry is taken");
+        seconds
     }
 
     /// The proved run and the plain one give the same on the whole log.
@@ -97,11 +100,8 @@ fn far_against_near() {
     let (far_log, near_log) = (far.log(ENTRIES), near.log(ENTRIES));
     far.check(&far_log);
     near.check(&near_log);
-    let (far_turns, near_turns) = take_turns(
-        TURNS,
-        || far.seconds(proved, &far_log, RUNS),
-        || near.seconds(proved, &near_log, RUNS),
-    );
+    let (far_turns, near_turns) =
+        take_turns(TURNS, || far.seconds(proved, &far_log), || near.seconds(proved, &near_log));
     print_pair("to tick 10^9, and to 10^6, both proved", "10^9", &far_turns, "10^6", &near_turns);
 }
 
@@ -139,9 +139,9 @@ fn long_jobs_against_ticks() {
         let log = case.log(part);
         let scale = ENTRIES as f64 / part as f64;
         let (proved_turns, tick_turns) = take_turns(
-            5,
-            || case.seconds(proved, &whole, RUNS),
-            || case.seconds(form, &log, 1) * scale,
+            TICK_TURNS,
+            || case.seconds(proved, &whole),
+            || case.seconds(form, &log) * scale,
         );
         let name = format!("100,000-tick jobs, tick by tick ({name}, from {part} entries)");
         print_pair(&name, "by ticks", &tick_turns, "proved", &proved_turns);
@@ -160,7 +160,7 @@ fn dense(table: &Table, name: &str) {
             let task = random.pick(&open);
             open_from[task] = tick + table.tasks[task].separation;
             let budget = table.tasks[task].budget;
-            let demand = if random.once_in(2) { budget } else { random.between(1, budget) };
+            let demand = if random.once_in(4) { random.between(1, budget) } else { budget };
             entries.push(Entry { tick, task: task as u8, demand });
         }
         tick += 1;
@@ -169,7 +169,7 @@ fn dense(table: &Table, name: &str) {
     let log = case.log(ENTRIES);
     case.check(&log);
     let (proved_turns, plain_turns) =
-        take_turns(TURNS, || case.seconds(proved, &log, RUNS), || case.seconds(plain, &log, RUNS));
+        take_turns(TURNS, || case.seconds(proved, &log), || case.seconds(plain, &log));
     print_pair(name, "proved", &proved_turns, "plain", &plain_turns);
 }
 
