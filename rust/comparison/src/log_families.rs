@@ -19,7 +19,9 @@ pub struct Family {
 }
 
 /// Logs that the reference can go through tick by tick.
-pub const NEAR: [Family; 3] = [
+pub const NEAR: [Family; 4] = [
+    // Few, since their jobs are long.
+    Family { tables: 60, logs: 3, table: accepted_any, log: near },
     Family { tables: 7_000, logs: 20, table: accepted_short, log: near },
     Family { tables: 1_000, logs: 10, table: accepted_short, log: near_damaged },
     Family { tables: 2_000, logs: 3, table: refused_short, log: near_damaged },

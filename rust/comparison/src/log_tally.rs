@@ -141,6 +141,7 @@ impl LogTally {
         let exactly = past.last.is_some_and(|last| entry.tick == last + task.separation);
         self.count_if(exactly, "taken, exactly T after the last taken");
         self.count_if(entry.demand == task.budget, "taken, demand C");
+        self.count_if(entry.demand > 65_535, "taken, demand above 65,535");
         let took = u128::from(finish) - u128::from(entry.tick);
         self.count_if(took > u128::from(entry.demand), "taken, waits for a core or its own loop");
         let near = took + 2 >= plan.bound(place);

@@ -10,7 +10,7 @@ const PROVED: LogForm = ("proved", proved_run);
 const FAST: LogForm = ("fast", fast_run);
 
 /// How often each of these is met, at least, by near logs and by far ones.
-const AT_LEAST: [(u64, u64, &str); 26] = [
+const AT_LEAST: [(u64, u64, &str); 27] = [
     (50_000, 10_000, "run, log keeps the table"),
     (40_000, 10_000, "run, log does not keep the table"),
     (20_000, 4_000, "run, slack offered"),
@@ -37,6 +37,7 @@ const AT_LEAST: [(u64, u64, &str); 26] = [
     (2_000, 20, "taken, its loop then holds 8 jobs or more"),
     (10_000, 1_000, "taken, finishes within 2 ticks of its bound"),
     (0, 50_000, "taken, after 100,000 idle ticks"),
+    (0, 500, "taken, demand above 65,535"),
 ];
 
 fn reference_run(table: &[u8], log: &[u8], out: &mut [u8]) -> LogAnswer {
