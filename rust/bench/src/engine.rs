@@ -10,7 +10,7 @@ use comparison::{to_fast, to_proved};
 use reference::{Plan, State, Table, judge};
 use samples::{Random, Shape, brisk, busy, tight};
 
-use crate::turns::{best, median, seconds};
+use crate::turns::{best, median, seconds, take_turns};
 
 /// States timed of each kind.
 const STATES: usize = 50;
@@ -25,21 +25,15 @@ const MORE: usize = 32;
 const SHAPE: Shape = Shape { cores: 8, tasks: 16 };
 
 /// The seconds of each turn: a step, and a row of steps.
-#[derive(Default)]
 struct Times {
     step: Vec<f64>,
     row: Vec<f64>,
 }
 
 impl Times {
-    /// A turn of a form that takes a state and makes so many more steps after the first.
-    fn take_turn<S>(&mut self, states: &[S], form: impl Fn(&S, usize)) {
-        let timed = |more| {
-            let pass = || states.iter().for_each(|state| form(black_box(state), more));
-            seconds(1, pass) / states.len() as f64
-        };
-        self.step.push(timed(0));
-        self.row.push(timed(MORE));
+    fn of(turns: Vec<(f64, f64)>) -> Times {
+        let (step, row) = turns.into_iter().unzip();
+        Times { step, row }
     }
 
     /// A tick by the best turn or by the median one.
@@ -50,7 +44,8 @@ impl Times {
 
 pub fn run() {
     println!(
-        "states of 16 tasks on 8 cores, each task with 16 jobs, {STATES} of each kind, {TURNS} turns"
+        "states of 16 tasks on 8 cores, each task with 16 jobs, {STATES} of each kind, \
+         {TURNS} turns"
     );
     time("jobs finish in nearly every tick", |random| brisk(random, SHAPE));
     time("jobs seldom finish", |random| tight(random, SHAPE));
@@ -60,16 +55,24 @@ fn time(kind: &str, make: fn(&mut Random) -> Table) {
     let states = busy_states(make);
     let (proved_states, plain_states): (Vec<_>, Vec<_>) =
         states.iter().map(|state| (to_proved(state), to_fast(state))).unzip();
-    let (mut proved, mut plain) = (Times::default(), Times::default());
-    for _ in 0..TURNS {
-        proved.take_turn(&proved_states, proved_row);
-        plain.take_turn(&plain_states, plain_row);
-    }
+    let (proved, plain) =
+        take_turns(TURNS, || turn(&proved_states, proved_row), || turn(&plain_states, plain_row));
+    let (proved, plain) = (Times::of(proved), Times::of(plain));
     println!("{kind}:");
     let step = |by: fn(&[f64]) -> f64| (by(&proved.step), by(&plain.step));
     let tick = |by| (proved.tick(by), plain.tick(by));
     print("step", step(best), step(median));
     print("tick", tick(best), tick(median));
+}
+
+/// The seconds of a step and of a row of steps, in a form that takes a state and makes so many more
+/// steps after the first.
+fn turn<S>(states: &[S], form: impl Fn(&S, usize)) -> (f64, f64) {
+    let timed = |more| {
+        let pass = || states.iter().for_each(|state| form(black_box(state), more));
+        seconds(1, pass) / states.len() as f64
+    };
+    (timed(0), timed(MORE))
 }
 
 /// The seconds of the proved and of the plain form, by the best turn and by the median one.

@@ -4,8 +4,9 @@
 
 use std::hint::black_box;
 
-use crate::turns::{best, median_ratio, seconds};
 use samples::{Random, Shape, tight};
+
+use crate::turns::{best, median_ratio, seconds, take_turns};
 
 /// Tables timed for each number of tasks.
 const TABLES: usize = 500;
@@ -36,7 +37,11 @@ pub fn run() {
     for shape in SHAPES {
         let tables = accepted_tables(shape);
         check(&tables);
-        let (proved_turns, plain_turns) = take_turns(&tables);
+        let (proved_turns, plain_turns) = take_turns(
+            TURNS,
+            || seconds_a_table(proved, &tables),
+            || seconds_a_table(plain, &tables),
+        );
         let (proved, plain) = (best(&proved_turns), best(&plain_turns));
         println!(
             "{:2} tasks on {} cores: proved {:8.0}/s  plain {:8.0}/s  \
@@ -67,13 +72,6 @@ fn check(tables: &[Vec<u8>]) {
         assert_eq!(proved(table, &mut by_proved), plain(table, &mut by_plain), "{table:?}");
         assert_eq!(by_proved, by_plain, "{table:?}");
     }
-}
-
-/// The seconds a table of each turn, of the proved and of the plain form.
-fn take_turns(tables: &[Vec<u8>]) -> (Vec<f64>, Vec<f64>) {
-    let turns =
-        (0..TURNS).map(|_| (seconds_a_table(proved, tables), seconds_a_table(plain, tables)));
-    turns.unzip()
 }
 
 fn seconds_a_table(form: Form, tables: &[Vec<u8>]) -> f64 {

@@ -1,11 +1,12 @@
-//! What the compared releases and steps met.
+//! What the compared releases and steps met, so that a run can show that it was not empty.
 
 use std::collections::BTreeMap;
 
 use reference::{Clause, IDLE, LAST_TICK, MOST_JOBS, State, Stepped, broken, points};
 
-/// How many states and calls were compared, how many calls met each refusal number, how many of the unsound states
-/// break a single clause, and how many calls lay at an edge, by a name that says which.
+/// How many states and calls were compared, how many calls met each refusal number, how many were
+/// on a state that breaks just these clauses of soundness, and how many lay at an edge, by a name
+/// that says which.
 #[derive(Default)]
 pub struct EngineTally {
     states: u64,

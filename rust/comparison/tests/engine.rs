@@ -3,7 +3,7 @@
 
 use comparison::{EngineTally, compare_release, compare_step, compare_steps};
 use reference::{Clause, Plan, State, open};
-use samples::{Random, accepted, busy, harmed, sound, tied};
+use samples::{Random, accepted_plan, busy, harmed, sound, tied};
 
 /// How many plans, sound states of each, runs from an opening, and calls of each run.
 const PLANS: u64 = 8_000;
@@ -96,7 +96,7 @@ fn many_states() {
     let mut random = Random::new(3);
     let mut tally = EngineTally::default();
     for _ in 0..PLANS {
-        let plan = accepted(&mut random);
+        let plan = accepted_plan(&mut random);
         for _ in 0..STATES {
             let state = sound(&mut random, &plan);
             both_calls(&mut random, &state, &mut tally);
@@ -109,7 +109,7 @@ fn many_states() {
         }
     }
     for _ in 0..RUNS {
-        let plan = accepted(&mut random);
+        let plan = accepted_plan(&mut random);
         run(&mut random, &plan, &mut tally);
     }
     tally.print();

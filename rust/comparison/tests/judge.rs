@@ -1,9 +1,9 @@
 //! The proved judgement against the reference on hundreds of thousands of tables, the same ones on
 //! every run.
 
-use comparison::{Tally, compare};
+use comparison::{TableTally, compare_table};
 use samples::{
-    Random, Shape, damaged, faulty, long, mixed, noise, offered, overfull, steep, tight,
+    Random, Shape, any_tight, damaged, faulty, long, mixed, noise, offered, overfull, steep,
 };
 
 /// A way to make tables, and how many of them are compared.
@@ -13,7 +13,7 @@ const FAMILIES: [Family; 9] = [
     (60_000, |random| mixed(random).bytes()),
     (50_000, |random| long(random).bytes()),
     (40_000, |random| steep(random).bytes()),
-    (60_000, any_tight),
+    (60_000, |random| any_tight(random).bytes()),
     (20_000, any_overfull),
     (120_000, |random| offered(random).bytes()),
     (70_000, |random| faulty(random).bytes()),
@@ -49,11 +49,6 @@ const AT_LEAST: [(u64, &str); 21] = [
     (5_000, "refused 24, buffer one byte short"),
 ];
 
-fn any_tight(random: &mut Random) -> Vec<u8> {
-    let shape = Shape::any(random);
-    tight(random, shape).bytes()
-}
-
 fn any_overfull(random: &mut Random) -> Vec<u8> {
     let shape = Shape::any(random);
     overfull(random, shape).bytes()
@@ -70,12 +65,12 @@ fn any_damaged(random: &mut Random) -> Vec<u8> {
 
 #[test]
 fn many_tables() {
-    let mut tally = Tally::default();
+    let mut tally = TableTally::default();
     for (seed, (tables, make)) in (1..).zip(FAMILIES) {
         let mut random = Random::new(seed);
         for _ in 0..tables {
             let table = make(&mut random);
-            compare(&mut random, &table, &mut tally);
+            compare_table(&mut random, &table, &mut tally);
         }
     }
     tally.print();
@@ -93,13 +88,13 @@ fn many_tables() {
 #[test]
 fn every_table_of_up_to_two_bytes_after_the_edition() {
     let mut random = Random::new(0);
-    let mut tally = Tally::default();
-    compare(&mut random, &[], &mut tally);
+    let mut tally = TableTally::default();
+    compare_table(&mut random, &[], &mut tally);
     for first in 0..=255 {
-        compare(&mut random, &[first], &mut tally);
-        compare(&mut random, &[1, first], &mut tally);
+        compare_table(&mut random, &[first], &mut tally);
+        compare_table(&mut random, &[1, first], &mut tally);
         for second in 0..=255 {
-            compare(&mut random, &[1, first, second], &mut tally);
+            compare_table(&mut random, &[1, first, second], &mut tally);
         }
     }
     assert_eq!((tally.refused(1), tally.refused(2)), (256, 1 + 256 + 65_536));

@@ -18,6 +18,15 @@ mod ffi {
             out: *mut u8,
             out_len: usize,
         ) -> u64;
+
+        pub fn dahomike_run_log(
+            table: *const u8,
+            table_len: usize,
+            log: *const u8,
+            log_len: usize,
+            out: *mut u8,
+            out_len: usize,
+        ) -> u64;
     }
 }
 
@@ -33,6 +42,31 @@ pub fn judge(table: &[u8], out: &mut [u8]) -> Result<usize, Refusal> {
     decode(answer).map(|tasks| tasks as usize)
 }
 
+/// Runs a release log on a show table. Where the call is not refused, the 8 bytes of each entry
+/// stand in `out` (kind 1 and finish tick, or kind 2 and refusal number, 4 bytes each, low byte
+/// first), later bytes of `out` stay, and the numbers of taken and of refused entries come back.
+/// Where it is refused, `out` stays as it is.
+pub fn run_log(table: &[u8], log: &[u8], out: &mut [u8]) -> Result<(usize, usize), Refusal> {
+    // SAFETY: as in `judge`, with three slices: none is null, and `out` overlaps no other. Table
+    // and log may overlap each other, since both are only read.
+    let answer = unsafe {
+        ffi::dahomike_run_log(
+            table.as_ptr(),
+            table.len(),
+            log.as_ptr(),
+            log.len(),
+            out.as_mut_ptr(),
+            out.len(),
+        )
+    };
+    decode(answer).map(counts)
+}
+
+/// How many entries were taken and how many refused, of taken + 65,536 × refused.
+fn counts(value: u32) -> (usize, usize) {
+    ((value & 0xffff) as usize, (value >> 16) as usize)
+}
+
 /// The 64-bit answer of a C function taken apart: the value of an accepted call, or
 /// 4,294,967,296 × refusal number + index.
 fn decode(answer: u64) -> Result<u32, Refusal> {
@@ -43,7 +77,7 @@ fn decode(answer: u64) -> Result<u32, Refusal> {
 
 #[cfg(test)]
 mod tests {
-    use super::{Refusal, decode};
+    use super::{Refusal, counts, decode};
 
     #[test]
     fn an_answer_is_a_value_or_a_number_and_an_index() {
@@ -52,5 +86,13 @@ mod tests {
         assert_eq!(decode(u64::from(u32::MAX)), Ok(u32::MAX));
         assert_eq!(decode(4_294_967_296), Err(Refusal { number: 1, index: 0 }));
         assert_eq!(decode(7 * 4_294_967_296 + 15), Err(Refusal { number: 7, index: 15 }));
+    }
+
+    #[test]
+    fn a_run_has_two_counts() {
+        assert_eq!(counts(0), (0, 0));
+        assert_eq!(counts(2 + 65_536), (2, 1));
+        assert_eq!(counts(65_535), (65_535, 0));
+        assert_eq!(counts(65_536 * 65_535), (0, 65_535));
     }
 }

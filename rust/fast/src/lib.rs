@@ -1,14 +1,19 @@
-//! The judgement of a show table and the engine's release and step written for speed, which the
-//! proved code is timed against: numbers of at most 64 bits, no heap, one pass over the tasks where
-//! one is enough, and one division by H and one by m for each round of the slack search.
+//! The judgement of a show table, the engine's release and step, and the log run, written for
+//! speed: the proved code is timed against them. Numbers have at most 64 bits, and nothing is on
+//! the heap. The judgement makes one pass over the tasks where one is enough, and one division by H
+//! and one by m for each round of the slack search. The engine advances a state where it lies. The
+//! log run goes from event to event and not from tick to tick.
 
 #![forbid(unsafe_code)]
 
 mod engine;
+mod heads;
+mod log;
 mod slack;
 mod table;
 
 pub use engine::{Report, State};
+pub use log::{run_log, run_log_by_ticks};
 pub use table::Tasks;
 
 use slack::Demand;
@@ -23,12 +28,29 @@ pub struct Refusal {
 
 /// Judges a table and writes slack and bound of each task to `out`, as the C judgement does.
 pub fn judge(table: &[u8], out: &mut [u8]) -> Result<usize, Refusal> {
-    let sections = Sections::split(table)?;
-    let cores = sections.cores()?;
-    let tasks = Tasks::read(sections.tasks, cores)?;
-    let demand = Demand::of(&tasks, cores)?;
-    let slack = slack(&demand, &tasks, sections.slack)?;
-    write(&tasks, &slack, out)
+    let plan = Plan::of(table)?;
+    write(&plan, out)
+}
+
+/// An accepted table.
+struct Plan {
+    cores: usize,
+    tasks: Tasks,
+    slack: [u32; TASKS],
+    bound: [u64; TASKS],
+}
+
+impl Plan {
+    /// 1 to 13.
+    fn of(table: &[u8]) -> Result<Plan, Refusal> {
+        let sections = Sections::split(table)?;
+        let cores = sections.cores()?;
+        let tasks = Tasks::read(sections.tasks, cores)?;
+        let demand = Demand::of(&tasks, cores)?;
+        let slack = slack(&demand, &tasks, sections.slack)?;
+        let bound = bounds(&tasks, &slack)?;
+        Ok(Plan { cores, tasks, slack, bound })
+    }
 }
 
 /// The slack, found or offered: 11 and 12.
@@ -49,19 +71,6 @@ fn slack(demand: &Demand, tasks: &Tasks, offer: &[[u8; 4]]) -> Result<[u32; TASK
     }
 }
 
-/// 24, and the answer's bytes.
-fn write(tasks: &Tasks, slack: &[u32; TASKS], out: &mut [u8]) -> Result<usize, Refusal> {
-    let count = tasks.count;
-    let bounds = bounds(tasks, slack)?;
-    let Some(out) = out.get_mut(..8 * count) else {
-        return refuse(24, 0);
-    };
-    for (k, entry) in out.as_chunks_mut().0.iter_mut().enumerate() {
-        *entry = (bounds[k] << 32 | u64::from(slack[k])).to_le_bytes();
-    }
-    Ok(count)
-}
-
 /// The bound of each task: 13.
 fn bounds(tasks: &Tasks, slack: &[u32; TASKS]) -> Result<[u64; TASKS], Refusal> {
     let mut bounds = [0; TASKS];
@@ -72,6 +81,18 @@ fn bounds(tasks: &Tasks, slack: &[u32; TASKS]) -> Result<[u64; TASKS], Refusal> 
         }
     }
     Ok(bounds)
+}
+
+/// 24, and the answer's bytes.
+fn write(plan: &Plan, out: &mut [u8]) -> Result<usize, Refusal> {
+    let count = plan.tasks.count;
+    let Some(out) = out.get_mut(..8 * count) else {
+        return refuse(24, 0);
+    };
+    for (k, entry) in out.as_chunks_mut().0.iter_mut().enumerate() {
+        *entry = (plan.bound[k] << 32 | u64::from(plan.slack[k])).to_le_bytes();
+    }
+    Ok(count)
 }
 
 fn refuse<T>(number: u32, index: usize) -> Result<T, Refusal> {

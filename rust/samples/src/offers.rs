@@ -6,7 +6,7 @@ use reference::{Analysis, Table, Task};
 
 /// A table that offers slack on either side of compliance for some task.
 pub fn offered(random: &mut Random) -> Table {
-    let mut table = match random.index(6) {
+    let table = match random.index(6) {
         0 => flat(random),
         1 => steep(random),
         2 => long(random),
@@ -16,6 +16,11 @@ pub fn offered(random: &mut Random) -> Table {
         }
         _ => mixed(random),
     };
+    with_offer(random, table)
+}
+
+/// The table with slack offered on either side of compliance for some task.
+pub fn with_offer(random: &mut Random, mut table: Table) -> Table {
     let lowest = lowest_entries(random, &table.tasks);
     let mut slack = compliant(&table, lowest);
     change(random, &mut slack);

@@ -129,7 +129,7 @@ pub fn divisor(random: &mut Random, number: u32) -> u32 {
 }
 
 /// Tasks with these separations whose budgets ask for a random part of the cores.
-fn loaded(random: &mut Random, cores: usize, separations: &[u32]) -> Table {
+pub fn loaded(random: &mut Random, cores: usize, separations: &[u32]) -> Table {
     let weights: Vec<u64> = separations.iter().map(|_| 1 + random.bits() % 100).collect();
     let sum: u64 = weights.iter().sum();
     let percent = u64::from(random.between(10, 105));

@@ -2,7 +2,7 @@
 //! clock's end. Not all of them can be reached from an opening.
 
 use crate::shapes::{labels, offset};
-use crate::{Random, Shape, mixed, offered, steep, tight};
+use crate::{Random, Shape, any_tight, mixed, offered, steep};
 use reference::{Job, LAST_TICK, MOST_JOBS, Plan, State, Table, Task, judge, open};
 
 /// Separations whose least common multiple is 120.
@@ -10,16 +10,13 @@ const BRISK: [u32; 10] = [2, 3, 4, 5, 6, 8, 10, 12, 15, 20];
 
 /// An accepted plan: one of short tasks, whose jobs finish within a few ticks, or of any of the
 /// tables that the judgement is compared on.
-pub fn accepted(random: &mut Random) -> Plan {
+pub fn accepted_plan(random: &mut Random) -> Plan {
     loop {
         let table = match random.index(8) {
             0 => mixed(random),
             1 => steep(random),
             2 => offered(random),
-            3 => {
-                let shape = Shape::any(random);
-                tight(random, shape)
-            }
+            3 => any_tight(random),
             _ => {
                 let shape = Shape::any(random);
                 brisk(random, shape)

@@ -4,12 +4,23 @@ use crate::shapes::{composite, divisor, labels, offset};
 use crate::{Random, Shape};
 use reference::{Table, Task};
 
+/// A table without slack, of any shape, whose shares add up to exactly m × H.
+pub fn any_tight(random: &mut Random) -> Table {
+    let shape = Shape::any(random);
+    tight(random, shape)
+}
+
 /// A table without slack of this shape whose shares add up to exactly m × H.
+pub fn tight(random: &mut Random, shape: Shape) -> Table {
+    let separations = separations(random);
+    tight_with(random, shape, &separations)
+}
+
+/// The same with these separations for its groups.
 ///
 /// Its tasks fall into groups of one separation each, and the budgets of a group add up to a whole
 /// number of that separation: the group fills that many cores.
-pub fn tight(random: &mut Random, shape: Shape) -> Table {
-    let separations = separations(random);
+pub fn tight_with(random: &mut Random, shape: Shape, separations: &[u32]) -> Table {
     let mut tasks = Vec::new();
     let (mut cores, mut left) = (shape.cores, shape.tasks);
     for separation in separations.iter().cycle() {

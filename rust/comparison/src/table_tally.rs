@@ -2,19 +2,19 @@
 
 use std::collections::BTreeMap;
 
-use crate::Answer;
+use crate::tables::Answer;
 use reference::{Analysis, Table};
 
 /// How many tables met each refusal number, how many were accepted, and how many of either lay at
 /// an edge, by a name that says which.
 #[derive(Default)]
-pub struct Tally {
+pub struct TableTally {
     tables: u64,
     refused: BTreeMap<u32, u64>,
     named: BTreeMap<&'static str, u64>,
 }
 
-impl Tally {
+impl TableTally {
     /// All tables that were counted.
     pub fn tables(&self) -> u64 {
         self.tables

@@ -1,0 +1,9 @@
+//! Times the proved code against the plain code written for speed, in the same run: the judgement,
+//! the engine's step and tick, and the log run.
+
+#![forbid(unsafe_code)]
+
+pub mod engine;
+pub mod judge;
+pub mod log;
+mod turns;

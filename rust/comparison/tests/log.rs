@@ -1,0 +1,144 @@
+//! The proved log run against the reference, tick by tick, on hundreds of thousands of logs, and
+//! against the fast form on logs with ticks up to 1,000,000,000; the same ones on every run.
+
+use comparison::{FAR, LogAnswer, LogForm, LogTally, Logs, NEAR, compare_logs};
+use reference::{Entry, Log, Table, Task};
+use samples::Random;
+
+const REFERENCE: LogForm = ("reference", reference_run);
+const PROVED: LogForm = ("proved", proved_run);
+const FAST: LogForm = ("fast", fast_run);
+
+/// How often each of these is met, at least, by near logs and by far ones.
+const AT_LEAST: [(u64, u64, &str); 27] = [
+    (50_000, 10_000, "run, log keeps the table"),
+    (40_000, 10_000, "run, log does not keep the table"),
+    (20_000, 4_000, "run, slack offered"),
+    (5_000, 1_000, "run, log empty"),
+    (200, 30, "run, more than 1,000 entries"),
+    (2_000, 10_000, "run, largest tick from 5,000"),
+    (0, 1_000, "run, largest tick 1,000,000,000"),
+    (50_000, 10_000, "run, answer exactly long enough"),
+    (50_000, 10_000, "run, answer longer"),
+    (5_000, 1_000, "refused 16, answer empty"),
+    (20_000, 4_000, "refused 16, answer one byte short"),
+    (2_000, 4_000, "refused 15, index above 0"),
+    (500, 1_000, "refused 15, and the answer too short"),
+    (1_000, 200, "refused 14, count absent"),
+    (5_000, 0, "table refused, and the log too"),
+    (10_000, 4_000, "refused 20, first loop outside"),
+    (20_000, 4_000, "refused 21, demand 0"),
+    (20_000, 4_000, "refused 21, demand C + 1"),
+    (10_000, 2_000, "refused 22, one tick too soon"),
+    (10_000, 2_000, "refused 22, at the tick of the last taken"),
+    (1_000_000, 100_000, "taken, exactly T after the last taken"),
+    (500_000, 100_000, "taken, waits for a core or its own loop"),
+    (50_000, 5_000, "taken, its loop then holds 2 jobs or more"),
+    (2_000, 20, "taken, its loop then holds 8 jobs or more"),
+    (10_000, 1_000, "taken, finishes within 2 ticks of its bound"),
+    (0, 50_000, "taken, after 100,000 idle ticks"),
+    (0, 500, "taken, demand above 65,535"),
+];
+
+fn reference_run(table: &[u8], log: &[u8], out: &mut [u8]) -> LogAnswer {
+    reference::run_log(table, log, out).map_err(|refusal| (refusal.number, refusal.index))
+}
+
+fn proved_run(table: &[u8], log: &[u8], out: &mut [u8]) -> LogAnswer {
+    dahomike::run_log(table, log, out).map_err(|refusal| (refusal.number, refusal.index))
+}
+
+fn fast_run(table: &[u8], log: &[u8], out: &mut [u8]) -> LogAnswer {
+    fast::run_log(table, log, out).map_err(|refusal| (refusal.number, refusal.index))
+}
+
+/// Prints a tally and holds it to how often each refusal number is to be met.
+fn check_numbers(tally: &LogTally) {
+    tally.print();
+    for number in [14, 15, 16] {
+        let met = tally.calls(number);
+        assert!(met >= 3_000, "refused {number}: {met} calls");
+    }
+    for number in [17, 20, 21, 22] {
+        let met = tally.entries(number);
+        assert!(met >= 5_000, "refused {number}: {met} entries");
+    }
+    // "By it, 23 is never met in such a run."
+    assert_eq!(tally.entries(23), 0);
+}
+
+fn check_named(tally: &LogTally, least: u64, name: &str) {
+    let met = tally.named(name);
+    assert!(met >= least, "{name}: {met}");
+}
+
+#[test]
+fn near_logs_tick_by_tick() {
+    let tally = compare_logs(&[REFERENCE, PROVED, FAST], &NEAR, 1);
+    assert!(tally.logs() >= 300_000);
+    check_numbers(&tally);
+    for number in 1..=13 {
+        let met = tally.calls(number);
+        assert!(met >= 100, "refused {number}: {met} calls");
+    }
+    for (near, _, name) in AT_LEAST {
+        check_named(&tally, near, name);
+    }
+}
+
+#[test]
+fn far_logs_by_events() {
+    let tally = compare_logs(&[FAST, PROVED], &FAR, 1);
+    assert!(tally.logs() >= 60_000);
+    check_numbers(&tally);
+    for (_, far, name) in AT_LEAST {
+        check_named(&tally, far, name);
+    }
+}
+
+/// P3 on the cores 0 and 1.
+fn p3() -> Vec<u8> {
+    let task = |separation, budget, offset| Task { separation, budget, offset };
+    let tasks = vec![task(2, 1, 2), task(2, 1, 2), task(3, 3, 0)];
+    Table { labels: vec![0, 1], tasks, slack: vec![] }.bytes()
+}
+
+/// So many entries, each taken.
+fn entries(count: u32) -> Vec<u8> {
+    let entry = |index| Entry { tick: 2 * index, task: (index % 2) as u8, demand: 1 };
+    Log { entries: (0..count).map(entry).collect() }.bytes()
+}
+
+#[test]
+fn every_answer_length_around_what_is_needed() {
+    let (mut random, mut tally) = (Random::new(0), LogTally::default());
+    let table = p3();
+    let logs = Logs::new(&[REFERENCE, PROVED, FAST], &table);
+    for count in 0..40 {
+        let needed = 8 * count as usize;
+        for length in 0..needed + 20 {
+            logs.compare_at(&mut random, &entries(count), length, &mut tally);
+        }
+    }
+    let short = 8 * (39 * 40 / 2);
+    assert_eq!((tally.calls(16), tally.logs()), (short, short + 40 * 20));
+}
+
+#[test]
+fn every_length_of_a_short_log() {
+    let (mut random, mut tally) = (Random::new(0), LogTally::default());
+    let table = p3();
+    let logs = Logs::new(&[REFERENCE, PROVED, FAST], &table);
+    let bytes = entries(40);
+    for length in 0..bytes.len() {
+        for count in 0..40u8 {
+            let mut log = bytes[..length].to_vec();
+            if let Some(low) = log.first_mut() {
+                *low = count;
+            }
+            logs.compare_at(&mut random, &log, 400, &mut tally);
+        }
+    }
+    // Each count agrees with one length.
+    assert_eq!(tally.calls(14), tally.logs() - 40);
+}

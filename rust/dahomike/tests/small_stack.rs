@@ -1,0 +1,55 @@
+//! Both C calls on the largest table and the longest log in a thread with a stack of 64 KiB. A call
+//! that needs more ends the whole test program.
+
+use std::thread::Builder;
+
+use dahomike::{judge, run_log};
+
+const STACK: usize = 64 * 1024;
+
+const ENTRIES: u32 = 65_535;
+
+/// Eight cores and sixteen tasks (16, 8, 16), which fill the cores; no slack.
+fn table() -> Vec<u8> {
+    let mut table = vec![1, 8, 0, 1, 2, 3, 4, 5, 6, 7, 16];
+    for _ in 0..16 {
+        for field in [16u32, 8, 16] {
+            table.extend(field.to_le_bytes());
+        }
+    }
+    table.push(0);
+    table
+}
+
+/// One release in each tick, in turns, with the whole budget as demand.
+fn log() -> Vec<u8> {
+    let mut log = (ENTRIES as u16).to_le_bytes().to_vec();
+    for tick in 0..ENTRIES {
+        log.extend(tick.to_le_bytes());
+        log.push((tick % 16) as u8);
+        log.extend(8u32.to_le_bytes());
+    }
+    log
+}
+
+#[test]
+fn both_calls_on_a_stack_of_64_kib() {
+    let (table, log) = (table(), log());
+    let mut plan = vec![0xee; 8 * 16];
+    let mut answer = vec![0xee; 8 * ENTRIES as usize];
+    let calls = move || {
+        let judged = judge(&table, &mut plan);
+        let run = run_log(&table, &log, &mut answer);
+        (judged, run, plan, answer)
+    };
+    let thread = Builder::new().stack_size(STACK).spawn(calls).expect("the thread starts");
+    let (judged, run, plan, answer) = thread.join().expect("the calls come back");
+    assert_eq!(judged, Ok(16));
+    assert_eq!(run, Ok((ENTRIES as usize, 0)));
+    assert_eq!(plan[..8], [11, 0, 0, 0, 35, 0, 0, 0]);
+    // No task ever waits: the eight released last run.
+    for (tick, entry) in (0u32..).zip(answer.chunks(8)) {
+        assert_eq!(entry[..4], [1, 0, 0, 0]);
+        assert_eq!(entry[4..], (tick + 8).to_le_bytes());
+    }
+}

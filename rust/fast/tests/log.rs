@@ -1,0 +1,44 @@
+//! The log run by events, and tick by tick, on P10 and P11 of document 01 and over a long gap.
+
+use reference::{Entry, Log, Table, Task};
+
+/// P3 on the cores 0 and 1, tasks as (T, C, Y).
+const P3: [(u32, u32, u32); 3] = [(2, 1, 2), (2, 1, 2), (3, 3, 0)];
+
+/// Kind and value of each entry of a log with entries as (tick, task, demand), in both forms.
+fn run(tasks: &[(u32, u32, u32)], entries: &[(u32, u8, u32)]) -> Vec<(u32, u32)> {
+    let tasks =
+        tasks.iter().map(|&(separation, budget, offset)| Task { separation, budget, offset });
+    let table = Table { labels: vec![0, 1], tasks: tasks.collect(), slack: vec![] }.bytes();
+    let entries = entries.iter().map(|&(tick, task, demand)| Entry { tick, task, demand });
+    let log = Log { entries: entries.collect() };
+    let mut out = vec![0; 8 * log.entries.len()];
+    let mut by_ticks = out.clone();
+    let counts = fast::run_log(&table, &log.bytes(), &mut out);
+    assert_eq!(fast::run_log_by_ticks(&table, &log.bytes(), &mut by_ticks), counts);
+    assert_eq!(by_ticks, out);
+    let number = |bytes: &[u8]| u32::from_le_bytes(bytes.try_into().unwrap());
+    out.chunks(8).map(|entry| (number(&entry[..4]), number(&entry[4..]))).collect()
+}
+
+#[test]
+fn p10_all_at_tick_0_with_full_budgets() {
+    let all = [(0, 0, 1), (0, 1, 1), (0, 2, 3)];
+    assert_eq!(run(&P3, &all), [(1, 1), (1, 2), (1, 3)]);
+    let later = [P3[0], P3[1], (3, 3, 3)];
+    assert_eq!(run(&later, &all), [(1, 1), (1, 1), (1, 4)]);
+}
+
+#[test]
+fn p11_a_release_too_soon() {
+    let entries = [(0, 0, 1), (1, 0, 1), (2, 0, 1)];
+    assert_eq!(run(&P3, &entries), [(1, 1), (2, 22), (1, 3)]);
+}
+
+#[test]
+fn the_largest_tick_after_a_long_gap() {
+    let last = 1_000_000_000;
+    let entries = [(0, 2, 3), (last, 2, 3), (last, 0, 1), (last, 1, 1), (last - 1, 1, 1)];
+    let finished = [(1, 3), (1, last + 3), (1, last + 1), (1, last + 2), (2, 17)];
+    assert_eq!(run(&P3, &entries), finished);
+}
