@@ -12,6 +12,7 @@ ghost use Prim.Native.Nat.{ℕ, _+_};
 ghost use Rattle.tasks.specs.declared.Plan.{Plan};
 ghost use Rattle.history.specs.Log.{Entry};
 ghost use Rattle.running.specs.HandLaws.{Handing, Handed, numberOf};
+ghost use Rattle.running.specs.EnterCode.{Entering, Enters};
 
 // The clock after an entry, and 1 where it was taken.
 pub struct Place {
@@ -80,4 +81,64 @@ fn hand(
     owners[16 * task + held] = e as u32;
     join(task, tick, demand, jobs, released, last, remaining, release);
     1
+}
+
+// Enters entry `e`: one that goes back is refused 17 and handed to no call; for any other the run goes on to its tick, and hands over its
+// release.
+pub fn enter(
+    log: &[u8],
+    e: usize,
+    clock: u32,
+    cores: usize,
+    tasks: usize,
+    separations: &[u32; 16],
+    budgets: &[u32; 16],
+    offsets: &[u32; 16],
+    jobs: &mut [usize; 16],
+    released: &mut [bool; 16],
+    last: &mut [u32; 16],
+    remaining: &mut [u32; 256],
+    release: &mut [u32; 256],
+    owners: &mut [u32; 256],
+    out: &mut [u8],
+) -> Place
+    requires { ⌜
+        ((p : Plan) × ((out₀ : List ℕ)
+        × Entering p out₀ (now log) e clock cores tasks (now separations) (now budgets) (now offsets) (now jobs) (now released) (now last)
+        (now remaining) (now release) (now owners) (now out)))
+        ⌝ }
+    ensures { λ r. ⌜
+        Enters (now (log .entry)) e clock cores tasks (now (separations .entry)) (now (budgets .entry)) (now (offsets .entry))
+        (now (jobs .entry)) (now (released .entry)) (now (last .entry)) (now (remaining .entry)) (now (release .entry)) (now (owners .entry))
+        (now (out .entry)) (r .clock) (r .taken)
+        (now (jobs .exit)) (now (released .exit)) (now (last .exit)) (now (remaining .exit)) (now (release .exit)) (now (owners .exit))
+        (now (out .exit))
+        ⌝ }
+{
+    let entry = release_at(log, e);
+    let tick = entry.tick;
+    if tick < clock {
+        put_refused(out, e, refusal::BACK);
+        return Place { clock, taken: 0 };
+    }
+    advance(
+        clock, tick, cores, tasks, offsets, jobs, remaining, release, owners, out,
+    );
+    let taken = hand(
+        e,
+        tick,
+        entry.task,
+        entry.demand,
+        tasks,
+        separations,
+        budgets,
+        jobs,
+        released,
+        last,
+        remaining,
+        release,
+        owners,
+        out,
+    );
+    Place { clock: tick, taken }
 }

@@ -1,0 +1,76 @@
+-- `replay::entry::enter` meets its contract.
+use Rattle.running.specs.EnterCode.{Entering, enter-long, enter-room, enter-ready, enter-back, enter-handing}
+use Rattle.logs.specs.LogBytes.{entriesIn}
+use native.Mathlib.Omega.{arith}
+use Prim.Native.Nat.{ℕ, _≤_}
+use mathlib.Core.Path.{_≡_, _∙_}
+use borrow.Author.Needs.{needs}
+use Rattle.replay.proofs.entry.enter.Statement.{statement}
+use Rattle.replay.proofs.entry.enter.Tie as tie
+
+release-at-requires : tie.Need-release-at-requires
+release-at-requires c κs =
+    let P = c .before .before .pre in
+    let a = c .before .before .args in
+    enter-long (P .0) (P .1 .0) (a .log .now) (a .e) (a .clock) (a .cores) (a .tasks) (a .separations .now) (a .budgets .now) (a .offsets .now) (a .jobs .now)
+    (a .released .now) (a .last .now) (a .remaining .now) (a .release .now) (a .owners .now) (a .out .now) (P .1 .1)
+
+put-refused-requires : tie.Need-put-refused-requires
+put-refused-requires c κs =
+    let P = c .before .before .before .before .before .pre in
+    let a = c .before .before .before .before .before .args in
+    enter-room (P .0) (P .1 .0) (a .log .now) (a .e) (a .clock) (a .cores) (a .tasks) (a .separations .now) (a .budgets .now) (a .offsets .now) (a .jobs .now)
+    (a .released .now) (a .last .now) (a .remaining .now) (a .release .now) (a .owners .now) (a .out .now) (P .1 .1)
+
+same-length : tie.Need-same-length
+same-length c = search needs
+
+returns : tie.Need-returns
+returns c =
+    let a = c .before .before .before .before .before .before .before .before .args in
+    λ p out₀ X.
+    enter-back p out₀ (a .log .now) (a .e) (a .clock) (a .cores) (a .tasks) (a .separations .now) (a .budgets .now) (a .offsets .now) (a .jobs .now)
+    (a .released .now) (a .last .now) (a .remaining .now) (a .release .now) (a .owners .now) (a .out .now) X (c .before .before .before .before .before .release-at .result) (c .before .before .before .before .before .release-at .ensures) _
+    (c .before .before .before .before .if1 .taken) (c .before .before .put-refused .ensures)
+
+advance-requires : tie.Need-advance-requires
+advance-requires c κs =
+    let P = c .before .before .before .before .before .before .before .before .before .pre in
+    let a = c .before .before .before .before .before .before .before .before .before .args in
+    (enter-ready (P .0) (P .1 .0) (a .log .now) (a .e) (a .clock) (a .cores) (a .tasks) (a .separations .now) (a .budgets .now) (a .offsets .now) (a .jobs .now)
+    (a .released .now) (a .last .now) (a .remaining .now) (a .release .now) (a .owners .now) (a .out .now) (P .1 .1) (c .before .before .before .before .before .before .release-at .result) (c .before .before .before .before .before .before .release-at .ensures),
+    c .before .before .before .before .before .if1 .left)
+
+hand-requires : tie.Need-hand-requires
+hand-requires c κs =
+    let P = c .before .before .before .before .before .before .before .before .before .before .before .before .before .before .before .before .before .before .before .pre in
+    let a = c .before .before .before .before .before .before .before .before .before .before .before .before .before .before .before .before .before .before .before .args in
+    (P .0, (entriesIn (a .log .now), (P .1 .0,
+    enter-handing (P .0) (P .1 .0) (a .log .now) (a .e) (a .clock) (a .cores) (a .tasks) (a .separations .now) (a .budgets .now) (a .offsets .now) (a .jobs .now)
+    (a .released .now) (a .last .now) (a .remaining .now) (a .release .now) (a .owners .now) (a .out .now) (P .1 .1) (c .before .before .before .before .before .before .before .before .before .before .before .before .before .before .before .before .release-at .result) (c .before .before .before .before .before .before .before .before .before .before .before .before .before .before .before .before .release-at .ensures)
+    _ _ _ _ _ (c .before .before .before .before .before .before .before .before .before .before .before .before .before .before .before .if1 .left) (c .before .before .before .before .before .before .before .before .before .advance .ensures))))
+
+same-length-2 : tie.Need-same-length-2
+same-length-2 c = search needs
+
+returns-2 : tie.Need-returns-2
+returns-2 c =
+    let a = c .before .before .before .before .before .before .before .before .before .before .before .before .before .before .before .before .before .before .before .before .before .before .args in
+    λ p out₀ X.
+    c .before .before .hand .ensures p (entriesIn (a .log .now)) out₀
+    (enter-handing p out₀ (a .log .now) (a .e) (a .clock) (a .cores) (a .tasks) (a .separations .now) (a .budgets .now) (a .offsets .now) (a .jobs .now)
+    (a .released .now) (a .last .now) (a .remaining .now) (a .release .now) (a .owners .now) (a .out .now) X (c .before .before .before .before .before .before .before .before .before .before .before .before .before .before .before .before .before .before .before .release-at .result) (c .before .before .before .before .before .before .before .before .before .before .before .before .before .before .before .before .before .before .before .release-at .ensures)
+    _ _ _ _ _ (c .before .before .before .before .before .before .before .before .before .before .before .before .before .before .before .before .before .before .if1 .left) (c .before .before .before .before .before .before .before .before .before .before .before .before .advance .ensures))
+
+pub enter-spec : {M : Type 1} → statement M
+enter-spec =
+    tie.close
+    (tie.spec
+    release-at-requires
+    put-refused-requires
+    same-length
+    returns
+    advance-requires
+    hand-requires
+    same-length-2
+    returns-2)
