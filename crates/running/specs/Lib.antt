@@ -14,3 +14,4 @@ pub mod ReadyLaws
 pub mod LeapCode
 pub mod HandLaws
 pub mod EnterCode
+pub mod RunCode

@@ -1,0 +1,141 @@
+// The run of a log's bytes on a table's.
+use crate::entry::Place;
+use crate::entry::enter;
+use crate::onward::advance;
+use fields::columns::split;
+use logs::read::Entries;
+use logs::read::read_entries;
+use table::judge;
+use tasks::Answer;
+use tasks::Plan;
+use tasks::refusal;
+ghost use mathlib.Core.Path.{_≡_};
+ghost use mathlib.Core.List.{List};
+ghost use Prim.Native.Nat.{ℕ, _+_, _*_, _≤_};
+ghost use lib.ListN.{length};
+ghost use Rattle.tasks.specs.Content.{contentOf};
+ghost use Rattle.history.specs.Report.{report};
+ghost use Rattle.history.specs.OnMachine.{machineEngine};
+ghost use Rattle.logs.specs.LogBytes.{entriesIn, reportsTo};
+ghost use Rattle.logs.specs.LogStages.{answerOfEntries};
+ghost use Rattle.running.specs.Entered.{Fitting};
+ghost use Rattle.running.specs.RunCode.{takenTo, Begun, EntersTo};
+ghost use Rattle.replay.specs.Ran.{ranOf, runLeaves};
+
+// No job is pending so many ticks after the last release: a bound is at most 16 × 100,000.
+const LONGEST: u32 = 1_600_000;
+
+// A log run: Accepted, with how many entries were taken and how many refused, or refused, with zeros.
+pub struct Ran {
+    pub answer: Answer,
+    pub taken: usize,
+    pub refused: usize,
+}
+
+// Enters all entries of a log, one after the other. Answers the clock after them, and how many were taken.
+fn enter_all(
+    log: &[u8],
+    count: usize,
+    cores: usize,
+    tasks: usize,
+    separations: &[u32; 16],
+    budgets: &[u32; 16],
+    offsets: &[u32; 16],
+    jobs: &mut [usize; 16],
+    released: &mut [bool; 16],
+    last: &mut [u32; 16],
+    work: &mut [u32; 256],
+    release: &mut [u32; 256],
+    owners: &mut [u32; 256],
+    out: &mut [u8],
+) -> Place
+    requires { ⌜
+        ((p : Plan) × ((out₀ : List ℕ)
+        × Begun p out₀ (now log) count cores tasks (now separations) (now budgets) (now offsets) (now jobs) (now released) (now last) (now work)
+        (now release) (now owners) (now out)))
+        ⌝ }
+    ensures { λ r. ⌜
+        EntersTo (now (log .entry)) count cores tasks (now (separations .entry)) (now (budgets .entry)) (now (offsets .entry))
+        (now (jobs .entry)) (now (released .entry)) (now (last .entry)) (now (work .entry)) (now (release .entry)) (now (owners .entry))
+        (now (out .entry)) count (r .clock) (r .taken)
+        (now (jobs .exit)) (now (released .exit)) (now (last .exit)) (now (work .exit)) (now (release .exit)) (now (owners .exit))
+        (now (out .exit))
+        ⌝ }
+{
+    let mut clock = 0u32;
+    let mut taken = 0;
+    let mut e = 0;
+    while e < count {
+        let place = enter(
+            log,
+            e,
+            clock,
+            cores,
+            tasks,
+            separations,
+            budgets,
+            offsets,
+            jobs,
+            released,
+            last,
+            work,
+            release,
+            owners,
+            out,
+        );
+        clock = place.clock;
+        taken += place.taken;
+        e += 1;
+    }
+    Place { clock, taken }
+}
+
+// Runs a log of at least one entry, which fits the lent answer, on an accepted plan. Answers how many entries were taken.
+fn replay(plan: Plan, log: &[u8], count: usize, out: &mut [u8]) -> usize
+    requires { ⌜
+        Fitting plan (entriesIn (now log)) (now out) × (count ≡ length (entriesIn (now log))) × (1 ≤ count)
+        × (length (now log) ≡ 2 + 9 * length (entriesIn (now log)))
+        ⌝ }
+    ensures { λ r. ⌜
+        (r ≡ takenTo plan (entriesIn (now (log .entry))) (length (entriesIn (now (log .entry)))))
+        × (now (out .exit)
+        ≡ reportsTo (report (machineEngine (contentOf plan .tasks)) (entriesIn (now (log .entry)))) (length (entriesIn (now (log .entry))))
+        (now (out .entry)))
+        ⌝ }
+{
+    let cores = plan.cores;
+    let tasks = plan.tasks;
+    let task = plan.task;
+    let columns = split(task, tasks);
+    let separations = columns.separation;
+    let budgets = columns.budget;
+    let offsets = columns.offset;
+    let mut jobs = [0usize; 16];
+    let mut released = [false; 16];
+    let mut last = [0u32; 16];
+    let mut work = [0u32; 256];
+    let mut release = [0u32; 256];
+    let mut owners = [0u32; 256];
+    let place = enter_all(
+        log,
+        count,
+        cores,
+        tasks,
+        &separations,
+        &budgets,
+        &offsets,
+        &mut jobs,
+        &mut released,
+        &mut last,
+        &mut work,
+        &mut release,
+        &mut owners,
+        out,
+    );
+    let clock = place.clock;
+    let to = clock + LONGEST;
+    advance(
+        clock, to, cores, tasks, &offsets, &mut jobs, &mut work, &mut release, &mut owners, out,
+    );
+    place.taken
+}
