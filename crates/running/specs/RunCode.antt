@@ -3,6 +3,7 @@
 --     takenTo p l e                    how many of the first e entries are taken; taken-none, taken-more, taken-few
 --     Begun, EntersTo                  before the first entry; what the code that enters e entries gives
 --     enters-none, enters-ready, enters-more, enters-few      no entry; the next may be entered; one more, of which no more are taken
+--     run-begun                        before the first entry
 --     run-ready, run-end               after the last entry: the leaps until nothing is pending may be made, and then the answer is the document's
 use Prim.Native.Nat.{ℕ, zero, suc, _+_, _-_, _*_, _≤_, _<_}
 use mathlib.Core.Bool.{Bool, true, false, cond}
@@ -10,7 +11,7 @@ use mathlib.Core.Path.{_≡_, refl, sym, ap, subst, _∙_}
 use mathlib.Core.List.{List}
 use native.Mathlib.Numerals.{add-one}
 use native.Mathlib.Omega.{arith}
-use lib.ListN.{length, getD}
+use lib.ListN.{length, getD, replicate}
 use lib.Dec.{ltb}
 use borrow.Author.Tests.{ltb-true, ltb-false}
 use Rattle.laws.specs.Tab.{tab, cut}
@@ -18,6 +19,9 @@ use Rattle.laws.specs.TabLaws.{getD-tab, cut-below, cut-above}
 use Rattle.laws.specs.Sum.{sum, count}
 use Rattle.tasks.specs.declared.Plan.{Plan}
 use Rattle.tasks.specs.TaskSet.{row}
+use Rattle.tasks.specs.declared.Answer.the-variants.{Accepted}
+use Rattle.tasks.specs.Tests.{testPlan}
+use Rattle.state.specs.FitLaws.{in-count, plan-limits}
 use Rattle.tasks.specs.Content.{noTask, taskOf, contentOf, planOf, tidy}
 use Rattle.history.specs.Engine.{isTaken}
 use Rattle.history.specs.Log.{Entry, wait, calls, outcome}
@@ -26,10 +30,13 @@ use Rattle.history.specs.OnMachine.{machineEngine}
 use Rattle.logs.specs.LogBytes.{entriesIn, reportsTo}
 use Rattle.running.specs.Running.{Book}
 use Rattle.running.specs.Leap.{Standing, Ready, Reaches, Advanced}
-use Rattle.running.specs.Entered.{Entered, standing, entered-clock, entered-ready}
-use Rattle.running.specs.EndLaws.{end-reports}
+use Rattle.running.specs.Entered.{Fitting, Entered, standing, entered-clock, entered-ready}
+use Rattle.running.specs.EndLaws.{end-reports, entered-none}
 use Rattle.running.specs.HandLaws.{Columns, takes}
 use Rattle.running.specs.EnterCode.{Entering, Enters}
+
+pub plan-few : (p : Plan) → testPlan p ≡ Accepted → p .tasks ≤ 16
+plan-few p a = omega (arith, in-count p, plan-limits p a .tasks-high)
 
 module _ (p : Plan) where
   column : (f : ℕ → ℕ) (i : ℕ) → i < p .tasks → i < 16 → row (tab (cut (p .tasks) f 0) 16) i ≡ f i
@@ -87,10 +94,8 @@ module _ (p : Plan) (l : List Entry) where
       one true = omega arith
       one false = omega arith
 
-module _ (p : Plan) (out₀ log : List ℕ) (e clock : ℕ) (separations budgets offsets jobs : List ℕ)
-    (released : List Bool) (last work release owners out : List ℕ)
-    (X : Entered p (entriesIn log) out₀ e clock jobs released last work release owners out)
-    (C : Columns p (p .tasks) separations budgets) (Y : (i : ℕ) → i < 16 → row offsets i ≡ taskOf (p .task) i .offset) where
+module _ (p : Plan) (out₀ log : List ℕ) (e clock : ℕ) (offsets jobs : List ℕ) (released : List Bool) (last work release owners out : List ℕ)
+    (X : Entered p (entriesIn log) out₀ e clock jobs released last work release owners out) (Y : (i : ℕ) → i < 16 → row offsets i ≡ taskOf (p .task) i .offset) where
   abbrev l : List Entry
   l = entriesIn log
 
@@ -186,3 +191,21 @@ module _ (log : List ℕ) (n cores tasks : ℕ) (separations budgets offsets job
     enters-few now one jobs″ released″ last″ work″ release″ owners″ out″ P T =
         let m = enters-more now one jobs″ released″ last″ work″ release″ owners″ out″ T (P .0) (P .1 .0) (P .1 .1) .1 in
         rw m (taken-few (P .0) (entriesIn log) (e + 1))
+
+pub run-begun :
+    (p : Plan) (out log : List ℕ) (n : ℕ) (separations budgets offsets : List ℕ) → Fitting p (entriesIn log) out → n ≡ length (entriesIn log)
+    → length log ≡ 2 + 9 * length (entriesIn log)
+    → separations ≡ tab (cut (p .tasks) (λ i. taskOf (p .task) i .separation) 0) 16
+    → budgets ≡ tab (cut (p .tasks) (λ i. taskOf (p .task) i .budget) 0) 16
+    → offsets ≡ tab (cut (p .tasks) (λ i. taskOf (p .task) i .offset) 0) 16
+    → Begun p out log n (p .cores) (p .tasks) separations budgets offsets (replicate 16 0) (replicate 16 false) (replicate 16 0) (replicate 256 0)
+    (replicate 256 0) (replicate 256 0) out
+run-begun p out log n separations budgets offsets F all long a b c =
+    record {
+      entered = entered-none p (entriesIn log) out F;
+      all = all;
+      long = long;
+      cores-are = refl;
+      columns = split-columns p separations budgets (plan-few p (F .accepted)) a b;
+      offsets-are = split-offsets p offsets (F .tidied) c;
+    }

@@ -1,41 +1,67 @@
+-- `replay::run::replay` meets its contract.
+use Rattle.fields.specs.Columns.{columnsOf}
+use Rattle.fields.specs.declared.columns.Columns.{Columns}
+use Rattle.logs.specs.LogBytes.{entriesIn}
+use Rattle.running.specs.RunCode.{takenTo, plan-few, run-begun, run-clock, run-ready, run-end}
 use native.Mathlib.Omega.{arith}
-use native.Mathlib.Numerals.{add-one}
-use Prim.Native.Nat.{ℕ, _≤_, _<_, _+_, _*_, _-_}
-use mathlib.Core.Path.{_≡_, refl, ap, sym, _∙_}
-use mathlib.Core.Logic.{⊎-elim}
-use lib.ListN.{length, getD, set, length-set}
+use Prim.Native.Nat.{ℕ, _≤_}
+use mathlib.Core.Path.{_≡_, ap, sym, _∙_}
+use lib.ListN.{length}
 use borrow.Author.Needs.{needs}
 use Rattle.replay.proofs.run.replay.Statement.{statement}
 use Rattle.replay.proofs.run.replay.Tie as tie
-use Rattle.replay.proofs.run.replay.Reads as reads
-use Rattle.replay.proofs.run.replay.Lts as lts
-use Rattle.fields.proofs.columns.split.Reads as split-reads
-use Rattle.replay.proofs.onward.advance.Reads as advance-reads
-use Rattle.replay.proofs.run.enter_all.Reads as enter-all-reads
 
--- src/run.rt:109:9
 split-requires : tie.Need-split-requires
-split-requires c κs = search needs
+split-requires c κs = let b = c .before .before .before in plan-few (b .args .plan) (b .pre .0 .accepted)
 
--- src/run.rt:119:9
 enter-all-requires : tie.Need-enter-all-requires
-enter-all-requires c κs = search needs
+unfolding columnsOf
+enter-all-requires c κs =
+    let b = c .before .before .before .before .before .before .before .before .before .before .before .before .before .before .before .before .before in
+    let a = b .args in
+    (a .plan, (a .out .now,
+    run-begun (a .plan) (a .out .now) (a .log .now) (a .count) _ _ _ (b .pre .0) (b .pre .1) (b .pre .3)
+    (ap (λ (x : Columns). x .separation) (c .before .before .before .before .before .before .before .before .before .before .before .before .before .split .ensures)) (ap (λ (x : Columns). x .budget) (c .before .before .before .before .before .before .before .before .before .before .before .before .before .split .ensures))
+    (ap (λ (x : Columns). x .offset) (c .before .before .before .before .before .before .before .before .before .before .before .before .before .split .ensures))))
 
--- src/run.rt:136:14
 add-to : tie.Need-add-to
-add-to c = search needs
+unfolding columnsOf
+add-to c =
+    let b = c .before .before .before .before .before .before .before .before .before .before .before .before .before .before .before .before .before .before .before .before in
+    let a = b .args in
+    let B = run-begun (a .plan) (a .out .now) (a .log .now) (a .count) _ _ _ (b .pre .0) (b .pre .1) (b .pre .3)
+    (ap (λ (x : Columns). x .separation) (c .before .before .before .before .before .before .before .before .before .before .before .before .before .before .before .before .split .ensures)) (ap (λ (x : Columns). x .budget) (c .before .before .before .before .before .before .before .before .before .before .before .before .before .before .before .before .split .ensures))
+    (ap (λ (x : Columns). x .offset) (c .before .before .before .before .before .before .before .before .before .before .before .before .before .before .before .before .split .ensures)) in
+    let X = c .before .before .enter-all .ensures (a .plan) (a .out .now) B in
+    let some : 1 ≤ length (entriesIn (a .log .now)) = omega (arith, b .pre .1, b .pre .2) in
+    omega (arith, run-clock (a .plan) (a .out .now) (a .log .now) (a .count) _ _ _ _ _ _ _ _ _ (X .0) (B .offsets-are) (b .pre .1) some)
 
--- src/run.rt:137:5
 advance-requires : tie.Need-advance-requires
-advance-requires c κs = search needs
+unfolding columnsOf
+advance-requires c κs =
+    let b = c .before .before .before .before .before .before .before .before .before .before .before .before .before .before .before .before .before .before .before .before .before .before .before .before .before .before in
+    let a = b .args in
+    let B = run-begun (a .plan) (a .out .now) (a .log .now) (a .count) _ _ _ (b .pre .0) (b .pre .1) (b .pre .3)
+    (ap (λ (x : Columns). x .separation) (c .before .before .before .before .before .before .before .before .before .before .before .before .before .before .before .before .before .before .before .before .before .before .split .ensures)) (ap (λ (x : Columns). x .budget) (c .before .before .before .before .before .before .before .before .before .before .before .before .before .before .before .before .before .before .before .before .before .before .split .ensures))
+    (ap (λ (x : Columns). x .offset) (c .before .before .before .before .before .before .before .before .before .before .before .before .before .before .before .before .before .before .before .before .before .before .split .ensures)) in
+    let X = c .before .before .before .before .before .before .before .before .enter-all .ensures (a .plan) (a .out .now) B in
+    let some : 1 ≤ length (entriesIn (a .log .now)) = omega (arith, b .pre .1, b .pre .2) in
+    (run-ready (a .plan) (a .out .now) (a .log .now) (a .count) _ _ _ _ _ _ _ _ _ (X .0) (B .offsets-are) (b .pre .1) some, omega arith)
 
--- src/run.rt:94:1
 same-length : tie.Need-same-length
 same-length c = search needs
 
--- src/run.rt:94:1
 returns : tie.Need-returns
-returns c = search needs
+unfolding columnsOf
+returns c =
+    let b = c .before .before .before .before .before .before .before .before .before .before .before .before .before .before .before .before .before .before .before .before .before .before .before .before .before .before .before .before .before in
+    let a = b .args in
+    let B = run-begun (a .plan) (a .out .now) (a .log .now) (a .count) _ _ _ (b .pre .0) (b .pre .1) (b .pre .3)
+    (ap (λ (x : Columns). x .separation) (c .before .before .before .before .before .before .before .before .before .before .before .before .before .before .before .before .before .before .before .before .before .before .before .before .before .split .ensures)) (ap (λ (x : Columns). x .budget) (c .before .before .before .before .before .before .before .before .before .before .before .before .before .before .before .before .before .before .before .before .before .before .before .before .before .split .ensures))
+    (ap (λ (x : Columns). x .offset) (c .before .before .before .before .before .before .before .before .before .before .before .before .before .before .before .before .before .before .before .before .before .before .before .before .before .split .ensures)) in
+    let X = c .before .before .before .before .before .before .before .before .before .before .before .enter-all .ensures (a .plan) (a .out .now) B in
+    let some : 1 ≤ length (entriesIn (a .log .now)) = omega (arith, b .pre .1, b .pre .2) in
+    (X .1 ∙ ap (takenTo (a .plan) (entriesIn (a .log .now))) (b .pre .1), run-end (a .plan) (a .out .now) (a .log .now) (a .count) _ _ _ _ _ _ _ _ _ (X .0) (B .offsets-are) (b .pre .1) some _ _ _ _ _ (c .before .before .advance .ensures))
 
 pub replay-spec : {M : Type 1} → statement M
 replay-spec =
