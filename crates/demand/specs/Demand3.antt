@@ -2,6 +2,7 @@
 -- history/specs/Engine.antt and history/specs/Log.antt, and in the definitions that the contracts of `open`, `release` and `step` equal.
 --     runOn t           the engine opened on the plan of the table t
 --     Reports           what a log run writes of the entries is what *taken* and *finishes* say
+--     plan-passes       an accepted table's plan meets none of 3 to 13; log-early: no tick of a log past 15 is too late
 --     demand-3          the theorem: the three claims of every entry, one record over the whole log
 --     demand-reports    what is written of each entry
 --     demand-machine    it is what the abstract machine's run says
@@ -40,8 +41,13 @@ pub record Reports (E : Engine) (l : List Entry) : Type 0 where
   pub kind-1 : (e f : ℕ) → e < length l → (report E l e ≡ finished f) ↔ Finishes E l e f
   pub kind-2 : (e k : ℕ) → e < length l → (report E l e ≡ refusal k) ↔ (outcome E l e ≡ refused k)
 
+pub log-early : (l : List ℕ) → logTest l ≡ Accepted → (e : ℕ) → e < length (entriesIn l) → tickAt (entriesIn l) e ≤ 1000000000
+log-early l b e h =
+    let less : e < entryCount l = subst (λ n. e < n) (entries-length l) h in
+    subst (λ (x : Entry). x .tick ≤ 1000000000) (sym (entry-at l e less)) (log-ticks l b e less)
+
 module _ (t : List ℕ) (a : verdict t ≡ Accepted) where
-  plan-passes : testPlan (judged t .plan) ≡ Accepted
+  pub plan-passes : testPlan (judged t .plan) ≡ Accepted
   unfolding testPlan
   plan-passes = ap tests (judged-kept t a) ∙ verdict-parts t a .content
 
@@ -51,26 +57,21 @@ module _ (t : List ℕ) (a : verdict t ≡ Accepted) where
       (plan-history (judged t .plan) plan-passes)
 
   module _ (l : List ℕ) (b : logTest l ≡ Accepted) where
-    ticks : (e : ℕ) → e < length (entriesIn l) → tickAt (entriesIn l) e ≤ 1000000000
-    ticks e h =
-        let less : e < entryCount l = subst (λ n. e < n) (entries-length l) h in
-        subst (λ (x : Entry). x .tick ≤ 1000000000) (sym (entry-at l e less)) (log-ticks l b e less)
-
     pub demand-3 : Claim (runOn t) (contentIn t .tasks) (contentIn t .slack) (entriesIn l)
     demand-3 =
         subst (λ (c : Content). Claim (runOn t) (c .tasks) (c .slack) (entriesIn l)) (judged-kept t a)
-        (plan-demand (judged t .plan) plan-passes (entriesIn l) ticks)
+        (plan-demand (judged t .plan) plan-passes (entriesIn l) (log-early l b))
 
     -- what is written of the entries is what a run of the abstract machine of that table says
     pub demand-machine : report (runOn t) (entriesIn l) ≡ report (machineEngine (contentIn t .tasks)) (entriesIn l)
     demand-machine =
         subst (λ (c : Content). report (runOn t) (entriesIn l) ≡ report (machineEngine (c .tasks)) (entriesIn l)) (judged-kept t a)
-        (plan-reports (judged t .plan) plan-passes (entriesIn l) ticks)
+        (plan-reports (judged t .plan) plan-passes (entriesIn l) (log-early l b))
 
     pub demand-numbers : (e : ℕ) → outcome (runOn t) (entriesIn l) e ≡ met (runOn t) (contentIn t .tasks) (entriesIn l) e
     demand-numbers e =
         subst (λ (c : Content). outcome (runOn t) (entriesIn l) e ≡ met (runOn t) (c .tasks) (entriesIn l) e) (judged-kept t a)
-        (plan-numbers (judged t .plan) plan-passes (entriesIn l) ticks e)
+        (plan-numbers (judged t .plan) plan-passes (entriesIn l) (log-early l b) e)
 
     pub never-23 : (e : ℕ) → outcome (runOn t) (entriesIn l) e ≡ refused 23 → ⊥
     never-23 e m = met-not-23 (runOn t) (contentIn t .tasks) (entriesIn l) e (sym (demand-numbers e) ∙ m)

@@ -122,7 +122,16 @@ pub fn enter(
         return Place { clock, taken: 0 };
     }
     advance(
-        clock, tick, cores, tasks, offsets, jobs, remaining, release, owners, out,
+        clock,
+        tick,
+        cores,
+        tasks,
+        offsets,
+        jobs,
+        remaining,
+        release,
+        owners,
+        out,
     );
     let taken = hand(
         e,

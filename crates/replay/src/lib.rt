@@ -2,3 +2,6 @@
 mod entry;
 mod onward;
 mod run;
+
+pub use run::Ran;
+pub use run::run_log;

@@ -20,6 +20,7 @@ ghost use Rattle.logs.specs.LogBytes.{entriesIn, reportsTo};
 ghost use Rattle.logs.specs.LogStages.{answerOfEntries};
 ghost use Rattle.running.specs.Entered.{Fitting};
 ghost use Rattle.running.specs.RunCode.{takenTo, Begun, EntersTo};
+ghost use Rattle.replay.specs.declared.run.Ran.{Ran};
 ghost use Rattle.replay.specs.Ran.{ranOf, runLeaves};
 
 // No job is pending so many ticks after the last release: a bound is at most 16 × 100,000.
@@ -135,7 +136,73 @@ fn replay(plan: Plan, log: &[u8], count: usize, out: &mut [u8]) -> usize
     let clock = place.clock;
     let to = clock + LONGEST;
     advance(
-        clock, to, cores, tasks, &offsets, &mut jobs, &mut work, &mut release, &mut owners, out,
+        clock,
+        to,
+        cores,
+        tasks,
+        &offsets,
+        &mut jobs,
+        &mut work,
+        &mut release,
+        &mut owners,
+        out,
     );
     place.taken
+}
+
+fn refused(answer: Answer) -> Ran
+    ensures { λ r. ⌜ _≡_ {A = Ran} r (record { answer = answer; taken = 0; refused = 0 }) ⌝ }
+{
+    Ran {
+        answer,
+        taken: 0,
+        refused: 0,
+    }
+}
+
+// The refusal of the log's reader.
+fn unread(entries: Entries) -> Answer
+    ensures { λ r. ⌜ r ≡ answerOfEntries entries ⌝ }
+{
+    match entries {
+        Entries::Read { count: _ } => Answer::Accepted,
+        Entries::Refused { number, index } => Answer::Refused { number, index },
+    }
+}
+
+// Runs a log on a table, and writes 8 bytes for each entry.
+pub fn run_log(table: &[u8], log: &[u8], out: &mut [u8]) -> Ran
+    ensures { λ r. ⌜
+        (r ≡ ranOf (now (table .entry)) (now (log .entry)) (length (now (out .entry))))
+        × (now (out .exit) ≡ runLeaves (now (table .entry)) (now (log .entry)) (now (out .entry)))
+        ⌝ }
+{
+    let judgement = judge(table);
+    let answer = judgement.answer;
+    let Answer::Accepted = answer else {
+        return refused(answer);
+    };
+    let entries = read_entries(log);
+    let Entries::Read { count } = entries else {
+        return refused(unread(entries));
+    };
+    if out.len() < 8 * count {
+        return refused(Answer::Refused {
+            number: refusal::ANSWER,
+            index: 0,
+        });
+    }
+    if count == 0 {
+        return Ran {
+            answer: Answer::Accepted,
+            taken: 0,
+            refused: 0,
+        };
+    }
+    let taken = replay(judgement.plan, log, count, out);
+    Ran {
+        answer: Answer::Accepted,
+        taken,
+        refused: count - taken,
+    }
 }

@@ -91,9 +91,10 @@ module _ (p : Plan) (out₀ log : List ℕ) (e clock cores tasks : ℕ) (separat
         (omega (arith, X .less)) (omega (arith, X .less)) (omega (arith, enter-tick, X .entered .fitting .ticks e (X .less)))
 
     pub enter-ready : (x : Standing) × Ready x cores tasks offsets clock (r .tick) jobs work release owners out
-    enter-ready =
-        (standing p l out₀ e clock jobs released last work release owners out (X .entered),
-        rw (X .cores-are, X .columns .tasks-are) ready)
+    enter-ready = (
+      standing p l out₀ e clock jobs released last work release owners out (X .entered),
+      rw (X .cores-are, X .columns .tasks-are) ready,
+    )
 
     pub enter-handing :
         (jobs′ work′ release′ owners′ out′ : List ℕ) → clock ≤ r .tick

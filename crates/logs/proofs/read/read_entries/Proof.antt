@@ -10,7 +10,7 @@ refused-requires : tie.Need-refused-requires
 refused-requires c κs = search needs
 
 returns : tie.Need-returns
-returns c = c .refused .ensures ∙ sym (read-short _ (λ e. omega arith))
+returns c = (c .refused .ensures ∙ sym (read-short _ (λ e. omega arith)), rw (c .refused .ensures) tt)
 
 count-requires : tie.Need-count-requires
 count-requires c κs = search needs
@@ -27,7 +27,7 @@ refused-requires-2 c κs = search needs
 returns-2 : tie.Need-returns-2
 returns-2 c =
     let n = c .before .before .count .ensures .0 in
-    c .refused2 .ensures ∙ sym (read-short _ (λ e. c .before .if2 .taken (rw (sym n) at e)))
+    (c .refused2 .ensures ∙ sym (read-short _ (λ e. c .before .if2 .taken (rw (sym n) at e))), rw (c .refused2 .ensures) tt)
 
 first-late-requires : tie.Need-first-late-requires
 first-late-requires c κs = search needs
@@ -40,14 +40,18 @@ refused-requires-3 c κs = search needs
 
 returns-3 : tie.Need-returns-3
 returns-3 c =
-    let d = c .before .before in
-    c .refused3 .ensures
-    ∙ sym (read-late _ _ (d .before .before .count .ensures .0) (d .before .if2 .left) _ (d .first-late .ensures) (c .before .if3 .taken))
+    let d = c .before .before in (
+      c .refused3 .ensures
+          ∙ sym (read-late _ _ (d .before .before .count .ensures .0) (d .before .if2 .left) _ (d .first-late .ensures) (c .before .if3 .taken)),
+      rw (c .refused3 .ensures) tt,
+    )
 
 returns-4 : tie.Need-returns-4
 returns-4 c =
-    let d = c .before in
-    sym (read-all _ _ (d .before .before .count .ensures .0) (d .before .if2 .left) _ (d .first-late .ensures) (c .if3 .left))
+    let d = c .before in (
+      sym (read-all _ _ (d .before .before .count .ensures .0) (d .before .if2 .left) _ (d .first-late .ensures) (c .if3 .left)),
+      d .before .before .count .ensures .1,
+    )
 
 pub read-entries-spec : {M : Type 1} → statement M
 read-entries-spec =

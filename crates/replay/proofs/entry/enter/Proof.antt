@@ -36,19 +36,27 @@ returns c =
 advance-requires : tie.Need-advance-requires
 advance-requires c κs =
     let P = c .before .before .before .before .before .before .before .before .before .pre in
-    let a = c .before .before .before .before .before .before .before .before .before .args in
-    (enter-ready (P .0) (P .1 .0) (a .log .now) (a .e) (a .clock) (a .cores) (a .tasks) (a .separations .now) (a .budgets .now) (a .offsets .now) (a .jobs .now)
-    (a .released .now) (a .last .now) (a .remaining .now) (a .release .now) (a .owners .now) (a .out .now) (P .1 .1) (c .before .before .before .before .before .before .release-at .result) (c .before .before .before .before .before .before .release-at .ensures),
-    c .before .before .before .before .before .if1 .left)
+    let a = c .before .before .before .before .before .before .before .before .before .args in (
+      enter-ready (P .0) (P .1 .0) (a .log .now) (a .e) (a .clock) (a .cores) (a .tasks) (a .separations .now) (a .budgets .now) (a .offsets .now) (a .jobs .now)
+          (a .released .now) (a .last .now) (a .remaining .now) (a .release .now) (a .owners .now) (a .out .now) (P .1 .1) (c .before .before .before .before .before .before .release-at .result) (c .before .before .before .before .before .before .release-at .ensures),
+      c .before .before .before .before .before .if1 .left,
+    )
 
 hand-requires : tie.Need-hand-requires
 hand-requires c κs =
     let P = c .before .before .before .before .before .before .before .before .before .before .before .before .before .before .before .before .before .before .before .pre in
-    let a = c .before .before .before .before .before .before .before .before .before .before .before .before .before .before .before .before .before .before .before .args in
-    (P .0, (entriesIn (a .log .now), (P .1 .0,
-    enter-handing (P .0) (P .1 .0) (a .log .now) (a .e) (a .clock) (a .cores) (a .tasks) (a .separations .now) (a .budgets .now) (a .offsets .now) (a .jobs .now)
-    (a .released .now) (a .last .now) (a .remaining .now) (a .release .now) (a .owners .now) (a .out .now) (P .1 .1) (c .before .before .before .before .before .before .before .before .before .before .before .before .before .before .before .before .release-at .result) (c .before .before .before .before .before .before .before .before .before .before .before .before .before .before .before .before .release-at .ensures)
-    _ _ _ _ _ (c .before .before .before .before .before .before .before .before .before .before .before .before .before .before .before .if1 .left) (c .before .before .before .before .before .before .before .before .before .advance .ensures))))
+    let a = c .before .before .before .before .before .before .before .before .before .before .before .before .before .before .before .before .before .before .before .args in (
+      P .0,
+      (
+        entriesIn (a .log .now),
+        (
+          P .1 .0,
+          enter-handing (P .0) (P .1 .0) (a .log .now) (a .e) (a .clock) (a .cores) (a .tasks) (a .separations .now) (a .budgets .now) (a .offsets .now) (a .jobs .now)
+              (a .released .now) (a .last .now) (a .remaining .now) (a .release .now) (a .owners .now) (a .out .now) (P .1 .1) (c .before .before .before .before .before .before .before .before .before .before .before .before .before .before .before .before .release-at .result) (c .before .before .before .before .before .before .before .before .before .before .before .before .before .before .before .before .release-at .ensures)
+              _ _ _ _ _ (c .before .before .before .before .before .before .before .before .before .before .before .before .before .before .before .if1 .left) (c .before .before .before .before .before .before .before .before .before .advance .ensures),
+        ),
+      ),
+    )
 
 same-length-2 : tie.Need-same-length-2
 same-length-2 c = search needs

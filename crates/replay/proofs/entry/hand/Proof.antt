@@ -33,7 +33,7 @@ same-length : tie.Need-same-length
 same-length c = search needs
 
 returns : tie.Need-returns
-returns c = 
+returns c =
     let a = c .before .before .before .before .before .before in
     λ p l out₀ X.
     hand-refused p l out₀ (a .args .e) (a .args .tick) (a .args .task) (a .args .demand) (a .args .tasks) (a .args .separations .now) (a .args .budgets .now) (a .args .jobs .now)
@@ -89,7 +89,7 @@ same-length-2 c = search needs
 
 returns-2 : tie.Need-returns-2
 unfolding row
-returns-2 c = 
+returns-2 c =
     let a = c .before .before .before .before .before .before .before .before .before .before .before .before .before .before .before in
     λ p l out₀ X.
     let told = c .before .before .before .before .before .enum-told2 .given .1 in
@@ -101,38 +101,41 @@ returns-2 c =
     ∙ ap (λ (n : ℕ). sets (a .args .out .now) (8 * a .args .e) (reportBytes (refusal n))) (c .before .before .before .number .ensures ∙ ap numberOf told))
 
 cast-owners : tie.Need-cast-owners
-cast-owners c = let a = c .before .before .before .before .before .before .before .before .before .before in let P = a .pre in omega (arith, hand-small (P .0) (P .1 .0) (P .1 .1 .0) (a .args .e) (a .args .tick) (a .args .task) (a .args .demand) (a .args .tasks) (a .args .separations .now) (a .args .budgets .now) (a .args .jobs .now)
-    (a .args .released .now) (a .args .last .now) (a .args .remaining .now) (a .args .release .now) (a .args .owners .now) (a .args .out .now) (P .1 .1 .1))
+cast-owners c = let a = c .before .before .before .before .before .before .before .before .before .before in let P = a .pre in omega (
+  arith,
+  hand-small (P .0) (P .1 .0) (P .1 .1 .0) (a .args .e) (a .args .tick) (a .args .task) (a .args .demand) (a .args .tasks) (a .args .separations .now) (a .args .budgets .now) (a .args .jobs .now)
+      (a .args .released .now) (a .args .last .now) (a .args .remaining .now) (a .args .release .now) (a .args .owners .now) (a .args .out .now) (P .1 .1 .1),
+)
 
 mul-owners : tie.Need-mul-owners
-mul-owners c = 
+mul-owners c =
     let r = admission-room _ _ _ _ _ _ _ (sym (c .before .before .admission-test .ensures) ∙ c .enum-told .given .1) in
     omega (arith, low (c .before .before .before .before .before .before .before .before), r)
 
 add-owners : tie.Need-add-owners
-add-owners c = 
+add-owners c =
     let r = admission-room _ _ _ _ _ _ _ (sym (c .before .before .admission-test .ensures) ∙ c .enum-told .given .1) in
     omega (arith, low (c .before .before .before .before .before .before .before .before), r)
 
 mul-owners-2 : tie.Need-mul-owners-2
-mul-owners-2 c = 
+mul-owners-2 c =
     let r = admission-room _ _ _ _ _ _ _ (sym (c .before .before .admission-test .ensures) ∙ c .enum-told .given .1) in
     omega (arith, low (c .before .before .before .before .before .before .before .before), r)
 
 element-write-owners : tie.Need-element-write-owners
-element-write-owners c = 
+element-write-owners c =
     let r = admission-room _ _ _ _ _ _ _ (sym (c .before .before .admission-test .ensures) ∙ c .enum-told .given .1) in
     omega (arith, low (c .before .before .before .before .before .before .before .before), r)
 
 join-requires : tie.Need-join-requires
 unfolding row
-join-requires c κs = 
+join-requires c κs =
     let r = admission-room _ _ _ _ _ _ _ (sym (c .before .before .before .before .before .before .before .admission-test .ensures) ∙ c .before .before .before .before .before .enum-told .given .1) in
     (low (c .before .before .before .before .before .before .before .before .before .before .before .before .before), r)
 
 returns-3 : tie.Need-returns-3
 unfolding row
-returns-3 c = 
+returns-3 c =
     let a = c .before .before .before .before .before .before .before .before .before .before .before .before .before .before .before .before in
     λ p l out₀ X.
     let told = c .before .before .before .before .before .before .enum-told .given .1 in

@@ -47,11 +47,13 @@ loop-less c = search needs
 loop-again : tie.Need-loop-again Inv-loop μ-loop
 loop-again c =
     let a = c .before .before .before .before .before .before .before .before .before .before .before .before .before .before .before .args in
-    let l = c .before .before .before .before .before .before .before .before .before .before .before .before .loop in
-    (omega arith, search needs,
-    enters-more (a .log .now) (a .count) (a .cores) (a .tasks) (a .separations .now) (a .budgets .now) (a .offsets .now) (a .jobs .now) (a .released .now)
-    (a .last .now) (a .work .now) (a .release .now) (a .owners .now) (a .out .now) (l .e) (l .clock) (l .taken) (l .jobs) (l .released) (l .last) (l .work) (l .release) (l .owners) (l .out) (l .inv .2)
-    (omega arith) _ _ _ _ _ _ _ _ _ (c .before .before .before .enter .ensures))
+    let l = c .before .before .before .before .before .before .before .before .before .before .before .before .loop in (
+      omega arith,
+      search needs,
+      enters-more (a .log .now) (a .count) (a .cores) (a .tasks) (a .separations .now) (a .budgets .now) (a .offsets .now) (a .jobs .now) (a .released .now)
+          (a .last .now) (a .work .now) (a .release .now) (a .owners .now) (a .out .now) (l .e) (l .clock) (l .taken) (l .jobs) (l .released) (l .last) (l .work) (l .release) (l .owners) (l .out) (l .inv .2)
+          (omega arith) _ _ _ _ _ _ _ _ _ (c .before .before .before .enter .ensures),
+    )
 
 same-length : tie.Need-same-length Inv-loop μ-loop
 same-length c = search needs

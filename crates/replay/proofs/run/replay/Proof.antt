@@ -18,11 +18,15 @@ enter-all-requires : tie.Need-enter-all-requires
 unfolding columnsOf
 enter-all-requires c κs =
     let b = c .before .before .before .before .before .before .before .before .before .before .before .before .before .before .before .before .before in
-    let a = b .args in
-    (a .plan, (a .out .now,
-    run-begun (a .plan) (a .out .now) (a .log .now) (a .count) _ _ _ (b .pre .0) (b .pre .1) (b .pre .3)
-    (ap (λ (x : Columns). x .separation) (c .before .before .before .before .before .before .before .before .before .before .before .before .before .split .ensures)) (ap (λ (x : Columns). x .budget) (c .before .before .before .before .before .before .before .before .before .before .before .before .before .split .ensures))
-    (ap (λ (x : Columns). x .offset) (c .before .before .before .before .before .before .before .before .before .before .before .before .before .split .ensures))))
+    let a = b .args in (
+      a .plan,
+      (
+        a .out .now,
+        run-begun (a .plan) (a .out .now) (a .log .now) (a .count) _ _ _ (b .pre .0) (b .pre .1) (b .pre .3)
+            (ap (λ (x : Columns). x .separation) (c .before .before .before .before .before .before .before .before .before .before .before .before .before .split .ensures)) (ap (λ (x : Columns). x .budget) (c .before .before .before .before .before .before .before .before .before .before .before .before .before .split .ensures))
+            (ap (λ (x : Columns). x .offset) (c .before .before .before .before .before .before .before .before .before .before .before .before .before .split .ensures)),
+      ),
+    )
 
 add-to : tie.Need-add-to
 unfolding columnsOf
