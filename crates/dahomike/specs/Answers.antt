@@ -4,6 +4,7 @@
 --     judgeNumber     the judgement's answer
 --     reportBytes     slack and bound for each loop
 --     judgeLeaves     the lent buffer afterwards
+--     runNumber       the log run's answer; what it leaves behind is replay's `runLeaves`
 --     pairOf, Reportable    one task's eight bytes from a plan, and what the plan keeps to so that they fit
 use Prim.Native.Nat.{ℕ, _+_, _*_, _≤_, _<_}
 use mathlib.Core.List.{List, [], _∷_, _++_}
@@ -18,6 +19,7 @@ use Rattle.tasks.specs.Tests.{refuse, firstMet}
 use Rattle.table.specs.Bytes.{digits, entries}
 use Rattle.table.specs.Table.{taskCount, contentIn, verdict}
 use Rattle.table.specs.Judged.{onAccepted}
+use Rattle.replay.specs.Ran.{runTest, ranOf}
 
 -- "Each of the two answers one 64-bit number: n for judgement, … and 4,294,967,296 × refusal number + index for a refused call."
 unfoldable pub answerNumber : Answer → ℕ → ℕ
@@ -51,3 +53,7 @@ pub record Reportable (p : Plan) (room : ℕ) : Type 0 where
   pub few : p .tasks ≤ 16
   pub fits : 8 * p .tasks ≤ room
   pub small : (i : ℕ) → i < p .tasks → boundIn p i < 4294967296
+
+-- "taken + 65,536 × refused for a log run, and 4,294,967,296 × refusal number + index for a refused call"
+unfoldable pub runNumber : List ℕ → List ℕ → ℕ → ℕ
+runNumber t l room = answerNumber (runTest t l room) (ranOf t l room .taken + 65536 * ranOf t l room .refused)

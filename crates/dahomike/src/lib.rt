@@ -1,4 +1,5 @@
 // The functions that the desktop planner calls as C functions, over byte slices: a pointer and a length each.
+use replay::run_log;
 use table::judge;
 use table::put4;
 use tasks::Answer;
@@ -10,7 +11,8 @@ ghost use Prim.Native.Nat.{_+_, _*_, _≤_, _<_};
 ghost use lib.ListN.{length};
 ghost use lib.Seq.{sets};
 ghost use Rattle.table.specs.Bytes.{digits, entries};
-ghost use Rattle.dahomike.specs.Answers.{answerNumber, judgeNumber, judgeLeaves, pairOf, Reportable};
+ghost use Rattle.replay.specs.Ran.{runLeaves};
+ghost use Rattle.dahomike.specs.Answers.{answerNumber, judgeNumber, judgeLeaves, runNumber, pairOf, Reportable};
 
 // "4,294,967,296 × refusal number + index for a refused call"
 fn refused(answer: Answer) -> u64
@@ -67,4 +69,20 @@ pub extern "C" fn dahomike_judge(table: &[u8], out: &mut [u8]) -> u64
     }
     report(plan, out);
     tasks as u64
+}
+
+// The run of a log on a table: taken + 65,536 × refused and each entry's 8 bytes, or the refusal.
+#[no_mangle]
+pub extern "C" fn dahomike_run_log(table: &[u8], log: &[u8], out: &mut [u8]) -> u64
+    ensures { λ r. ⌜
+        (r ≡ runNumber (now (table .entry)) (now (log .entry)) (length (now (out .entry))))
+        × (now (out .exit) ≡ runLeaves (now (table .entry)) (now (log .entry)) (now (out .entry)))
+        ⌝ }
+{
+    let ran = run_log(table, log, out);
+    let answer = ran.answer;
+    let Answer::Accepted = answer else {
+        return refused(answer);
+    };
+    (ran.taken as u64) + 65536 * (ran.refused as u64)
 }

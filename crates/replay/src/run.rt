@@ -11,7 +11,7 @@ use tasks::Plan;
 use tasks::refusal;
 ghost use mathlib.Core.Path.{_≡_};
 ghost use mathlib.Core.List.{List};
-ghost use Prim.Native.Nat.{ℕ, _+_, _*_, _≤_};
+ghost use Prim.Native.Nat.{ℕ, _+_, _*_, _≤_, _<_};
 ghost use lib.ListN.{length};
 ghost use Rattle.tasks.specs.Content.{contentOf};
 ghost use Rattle.history.specs.Report.{report};
@@ -175,6 +175,7 @@ pub fn run_log(table: &[u8], log: &[u8], out: &mut [u8]) -> Ran
     ensures { λ r. ⌜
         (r ≡ ranOf (now (table .entry)) (now (log .entry)) (length (now (out .entry))))
         × (now (out .exit) ≡ runLeaves (now (table .entry)) (now (log .entry)) (now (out .entry)))
+        × (r .taken + r .refused < 65536)
         ⌝ }
 {
     let judgement = judge(table);

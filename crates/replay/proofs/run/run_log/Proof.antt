@@ -15,7 +15,7 @@ use Rattle.running.specs.RunCode.{taken-few}
 use Rattle.replay.specs.declared.run.Ran.{Ran}
 use Rattle.replay.specs.RanLaws.{run-refused-table, run-refused-log, run-short, run-fitting, run-taken, run-none}
 use native.Mathlib.Omega.{arith}
-use Prim.Native.Nat.{ℕ, _*_, _≤_, _<_}
+use Prim.Native.Nat.{ℕ, _+_, _-_, _*_, _≤_, _<_}
 use mathlib.Core.Path.{_≡_, refl, ap, sym, subst, _∙_}
 use mathlib.Core.List.{List}
 use lib.ListN.{length}
@@ -37,6 +37,12 @@ small-count e n q w = subst Small q w
 some : (n : ℕ) → (n ≡ 0 → ⊥) → 1 ≤ n
 some n ne = omega arith
 
+few-none : (r : Ran) (b : Answer) → _≡_ {A = Ran} r (record { answer = b; taken = 0; refused = 0 }) → r .taken + r .refused < 65536
+few-none r b q = rw q (omega arith)
+
+part : (n k : ℕ) → k ≤ n → n < 65536 → k + (n - k) < 65536
+part n k h w = omega arith
+
 judge-requires : tie.Need-judge-requires
 judge-requires c κs = search needs
 
@@ -54,7 +60,7 @@ returns c =
     let a = c .before .before .before .before .before .before .before .args in
     let q = c .before .enum-told2 .given .1 in
     let f = run-refused-table (a .table .now) (a .log .now) (a .out .now) _ _ (verdict-is (a .table .now) _ _ (c .before .before .before .judge .ensures) q) in
-    (c .refused .ensures ∙ ap (λ (b : Answer). record { answer = b; taken = 0; refused = 0 }) q ∙ f .ran, f .leaves)
+    (c .refused .ensures ∙ ap (λ (b : Answer). record { answer = b; taken = 0; refused = 0 }) q ∙ f .ran, f .leaves, few-none _ _ (c .refused .ensures))
 
 read-entries-requires : tie.Need-read-entries-requires
 read-entries-requires c κs = search needs
@@ -82,6 +88,7 @@ returns-2 c =
           ∙ ap (λ (b : Answer). record { answer = b; taken = 0; refused = 0 }) (c .before .unread .ensures ∙ ap answerOfEntries q)
           ∙ f .ran,
       f .leaves,
+      few-none _ _ (c .refused2 .ensures),
     )
 
 mul-if1 : tie.Need-mul-if1
@@ -100,7 +107,7 @@ returns-3 c =
     let t = accepts (a .table .now) _ (c .before .before .before .before .before .before .before .before .judge .ensures) (c .before .before .before .before .before .before .enum-told .given .1) in
     let l = read-accepted (a .log .now) _ (sym (r .0) ∙ g) in
     let f = run-short (a .table .now) (a .log .now) (a .out .now) t (l .1) (omega (arith, l .0, c .before .if1 .taken)) in
-    (c .refused3 .ensures ∙ f .ran, f .leaves)
+    (c .refused3 .ensures ∙ f .ran, f .leaves, few-none _ _ (c .refused3 .ensures))
 
 returns-4 : tie.Need-returns-4
 returns-4 c =
@@ -109,7 +116,8 @@ returns-4 c =
     let g = c .before .before .before .entries .given .1 in
     let t = accepts (a .table .now) _ (c .before .before .before .before .before .before .before .before .judge .ensures) (c .before .before .before .before .before .before .enum-told .given .1) in
     let l = read-accepted (a .log .now) _ (sym (r .0) ∙ g) in
-    run-none (a .table .now) (a .log .now) (a .out .now) t (l .1) (omega (arith, l .0, c .before .if1 .left)) (omega (arith, l .0, c .if2 .taken))
+    let n = run-none (a .table .now) (a .log .now) (a .out .now) t (l .1) (omega (arith, l .0, c .before .if1 .left)) (omega (arith, l .0, c .if2 .taken)) in
+    (n .0, n .1, omega arith)
 
 replay-requires : tie.Need-replay-requires
 unfolding judged
@@ -148,7 +156,12 @@ returns-5 c =
     let l = read-accepted (a .log .now) _ (sym (r .0) ∙ g) in
     let p = ap (λ (j : Judgement). j .plan) (c .before .before .before .before .before .before .before .before .before .before .before .before .judge .ensures) in
     let e = rw p at (c .before .before .replay .ensures) in
-    run-taken (a .table .now) (a .log .now) (a .out .now) t (l .1) (omega (arith, l .0, c .before .before .before .before .before .if1 .left)) _ _ (e .0) (e .1) _ (l .0)
+    let n = run-taken (a .table .now) (a .log .now) (a .out .now) t (l .1) (omega (arith, l .0, c .before .before .before .before .before .if1 .left)) _ _ (e .0) (e .1) _ (l .0) in
+    let small = small-count _ _ g (r .1) in
+    (n .0, n .1,
+    part _ (c .before .before .replay .result)
+    (omega (arith, c .before .before .replay .ensures .0, taken-few (c .before .before .before .before .before .before .before .before .before .before .before .before .judge .result .plan) (entriesIn (a .log .now)) (length (entriesIn (a .log .now))), entries-length (a .log .now), l .0))
+    small)
 
 pub run-log-spec : {M : Type 1} → statement M
 run-log-spec =
