@@ -1,7 +1,8 @@
--- The C judgement's answer and the bytes that it leaves behind, from what its code has seen.
+-- The C functions' answers and the bytes that they leave behind, from what their code has seen.
 --     judge-refused    1 to 13, judge-short 24, judge-done the report
+--     run-refused, run-done      the log run's answer
 --     reportable       an accepted plan's slack and bounds fit 4 bytes each
-use Prim.Native.Nat.{ℕ, _*_, _≤_, _<_}
+use Prim.Native.Nat.{ℕ, _+_, _*_, _≤_, _<_}
 use mathlib.Core.Path.{_≡_, sym, _∙_, ap}
 use mathlib.Core.List.{List, _++_}
 use native.Mathlib.Omega.{arith}
@@ -22,7 +23,9 @@ use Rattle.table.specs.ByteLaws.{length-digits, length-entries, entries-same}
 use Rattle.table.specs.WriteLaws.{sets-whole}
 use Rattle.table.specs.Table.{taskCount, taskSetIn, contentIn, verdict}
 use Rattle.table.specs.Judged.{judged}
-use Rattle.dahomike.specs.Answers.{answerNumber, judgeTest, judgeNumber, reportBytes, judgeLeaves, boundIn, pairOf, Reportable}
+use Rattle.replay.specs.declared.run.Ran.{Ran}
+use Rattle.replay.specs.Ran.{runTest, ranOf}
+use Rattle.dahomike.specs.Answers.{answerNumber, judgeTest, judgeNumber, reportBytes, judgeLeaves, runNumber, boundIn, pairOf, Reportable}
 
 size : (a b : ℕ) → length (digits 4 a ++ digits 4 b) ≡ 8
 size a b = length-append (digits 4 a) (digits 4 b) ∙ rw (length-digits 4 a, length-digits 4 b)
@@ -121,3 +124,16 @@ module _ (t out : List ℕ) (j : Judgement) (e : j ≡ judged t) where
           rw (accepted, le-ltb (length out) (8 * taskCount t) l) count-is,
           rw (accepted, le-ltb (length out) (8 * taskCount t) l) (written ∙ rw (report-long, report-is)),
         )
+
+-- ---- the log run
+
+module _ (t l : List ℕ) (room : ℕ) (r : Ran) (e : r ≡ ranOf t l room) where
+  pub run-refused : (k i : ℕ) → r .answer ≡ Refused k i → answerNumber (Refused k i) 0 ≡ runNumber t l room
+  unfolding runNumber ranOf answerNumber
+  run-refused k i a = let v : runTest t l room ≡ Refused k i = sym (ap (λ (x : Ran). x .answer) e) ∙ a in rw v
+
+  pub run-done : r .answer ≡ Accepted → r .taken + 65536 * r .refused ≡ runNumber t l room
+  unfolding runNumber ranOf answerNumber
+  run-done a =
+      let v : runTest t l room ≡ Accepted = sym (ap (λ (x : Ran). x .answer) e) ∙ a in
+      rw v (ap (λ (x : Ran). x .taken + 65536 * x .refused) e ∙ rw v)

@@ -1,55 +1,53 @@
+-- `dahomike::dahomike_run_log` meets its contract.
+use Rattle.tasks.specs.declared.Answer.{Answer}
+use Rattle.dahomike.specs.Answers.{answerNumber}
+use Rattle.dahomike.specs.AnswerLaws.{run-refused, run-done}
 use native.Mathlib.Omega.{arith}
-use native.Mathlib.Numerals.{add-one}
-use Prim.Native.Nat.{ℕ, _≤_, _<_, _+_, _*_, _-_}
-use mathlib.Core.Path.{_≡_, refl, ap, sym, _∙_}
-use mathlib.Core.Logic.{⊎-elim}
-use lib.ListN.{length, getD, set, length-set}
+use mathlib.Core.Path.{ap, _∙_}
 use borrow.Author.Needs.{needs}
 use Rattle.dahomike.proofs.dahomike_run_log.Statement.{statement}
 use Rattle.dahomike.proofs.dahomike_run_log.Tie as tie
-use Rattle.dahomike.proofs.dahomike_run_log.Reads as reads
-use Rattle.dahomike.proofs.dahomike_run_log.Lts as lts
-use Rattle.dahomike.proofs.refused.Reads as refused-reads
-use Rattle.replay.proofs.run_log.Reads as run-log-reads
 
--- src/lib.rt:82:9
 run-log-requires : tie.Need-run-log-requires
 run-log-requires c κs = search needs
 
 enum-told : tie.Need-enum-told
 enum-told c = search needs
 
--- src/lib.rt:85:9
 enum-told-2 : tie.Need-enum-told-2
 enum-told-2 c = search needs
 
--- src/lib.rt:85:9
 refused-requires : tie.Need-refused-requires
 refused-requires c κs = search needs
 
--- src/lib.rt:85:9
 same-length : tie.Need-same-length
 same-length c = search needs
 
--- src/lib.rt:85:9
 returns : tie.Need-returns
-returns c = search needs
+returns c =
+    let a = c .before .before .before .before .before .before .before .before .before .before .args in
+    let r = c .before .before .before .before .before .run-log .ensures in
+    let q = c .before .enum-told2 .given .1 in (
+      c .refused .ensures
+          ∙ ap (λ (b : Answer). answerNumber b 0) q
+          ∙ run-refused (a .table .now) (a .log .now) _ _ (r .0) _ _ q,
+      r .1,
+    )
 
--- src/lib.rt:87:26
 mul-result : tie.Need-mul-result
 mul-result c = search needs
 
--- src/lib.rt:87:5
 add-result : tie.Need-add-result
 add-result c = search needs
 
--- src/lib.rt:75:1
 same-length-2 : tie.Need-same-length-2
 same-length-2 c = search needs
 
--- src/lib.rt:75:1
 returns-2 : tie.Need-returns-2
-returns-2 c = search needs
+returns-2 c =
+    let a = c .before .before .before .before .before .before .before .before .before .args in
+    let r = c .before .before .before .before .run-log .ensures in
+    (run-done (a .table .now) (a .log .now) _ _ (r .0) (c .enum-told .given .1), r .1)
 
 pub dahomike-run-log-spec : {M : Type 1} → statement M
 dahomike-run-log-spec =

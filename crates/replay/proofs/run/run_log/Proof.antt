@@ -157,11 +157,13 @@ returns-5 c =
     let p = ap (λ (j : Judgement). j .plan) (c .before .before .before .before .before .before .before .before .before .before .before .before .judge .ensures) in
     let e = rw p at (c .before .before .replay .ensures) in
     let n = run-taken (a .table .now) (a .log .now) (a .out .now) t (l .1) (omega (arith, l .0, c .before .before .before .before .before .if1 .left)) _ _ (e .0) (e .1) _ (l .0) in
-    let small = small-count _ _ g (r .1) in
-    (n .0, n .1,
-    part _ (c .before .before .replay .result)
-    (omega (arith, c .before .before .replay .ensures .0, taken-few (c .before .before .before .before .before .before .before .before .before .before .before .before .judge .result .plan) (entriesIn (a .log .now)) (length (entriesIn (a .log .now))), entries-length (a .log .now), l .0))
-    small)
+    let small = small-count _ _ g (r .1) in (
+      n .0,
+      n .1,
+      part _ (c .before .before .replay .result)
+          (omega (arith, c .before .before .replay .ensures .0, taken-few (c .before .before .before .before .before .before .before .before .before .before .before .before .judge .result .plan) (entriesIn (a .log .now)) (length (entriesIn (a .log .now))), entries-length (a .log .now), l .0))
+          small,
+    )
 
 pub run-log-spec : {M : Type 1} → statement M
 run-log-spec =
