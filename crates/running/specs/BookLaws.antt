@@ -1,9 +1,14 @@
 -- The book is kept by the steps of a run.
+--     whole-rooted, rooted-tick      the jobs of a queue are their entries', also after a tick
 --     book-wait      by ticks in which nobody finishes
 --     book-few       a loop has no more than 16 owners
---     book-tick      by a tick, with the loops that finish in it noted
+--     ended          whether a loop's head finishes in the tick after a history
+--     ownersNow      the owners with some of those loops' first ones taken off
+--     Stage          the book in the midst of a tick: some of the loops that finish in it are noted
+--     stage-none, stage-more      none is noted; one more
+--     book-tick      all are: the book after the tick
 use Prim.Native.Nat.{ℕ, zero, suc, _+_, _-_, _*_, _≤_, _<_}
-use mathlib.Core.Bool.{Bool, true, false, cond, _&&_, true≢false, false≢true, and-true, and-eq-true-iff}
+use mathlib.Core.Bool.{Bool, true, false, cond, _&&_, _||_, true≢false, false≢true, or-false, and-eq-true-iff}
 use mathlib.Core.Path.{_≡_, refl, sym, ap, subst, _∙_}
 use mathlib.Core.Logic.{_⊎_, inl, inr, ⊎-elim}
 use mathlib.Core.List.{List, [], _∷_}
@@ -18,8 +23,8 @@ use Rattle.laws.specs.MemberLaws.{member-cases}
 use Rattle.tasks.specs.declared.Plan.{Plan}
 use Rattle.tasks.specs.TaskSet.{TaskSet}
 use Rattle.tasks.specs.Content.{contentOf}
-use Rattle.machine.specs.Machine.{Job, job, Machine, runs}
-use Rattle.machine.specs.Sound.{reached-sound}
+use Rattle.machine.specs.Machine.{Job, job, Machine, runs, served, advanced, tick}
+use Rattle.machine.specs.Sound.{Rising, reached-sound}
 use Rattle.machine.specs.Choice.{earliest}
 use Rattle.state.specs.Fit.{Fit}
 use Rattle.history.specs.Engine.{taken, refused, Engine, Call, step, clock, state, named, Ends}
@@ -34,8 +39,25 @@ use Rattle.logs.specs.LogBytes.{reportBytes}
 use Rattle.logs.specs.ReportLaws.{Said, said-length, said-beyond, said-here, said-other}
 use Rattle.running.specs.Lower.{headWork, lowerHead, lowered}
 use Rattle.running.specs.LowerLaws.{MoreThan, lowered-runs, wait-lowered}
-use Rattle.running.specs.Running.{Below, Book}
-use Rattle.running.specs.OwnerLaws.{ended, ownersTo, outTo, none-yet, owners-now, owners-next}
+use Rattle.running.specs.Running.{Below, Whole, Rooted, Book}
+
+pub whole-rooted : (l : List Entry) (os : List ℕ) (q : List Job) → Whole l os q → Rooted l os q
+whole-rooted l [] [] w = tt
+whole-rooted l [] (j ∷ q) w = w
+whole-rooted l (o ∷ os) [] w = w
+whole-rooted l (o ∷ os) (job a v ∷ q) w = (w .0, w .2)
+
+pub rooted-tick :
+    (l : List Entry) (T C t r : ℕ) (os : List ℕ) (q : List Job) (b : Bool) → Rising T C t r q → Rooted l os q
+    → Rooted l (cond (b && finishing q) (drop 1 os) os) (cond b (served q) q)
+unfolding served
+rooted-tick l T C t r os q false c p = p
+rooted-tick l T C t r [] [] true c p = tt
+rooted-tick l T C t r [] (j ∷ q) true c p = absurd p
+rooted-tick l T C t r (o ∷ os) [] true c p = absurd p
+rooted-tick l T C t r (o ∷ os) (job a zero ∷ q) true c p = absurd (omega arith)
+rooted-tick l T C t r (o ∷ os) (job a (suc zero) ∷ q) true c p = whole-rooted l os q (p .1)
+rooted-tick l T C t r (o ∷ os) (job a (suc (suc w)) ∷ q) true c p = rw (lt-leb (suc (suc w)) 1 (omega arith)) (p .0, p .1)
 
 module _ (p : Plan) (l : List Entry) (out₀ : List ℕ) where
   abbrev s : TaskSet
@@ -67,6 +89,21 @@ module _ (p : Plan) (l : List Entry) (out₀ : List ℕ) where
       rw (none-ends h k more i) at
       (owners-tick s l (wait k h) i os less (owned-wait h k i os less (λ j r. omega (arith, more j r)) w))
 
+  rooted-step :
+      (g : List Call) (i : ℕ) (os : List ℕ) → i < s .count → Rooted l os (state E g .lane i .queue)
+      → Rooted l (cond (runs s (state E g) i && finishing (state E g .lane i .queue)) (drop 1 os) os) (state E (step ∷ g) .lane i .queue)
+  unfolding tick advanced
+  rooted-step g i os less w =
+      rooted-tick l (s .task i .separation) (s .task i .budget) (state E g .clock) 0 os (state E g .lane i .queue) (runs s (state E g) i)
+      (reached-sound s (reached s g) .lanes i less .rising) w
+
+  rooted-wait :
+      (h : List Call) (k i : ℕ) (os : List ℕ) → i < s .count → MoreThan s (state E h) k → Rooted l os (state E h .lane i .queue)
+      → Rooted l os (state E (wait k h) .lane i .queue)
+  rooted-wait h zero i os less more w = w
+  rooted-wait h (suc k) i os less more w =
+      rw (none-ends h k more i) at (rooted-step (wait k h) i os less (rooted-wait h k i os less (λ j r. omega (arith, more j r)) w))
+
   ends-wait : (h : List Call) (k i d f : ℕ) → Ends E h i d f → Ends E (wait k h) i d f
   ends-wait h zero i d f x = x
   ends-wait h (suc k) i d f x = ends-step E (wait k h) i d f (ends-wait h k i d f x)
@@ -77,6 +114,7 @@ module _ (p : Plan) (l : List Entry) (out₀ : List ℕ) where
   book-wait e h O out k more B =
       record {
         owned = λ i less. owned-wait h k i (O i) less more (B .owned i less);
+        rooted = λ i less. rooted-wait h k i (O i) less more (B .rooted i less);
         unowned = B .unowned;
         small = B .small;
         long = B .long;
@@ -102,19 +140,28 @@ module _ (p : Plan) (l : List Entry) (out₀ : List ℕ) where
 
   -- ---- a tick
 
-  module _ (e : ℕ) (g : List Call) (O : ℕ → List ℕ) (out : List ℕ) (room : 8 * e ≤ length out₀) (B : Book p l out₀ e g O out) where
-    -- with the loops below i noted
-    record Stage (i : ℕ) : Type 0 where
-      long : length (outTo s g O out i) ≡ length out₀
-      beyond : (j : ℕ) → 8 * e ≤ j → byte (outTo s g O out i) j ≡ byte out₀ j
-      refusals : (k n : ℕ) → k < e → outcome E l k ≡ refused n → Said (outTo s g O out i) k (refusal n)
-      each :
-          (k : ℕ) → k < e → Taken E l k
-          → (member k (ownersTo s g O out i (loopAt l k)) ≡ true)
-          ⊎ ((f : ℕ) × Ends E (step ∷ g) (loopAt l k) (owed E l (loopAt l k) (suc k)) f × Said (outTo s g O out i) k (finished f))
+  unfoldable pub ended : List Call → ℕ → Bool
+  ended g i = runs s (state E g) i && finishing (state E g .lane i .queue)
 
-    stage-none : Stage 0
-    unfolding outTo
+  abbrev pub ownersNow : (ℕ → List ℕ) → (ℕ → Bool) → ℕ → List ℕ
+  ownersNow O gone j = cond (gone j) (drop 1 (O j)) (O j)
+
+  -- one more
+  abbrev pub andOne : (ℕ → Bool) → ℕ → ℕ → Bool
+  andOne gone i j = gone j || eqb j i
+
+  -- the loops in `gone` are noted in o
+  pub record Stage (e : ℕ) (g : List Call) (O : ℕ → List ℕ) (gone : ℕ → Bool) (o : List ℕ) : Type 0 where
+    pub long : length o ≡ length out₀
+    pub beyond : (j : ℕ) → 8 * e ≤ j → byte o j ≡ byte out₀ j
+    pub refusals : (k n : ℕ) → k < e → outcome E l k ≡ refused n → Said o k (refusal n)
+    pub each :
+        (k : ℕ) → k < e → Taken E l k
+        → (member k (ownersNow O gone (loopAt l k)) ≡ true)
+        ⊎ ((f : ℕ) × Ends E (step ∷ g) (loopAt l k) (owed E l (loopAt l k) (suc k)) f × Said o k (finished f))
+
+  module _ (e : ℕ) (g : List Call) (O : ℕ → List ℕ) (out : List ℕ) (room : 8 * e ≤ length out₀) (B : Book p l out₀ e g O out) where
+    pub stage-none : Stage e g O (λ i. false) out
     stage-none =
         record {
           long = B .long;
@@ -122,16 +169,16 @@ module _ (p : Plan) (l : List Entry) (out₀ : List ℕ) where
           refusals = B .refusals;
           each = λ k less t.
               ⊎-elim
-              (λ (m : member k (O (loopAt l k)) ≡ true). inl (rw (sym (none-yet s g O out)) m))
+              (λ (m : member k (O (loopAt l k)) ≡ true). inl m)
               (λ (x : (f : ℕ) × Ends E g (loopAt l k) (owed E l (loopAt l k) (suc k)) f × Said out k (finished f)).
               inr (x .0, ends-step E g (loopAt l k) (owed E l (loopAt l k) (suc k)) (x .0) (x .1), x .2))
               (B .each k less t);
         }
 
     -- a loop whose head finishes: its first owner
-    module _ (i : ℕ) (fin : ended s g O out i ≡ true) where
-      abbrev o : ℕ
-      o = getD (O i) 0 0
+    module _ (i : ℕ) (fin : ended g i ≡ true) where
+      abbrev pub firstOwner : ℕ
+      firstOwner = getD (O i) 0 0
 
       runs-now : runs s (state E g) i ≡ true
       unfolding ended
@@ -141,107 +188,85 @@ module _ (p : Plan) (l : List Entry) (out₀ : List ℕ) where
       unfolding ended
       last-now = and-eq-true-iff (runs s (state E g) i) (finishing (state E g .lane i .queue)) .0 fin .1
 
-      known : i < s .count
-      known = earliest s (state E g) .heads i runs-now .0
+      pub ended-known : i < s .count
+      ended-known = earliest s (state E g) .heads i runs-now .0
 
-      owner : (loopAt l o ≡ i) × Taken E l o × (owed E l i (suc o) ≡ named E g i (clock g) + 1)
+      owner : (loopAt l firstOwner ≡ i) × Taken E l firstOwner × (owed E l i (suc firstOwner) ≡ named E g i (clock g) + 1)
       owner =
           owned-head E l i (s .task i .separation) (s .task i .budget) (state E g .clock) 0 (named E g i (clock g)) (O i)
-          (state E g .lane i .queue) (reached-sound s (reached s g) .lanes i known .rising) (B .owned i known) last-now
+          (state E g .lane i .queue) (reached-sound s (reached s g) .lanes i ended-known .rising) (B .owned i ended-known) last-now
 
-      ends : Ends E (step ∷ g) i (owed E l i (suc o)) (suc (clock g))
-      ends = owner-ends s l g i (O i) known (B .owned i known) runs-now last-now
+      ends : Ends E (step ∷ g) i (owed E l i (suc firstOwner)) (suc (clock g))
+      ends = owner-ends s l g i (O i) ended-known (B .owned i ended-known) runs-now last-now
 
-      split : (os : List ℕ) → O i ≡ os → (q : List Job) → state E g .lane i .queue ≡ q → O i ≡ o ∷ drop 1 (O i)
+      split : (os : List ℕ) → O i ≡ os → (q : List Job) → state E g .lane i .queue ≡ q → O i ≡ firstOwner ∷ drop 1 (O i)
       split [] z [] y = absurd (false≢true (rw y at last-now))
-      split [] z (j ∷ q) y = absurd (rw (z, y) at (B .owned i known))
+      split [] z (j ∷ q) y = absurd (rw (z, y) at (B .owned i ended-known))
       split (a ∷ os) z q y = rw z
 
-      some-owner : O i ≡ o ∷ drop 1 (O i)
+      pub some-owner : O i ≡ firstOwner ∷ drop 1 (O i)
       some-owner = split (O i) refl (state E g .lane i .queue) refl
 
-      early : o < e
-      early = (rw some-owner at (B .small i)) .0
+      pub first-early : firstOwner < e
+      first-early = (rw some-owner at (B .small i)) .0
 
-      out-noted : outTo s g O out (suc i) ≡ sets (outTo s g O out i) (8 * o) (reportBytes (finished (suc (clock g))))
-      unfolding outTo
-      out-noted = rw fin
-
-      noted : Stage i → Stage (suc i)
-      noted S =
+      pub stage-more :
+          (gone : ℕ → Bool) (o : List ℕ) → gone i ≡ false → Stage e g O gone o
+          → Stage e g O (andOne gone i) (sets o (8 * firstOwner) (reportBytes (finished (suc (clock g)))))
+      stage-more gone o new S =
           record {
-            long = rw out-noted (said-length (outTo s g O out i) o (finished (suc (clock g))) ∙ S .long);
-            beyond = λ j h. rw out-noted (said-beyond (outTo s g O out i) o (finished (suc (clock g))) j (omega (arith, early)) ∙ S .beyond j h);
+            long = said-length o firstOwner (finished (suc (clock g))) ∙ S .long;
+            beyond = λ j h. said-beyond o firstOwner (finished (suc (clock g))) j (omega (arith, first-early)) ∙ S .beyond j h;
             refusals = λ k n less r.
-                rw out-noted (said-other (outTo s g O out i) o (finished (suc (clock g))) k (refusal n) (λ q. not-taken k n r q) (S .refusals k n less r));
-            each = λ k less t. rw out-noted (now k t (eqb k o) refl (S .each k less t));
+                said-other o firstOwner (finished (suc (clock g))) k (refusal n) (λ q. not-taken k n r q) (S .refusals k n less r);
+            each = λ k less t. now k t (eqb k firstOwner) refl (S .each k less t);
           }
         where
-          fits : 8 * o + 8 ≤ length (outTo s g O out i)
-          fits = omega (arith, early, S .long)
+          fits : 8 * firstOwner + 8 ≤ length o
+          fits = omega (arith, first-early, S .long)
 
-          not-taken : (k n : ℕ) → outcome E l k ≡ refused n → o ≡ k → ⊥
+          not-taken : (k n : ℕ) → outcome E l k ≡ refused n → firstOwner ≡ k → ⊥
           not-taken k n r q = not-refused (sym r ∙ ap (outcome E l) (sym q) ∙ owner .1)
 
-          done : Said (sets (outTo s g O out i) (8 * o) (reportBytes (finished (suc (clock g))))) o (finished (suc (clock g)))
-          done = said-here (outTo s g O out i) o (finished (suc (clock g))) fits
+          done : Said (sets o (8 * firstOwner) (reportBytes (finished (suc (clock g))))) firstOwner (finished (suc (clock g)))
+          done = said-here o firstOwner (finished (suc (clock g))) fits
 
           now :
-              (k : ℕ) → Taken E l k → (b : Bool) → eqb k o ≡ b
-              → (member k (ownersTo s g O out i (loopAt l k)) ≡ true)
-              ⊎ ((f : ℕ) × Ends E (step ∷ g) (loopAt l k) (owed E l (loopAt l k) (suc k)) f × Said (outTo s g O out i) k (finished f))
-              → (member k (ownersTo s g O out (suc i) (loopAt l k)) ≡ true)
+              (k : ℕ) → Taken E l k → (b : Bool) → eqb k firstOwner ≡ b
+              → (member k (ownersNow O gone (loopAt l k)) ≡ true)
+              ⊎ ((f : ℕ) × Ends E (step ∷ g) (loopAt l k) (owed E l (loopAt l k) (suc k)) f × Said o k (finished f))
+              → (member k (ownersNow O (andOne gone i) (loopAt l k)) ≡ true)
               ⊎ ((f : ℕ) × Ends E (step ∷ g) (loopAt l k) (owed E l (loopAt l k) (suc k)) f
-              × Said (sets (outTo s g O out i) (8 * o) (reportBytes (finished (suc (clock g))))) k (finished f))
+              × Said (sets o (8 * firstOwner) (reportBytes (finished (suc (clock g))))) k (finished f))
           now k t true q x =
-              let same = eqb-true k o q in
+              let same = eqb-true k firstOwner q in
               inr (suc (clock g), rw (same, owner .0) ends, rw same done)
-          now k t false q (inl m) = inl (rw (owners-next s g O out i true fin) (still (eqb (loopAt l k) i) refl))
+          now k t false q (inl m) = inl (still (eqb (loopAt l k) i) refl)
             where
-              still : (b : Bool) → eqb (loopAt l k) i ≡ b → member k (cond b (drop 1 (ownersTo s g O out i (loopAt l k))) (ownersTo s g O out i (loopAt l k))) ≡ true
+              still : (b : Bool) → eqb (loopAt l k) i ≡ b → member k (ownersNow O (andOne gone i) (loopAt l k)) ≡ true
               still true y =
-                  let here : ownersTo s g O out i (loopAt l k) ≡ o ∷ drop 1 (O i) =
-                  ap (ownersTo s g O out i) (eqb-true _ _ y) ∙ owners-now s g O out i ∙ some-owner in
-                  rw here
+                  let same = eqb-true (loopAt l k) i y in
+                  let here : ownersNow O gone (loopAt l k) ≡ firstOwner ∷ drop 1 (O i) = ap (ownersNow O gone) same ∙ rw new some-owner in
+                  let there : ownersNow O (andOne gone i) (loopAt l k) ≡ drop 1 (O i) = ap (ownersNow O (andOne gone i)) same ∙ rw (new, eq-eqb i i refl) in
+                  rw there
                   (⊎-elim
-                  (λ (z : k ≡ o). absurd (eqb-false k o q z))
+                  (λ (z : k ≡ firstOwner). absurd (eqb-false k firstOwner q z))
                   (λ (z : member k (drop 1 (O i)) ≡ true). z)
-                  (member-cases k o (drop 1 (O i)) (rw here at m)))
-              still false y = m
+                  (member-cases k firstOwner (drop 1 (O i)) (rw here at m)))
+              still false y = rw (y, or-false (gone (loopAt l k))) m
           now k t false q (inr x) =
               inr
-              (x .0, x .1, said-other (outTo s g O out i) o (finished (suc (clock g))) k (finished (x .0)) (λ z. eqb-false k o q (sym z)) (x .2))
+              (x .0, x .1, said-other o firstOwner (finished (suc (clock g))) k (finished (x .0)) (λ z. eqb-false k firstOwner q (sym z)) (x .2))
 
-    out-kept : (i : ℕ) → ended s g O out i ≡ false → outTo s g O out (suc i) ≡ outTo s g O out i
-    unfolding outTo
-    out-kept i fin = rw fin
-
-    unnoted : (i : ℕ) → ended s g O out i ≡ false → Stage i → Stage (suc i)
-    unnoted i fin S =
+    pub book-tick :
+        (gone : ℕ → Bool) (o : List ℕ) → ((i : ℕ) → gone i ≡ ended g i) → Stage e g O gone o → Book p l out₀ e (step ∷ g) (ownersNow O gone) o
+    unfolding ended
+    book-tick gone o all S =
         record {
-          long = rw (out-kept i fin) (S .long);
-          beyond = rw (out-kept i fin) (S .beyond);
-          refusals = λ k n less r. rw (out-kept i fin) (S .refusals k n less r);
-          each = λ k less t. rw (owners-next s g O out i false fin, out-kept i fin) (S .each k less t);
-        }
-
-    stages : (i : ℕ) → Stage i
-    stages zero = stage-none
-    stages (suc i) = go (ended s g O out i) refl (stages i)
-      where
-        go : (b : Bool) → ended s g O out i ≡ b → Stage i → Stage (suc i)
-        go true q = noted i q
-        go false q = unnoted i q
-
-    pub book-tick : s .count ≤ 16 → Book p l out₀ e (step ∷ g) (ownersTo s g O out 16) (outTo s g O out 16)
-    unfolding ownersTo ended
-    book-tick few =
-        let S = stages 16 in
-        record {
-          owned = λ i less.
-              rw (lt-ltb i 16 (omega arith), and-true (ended s g O out i)) (owners-tick s l g i (O i) less (B .owned i less));
-          unowned = λ i more. fewer (ended s g O out i && ltb i 16) (O i) (B .unowned i more);
-          small = λ i. below (ended s g O out i && ltb i 16) (O i) (B .small i);
+          owned = λ i less. rw (all i) (owners-tick s l g i (O i) less (B .owned i less));
+          rooted = λ i less. rw (all i) (rooted-step g i (O i) less (B .rooted i less));
+          unowned = λ i more. fewer (gone i) (O i) (B .unowned i more);
+          small = λ i. below (gone i) (O i) (B .small i);
           long = S .long;
           beyond = S .beyond;
           refusals = S .refusals;

@@ -24,20 +24,34 @@ use Rattle.state.specs.State.{jobsIn, releasedIn, lastIn, remainingIn, releaseI
 use Rattle.history.specs.Engine.{Outcome, taken, refused, Engine, Call, ask, clock, state, verdict, named, Ends}
 use Rattle.history.specs.EngineLaws.{ends-ask}
 use Rattle.history.specs.Log.{Entry, tickAt, loopAt, demandAt, back, wait, until, calls, outcome, Taken, owed}
-use Rattle.history.specs.LogLaws.{taken-call}
+use Rattle.history.specs.LogLaws.{taken-call, clock-entry}
 use Rattle.history.specs.Report.{Report, finished, refusal}
 use Rattle.history.specs.OnMachine.{answerOf, ifTaken, handedOf, machineEngine}
 use Rattle.history.specs.Refusals.{last-wait}
-use Rattle.history.specs.Balance.{not-refused}
+use Rattle.history.specs.Balance.{not-refused, machine-clock}
 use Rattle.history.specs.Owners.{Owned, owners-taken}
 use Rattle.codec.specs.Bytes.{byte}
 use Rattle.logs.specs.LogBytes.{reportBytes}
 use Rattle.logs.specs.ReportLaws.{Said, said-length, said-beyond, said-here, said-other}
-use Rattle.running.specs.Running.{ownersIn, Below, Book, Running}
+use Rattle.running.specs.Running.{Below, Whole, Rooted, Book}
 
 below-more : (e : ℕ) (os : List ℕ) → Below e os → Below (suc e) os
 below-more e [] w = tt
 below-more e (o ∷ os) w = (omega (arith, w .0), below-more e os (w .1))
+
+whole-joined :
+    (l : List Entry) (t c e : ℕ) (os : List ℕ) (q : List Job) → t ≡ tickAt l e → c ≡ demandAt l e → Whole l os q → Whole l (os ++ e ∷ []) (q ++ job t c ∷ [])
+whole-joined l t c e [] [] a b w = (a, b, tt)
+whole-joined l t c e [] (j ∷ q) a b w = absurd w
+whole-joined l t c e (o ∷ os) [] a b w = absurd w
+whole-joined l t c e (o ∷ os) (job r v ∷ q) a b w = (w .0, w .1, whole-joined l t c e os q a b (w .2))
+
+rooted-joined :
+    (l : List Entry) (t c e : ℕ) (os : List ℕ) (q : List Job) → t ≡ tickAt l e → c ≡ demandAt l e → Rooted l os q → Rooted l (os ++ e ∷ []) (q ++ job t c ∷ [])
+rooted-joined l t c e [] [] a b w = (a, tt)
+rooted-joined l t c e [] (j ∷ q) a b w = absurd w
+rooted-joined l t c e (o ∷ os) [] a b w = absurd w
+rooted-joined l t c e (o ∷ os) (job r v ∷ q) a b w = (w .0, whole-joined l t c e os q a b (w .1))
 
 module _ (p : Plan) (l : List Entry) (out₀ : List ℕ) where
   abbrev s : TaskSet
@@ -58,11 +72,13 @@ module _ (p : Plan) (l : List Entry) (out₀ : List ℕ) where
     pub book-refused :
         (h g : List Call) (n : ℕ) → outcome E l e ≡ refused n
         → ((i : ℕ) → Owned E l i (named E h i (clock h)) (O i) (state E h .lane i .queue) → Owned E l i (named E g i (clock g)) (O i) (state E g .lane i .queue))
+        → ((i : ℕ) → Rooted l (O i) (state E h .lane i .queue) → Rooted l (O i) (state E g .lane i .queue))
         → ((i d f : ℕ) → Ends E h i d f → Ends E g i d f)
         → Book p l out₀ e h O out → Book p l out₀ (suc e) g O (written n)
-    book-refused h g n r same ends B =
+    book-refused h g n r same same-jobs ends B =
         record {
           owned = λ i less. same i (B .owned i less);
+          rooted = λ i less. same-jobs i (B .rooted i less);
           unowned = B .unowned;
           small = λ i. below-more e (O i) (B .small i);
           long = said-length out e (refusal n) ∙ B .long;
@@ -104,10 +120,11 @@ module _ (p : Plan) (l : List Entry) (out₀ : List ℕ) where
     pub book-taken :
         (t : Taken E l e) → Book p l out₀ e (until (tickAt l e) (calls l e)) O out → loopAt l e < s .count
         → Book p l out₀ (suc e) (calls l (suc e)) (ownersWith (loopAt l e)) out
-    unfolding named handedOf verdict admitted
+    unfolding named handedOf verdict admitted joined
     book-taken t B known =
         record {
           owned = λ j less. owned j less (eqb j i) refl;
+          rooted = λ j less. roots j less (eqb j i) refl;
           unowned = λ j far. rw (ne-eqb j i (λ (z : j ≡ i). absurd (omega arith))) (B .unowned j far);
           small = λ j. small (eqb j i) (O j) (B .small j);
           long = B .long;
@@ -132,6 +149,16 @@ module _ (p : Plan) (l : List Entry) (out₀ : List ℕ) where
             let same : j ≡ i = eqb-true j i q in
             rw same (owners-taken s l e (O i) t (B .owned i known))
         owned j less false q = rw (made, taken-call l E e t .1, q) (B .owned j less)
+
+        roots :
+            (j : ℕ) → j < s .count → (b : Bool) → eqb j i ≡ b
+            → Rooted l (cond b (O j ++ e ∷ []) (O j)) (state E (calls l (suc e)) .lane j .queue)
+        roots j less true q =
+            let same : j ≡ i = eqb-true j i q in
+            rw (made, taken-call l E e t .1, same, eq-eqb i i refl)
+            (rooted-joined l (state E g .clock) (demandAt l e) e (O i) (state E g .lane i .queue)
+            (machine-clock s g ∙ clock-entry l e (taken-call l E e t .0)) refl (B .rooted i known))
+        roots j less false q = rw (made, taken-call l E e t .1, q) (B .rooted j less)
 
         small : (b : Bool) (os : List ℕ) → Below e os → Below (suc e) (cond b (os ++ e ∷ []) os)
         small true [] w = (le-refl _, tt)

@@ -1,17 +1,6 @@
 pub mod Lower
 pub mod LowerLaws
-pub mod TurnLaws
 pub mod Running
-pub mod StepLaws
 pub mod OwnerLaws
 pub mod BookLaws
-pub mod Leap
-pub mod LeapLaws
 pub mod EnterLaws
-pub mod Entered
-pub mod EndLaws
-pub mod ReadyLaws
-pub mod LeapCode
-pub mod HandLaws
-pub mod EnterCode
-pub mod RunCode

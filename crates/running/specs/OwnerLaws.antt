@@ -1,37 +1,24 @@
--- The owners' array and the answer after a tick, by the lists of owners.
+-- The arrays of owners and of their numbers, by the lists of owners.
 --     owner-at                the owner at a place of a loop
 --     moved-owners            a loop's owners moved down
 --     joined-owners           a loop's owners with one more
---     ended                   whether a loop's head finishes in the tick after a history
---     ownersTo, outTo         the owners and the answer with the loops below i noted
---     response-ended          the responses name those that finish
---     notes-are               the code's notes are these
-use Prim.Native.Nat.{ℕ, zero, suc, _+_, _*_, _/_, _%_, _≤_, _<_}
+--     count-at, counts-less, counts-more      their numbers
+use Prim.Native.Nat.{ℕ, zero, suc, _+_, _*_, _/_, _%_, _-_, _≤_, _<_}
 use mathlib.Core.Bool.{Bool, true, false, cond, _&&_, true≢false}
 use mathlib.Core.Path.{_≡_, refl, sym, ap, fun-ext, _∙_}
 use mathlib.Core.List.{List, [], _∷_, _++_}
 use native.Mathlib.Nat.{le-refl}
 use native.Mathlib.Omega.{arith}
-use lib.ListN.{length, getD, set, drop, List·getD-eq-default}
-use lib.Seq.{sets}
+use lib.ListN.{length, getD, set, drop, List·getD-eq-default, length-append}
 use lib.Dec.{ltb, eqb}
 use borrow.Author.Tests.{ltb-true, ltb-false, lt-ltb, le-ltb, eqb-true, eqb-false, eq-eqb, ne-eqb}
 use Rattle.laws.specs.Tab.{tab}
 use Rattle.laws.specs.TabLaws.{length-tab, getD-tab, set-tab, tab-ext}
 use Rattle.tasks.specs.TaskSet.{TaskSet, row}
-use Rattle.machine.specs.Machine.{Machine, runs, response, responses}
-use Rattle.machine.specs.Sound.{reached-sound}
-use Rattle.machine.specs.Choice.{earliest}
 use Rattle.state.specs.Serve.{moved}
 use Rattle.state.specs.MoveLaws.{movedRow, moved-row}
 use Rattle.state.specs.AllLaws.{by-place, loop-of, place-in}
-use Rattle.history.specs.Engine.{Call, clock, state}
-use Rattle.history.specs.Report.{finished}
-use Rattle.history.specs.OnMachine.{machineEngine}
-use Rattle.history.specs.Balance.{reached, machine-clock}
-use Rattle.history.specs.Owners.{finishing, finishing-response}
-use Rattle.logs.specs.LogBytes.{reportBytes}
-use Rattle.running.specs.Running.{ownersIn, Notes, noteOf, notes}
+use Rattle.running.specs.Running.{ownersIn, countsIn}
 
 pub owner-at : (O : ℕ → List ℕ) (i q : ℕ) → i < 16 → q < 16 → row (ownersIn O) (16 * i + q) ≡ getD (O i) q 0
 unfolding ownersIn row
@@ -108,103 +95,33 @@ joined-owners O i n e long few h =
     at j q m false f =
         rw (ne-eqb (16 * j + q) (16 * i + n) (λ (z : 16 * j + q ≡ 16 * i + n). eqb-false j i f (omega arith)))
 
-module _ (s : TaskSet) (g : List Call) (O : ℕ → List ℕ) (out : List ℕ) where
-  abbrev M : Machine
-  M = state (machineEngine s) g
+-- a loop's count with one owner less or more
+counts-set :
+    (O : ℕ → List ℕ) (i v : ℕ) (P : ℕ → List ℕ) → length (P i) ≡ v → ((j : ℕ) → eqb j i ≡ false → P j ≡ O j) → set (countsIn O) i v ≡ countsIn P
+unfolding countsIn
+counts-set O i v P here others =
+    set-tab (λ j. length (O j)) 16 i v ∙ tab-ext _ _ 16 (λ j h. at j (eqb j i) refl)
+  where
+    at : (j : ℕ) (b : Bool) → eqb j i ≡ b → cond b v (length (O j)) ≡ length (P j)
+    at j true e = sym (ap (λ (k : ℕ). length (P k)) (eqb-true j i e) ∙ here)
+    at j false e = ap length (sym (others j e))
 
-  unfoldable pub ended : ℕ → Bool
-  ended i = runs s M i && finishing (M .lane i .queue)
+pub count-at : (O : ℕ → List ℕ) (i : ℕ) → i < 16 → row (countsIn O) i ≡ length (O i)
+unfolding countsIn row
+count-at O i h = getD-tab (λ j. length (O j)) 16 i 0 h
 
-  unfoldable pub ownersTo : ℕ → ℕ → List ℕ
-  ownersTo i j = cond (ended j && ltb j i) (drop 1 (O j)) (O j)
+less-one : (os : List ℕ) → length (drop 1 os) ≡ length os - 1
+less-one [] = refl
+less-one (o ∷ os) = omega arith
 
-  unfoldable pub outTo : ℕ → List ℕ
-  outTo zero = out
-  outTo (suc i) = cond (ended i) (sets (outTo i) (8 * getD (O i) 0 0) (reportBytes (finished (suc (clock g))))) (outTo i)
+pub counts-less : (O : ℕ → List ℕ) (i : ℕ) → i < 16 → set (countsIn O) i (row (countsIn O) i - 1) ≡ countsIn (λ j. cond (eqb j i) (drop 1 (O j)) (O j))
+counts-less O i h =
+    counts-set O i (row (countsIn O) i - 1) (λ j. cond (eqb j i) (drop 1 (O j)) (O j))
+    (rw (eq-eqb i i refl, count-at O i h) (less-one (O i)))
+    (λ j e. rw e)
 
-  pub response-ended : (i : ℕ) → ltb 0 (responses (runs s M) M i) ≡ ended i
-  unfolding responses ended
-  response-ended i = go (runs s M i) refl
-    where
-      go : (b : Bool) → runs s M i ≡ b → ltb 0 (cond b (response (suc (M .clock)) (M .lane i .queue)) 0) ≡ b && finishing (M .lane i .queue)
-      go true e =
-          let h = earliest s M .heads i e .0 in
-          finishing-response (s .task i .separation) (s .task i .budget) (M .clock) 0 (M .lane i .queue)
-          (reached-sound s (reached s g) .lanes i h .rising)
-      go false e = refl
-
-  pub owners-now : (i : ℕ) → ownersTo i i ≡ O i
-  unfolding ownersTo
-  owners-now i = rw (le-ltb i i (le-refl i)) (off (ended i))
-    where
-      off : (b : Bool) → cond (b && false) (drop 1 (O i)) (O i) ≡ O i
-      off true = refl
-      off false = refl
-
-  pub owners-next : (i : ℕ) → (b : Bool) → ended i ≡ b → ownersTo (suc i) ≡ cond b (λ j. cond (eqb j i) (drop 1 (ownersTo i j)) (ownersTo i j)) (ownersTo i)
-  unfolding ownersTo
-  owners-next i b e = fun-ext (λ j. at b e j (eqb j i) refl)
-    where
-      apart : (j : ℕ) → eqb j i ≡ false → ltb j (suc i) ≡ ltb j i
-      apart j q = which (ltb j i) refl
-        where
-          which : (c : Bool) → ltb j i ≡ c → ltb j (suc i) ≡ ltb j i
-          which true f = rw f (lt-ltb j (suc i) (omega (arith, ltb-true j i f)))
-          which false f = rw f (le-ltb j (suc i) (above (ltb-false j i f) (eqb-false j i q)))
-            where
-              above : i ≤ j → (j ≡ i → ⊥) → suc i ≤ j
-              above a ne = omega arith
-
-      at :
-          (b : Bool) → ended i ≡ b → (j : ℕ) (c : Bool) → eqb j i ≡ c
-          → ownersTo (suc i) j ≡ cond {A = ℕ → List ℕ} b (λ j. cond (eqb j i) (drop 1 (ownersTo i j)) (ownersTo i j)) (ownersTo i) j
-      at true f j true q =
-          rw (eqb-true j i q, eq-eqb i i refl, f, lt-ltb i (suc i) (le-refl _), le-ltb i i (le-refl i))
-      at true f j false q = rw (q, apart j q)
-      at false f j true q = rw (eqb-true j i q, f)
-      at false f j false q = rw (apart j q)
-
-  pub none-yet : O ≡ ownersTo 0
-  unfolding ownersTo
-  none-yet = fun-ext (λ j. rw (le-ltb j 0 (omega arith)) (off (ended j) j))
-    where
-      off : (b : Bool) (j : ℕ) → O j ≡ cond (b && false) (drop 1 (O j)) (O j)
-      off true j = refl
-      off false j = refl
-
-  row-response : (i : ℕ) → i < 16 → row (tab (responses (runs s M) M) 16) i ≡ responses (runs s M) M i
-  unfolding row
-  row-response i h = getD-tab (responses (runs s M) M) 16 i 0 h
-
-  first-owner : (i : ℕ) → i < 16 → row (ownersIn (ownersTo i)) (16 * i) ≡ getD (O i) 0 0
-  first-owner i h =
-      let e : 16 * i + 0 ≡ 16 * i = omega arith in
-      (rw e at (owner-at (ownersTo i) i 0 h (omega arith))) ∙ ap (λ (os : List ℕ). getD os 0 0) (owners-now i)
-
-  module _ (few : (i : ℕ) → length (O i) ≤ 16) where
-    one-note :
-        (i : ℕ) → i < 16 → (b : Bool) → ended i ≡ b
-        → _≡_ {A = Notes}
-        (record {
-          owners = cond b (moved i (ownersIn (ownersTo i))) (ownersIn (ownersTo i));
-          out = cond b (sets (outTo i) (8 * row (ownersIn (ownersTo i)) (16 * i)) (reportBytes (finished (suc (clock g))))) (outTo i);
-        })
-        (record { owners = ownersIn (ownersTo (suc i)); out = outTo (suc i) })
-    unfolding outTo
-    one-note i h true e =
-        rw (e, first-owner i h, owners-next i true e)
-        (λ k.
-        record {
-          owners = moved-owners (ownersTo i) i h (rw (owners-now i) (few i)) k;
-          out = sets (outTo i) (8 * getD (O i) 0 0) (reportBytes (finished (suc (clock g))));
-        })
-    one-note i h false e = rw (e, owners-next i false e)
-
-    pub notes-are :
-        (i : ℕ) → i ≤ 16
-        → notes (suc (clock g)) (tab (responses (runs s M) M) 16) (record { owners = ownersIn O; out = out }) i
-        ≡ record { owners = ownersIn (ownersTo i); out = outTo i }
-    unfolding notes noteOf outTo
-    notes-are zero h = λ k. record { owners = ownersIn (none-yet k); out = out }
-    notes-are (suc i) h =
-        rw (notes-are i (omega arith), row-response i h, response-ended i) (one-note i h (ended i) refl)
+pub counts-more : (O : ℕ → List ℕ) (i e : ℕ) → i < 16 → set (countsIn O) i (row (countsIn O) i + 1) ≡ countsIn (λ j. cond (eqb j i) (O j ++ e ∷ []) (O j))
+counts-more O i e h =
+    counts-set O i (row (countsIn O) i + 1) (λ j. cond (eqb j i) (O j ++ e ∷ []) (O j))
+    (rw (eq-eqb i i refl, count-at O i h) (length-append (O i) (e ∷ [])))
+    (λ j q. rw q)
