@@ -4,3 +4,5 @@ pub mod Running
 pub mod OwnerLaws
 pub mod BookLaws
 pub mod EnterLaws
+pub mod Leap
+pub mod FinishLaws

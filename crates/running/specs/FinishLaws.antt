@@ -1,0 +1,294 @@
+-- A loop that finishes in the last tick of a leap, by its code.
+--     next-whole        its queue afterwards is that of the owners behind the first
+--     finish-room       the first owner's report has room
+--     FinishReady       what its code needs; Finished: what it gives
+use Prim.Native.Nat.{ℕ, zero, suc, _+_, _-_, _*_, _≤_, _<_}
+use mathlib.Core.Bool.{Bool, true, false, cond, not, _&&_, _||_, true≢false, false≢true, and-eq-true-iff}
+use mathlib.Core.Path.{_≡_, refl, sym, ap, subst, fun-ext, _∙_}
+use mathlib.Core.Logic.{_≢_}
+use mathlib.Core.List.{List, [], _∷_}
+use native.Mathlib.Omega.{arith}
+use lib.ListN.{length, getD, drop, set}
+use lib.Seq.{sets}
+use lib.Dec.{ltb, eqb, leb}
+use borrow.Author.Tests.{ltb-true, ltb-false, leb-true, eqb-true, eq-eqb}
+use Rattle.tasks.specs.declared.Task.{Task}
+use Rattle.tasks.specs.declared.Plan.{Plan}
+use Rattle.tasks.specs.TaskSet.{TaskSet, row}
+use Rattle.tasks.specs.Content.{taskOf, contentOf}
+use Rattle.machine.specs.Machine.{Job, job, Lane, Machine, opened, pending, waiting, headRelease, point, runs, served, advanced, tick}
+use Rattle.machine.specs.Sound.{Rising, reached-sound}
+use Rattle.state.specs.Fit.{Fit}
+use Rattle.state.specs.KeptLaws.{reached-fit}
+use Rattle.state.specs.FitLaws.{in-task, in-count, plan-limits}
+use Rattle.state.specs.Serve.{moved}
+use Rattle.history.specs.Engine as history
+use Rattle.history.specs.Engine.{Engine, Call, step, state}
+use Rattle.history.specs.Log.{Entry, noEntry, tickAt, demandAt}
+use Rattle.history.specs.Report.{finished}
+use Rattle.history.specs.OnMachine.{machineEngine}
+use Rattle.history.specs.Balance.{reached, machine-clock}
+use Rattle.history.specs.Owners.{finishing}
+use Rattle.logs.specs.declared.read.Release.{Release}
+use Rattle.logs.specs.LogStages.{Releases}
+use Rattle.logs.specs.LogBytes.{entryCount, entryIn, entriesIn, reportBytes}
+use Rattle.logs.specs.LogLaws.{entries-length, entry-at}
+use Rattle.heads.specs.Order.{keyOf, headWork, Heads, Inserted}
+use Rattle.heads.specs.HeadLaws.{without, inserted, left-out}
+use Rattle.heads.specs.RoomLaws.{room-for}
+use Rattle.running.specs.Running.{ownersIn, countsIn, Whole, Rooted, Book}
+use Rattle.running.specs.OwnerLaws.{owner-at, moved-owners, count-at, counts-less}
+use Rattle.running.specs.BookLaws.{book-few, ended, ownersNow, andOne, Stage, ended-known, some-owner, first-early, stage-more}
+use Rattle.running.specs.Leap.{Standing, Frame, Turning}
+
+-- a queue whose head has its last tick of work
+served-last : (l : List Entry) (T C t r : ℕ) (os : List ℕ) (q : List Job) → Rising T C t r q → Rooted l os q → finishing q ≡ true → Whole l (drop 1 os) (served q)
+unfolding served
+served-last l T C t r [] [] c p f = absurd (false≢true f)
+served-last l T C t r [] (j ∷ q) c p f = absurd p
+served-last l T C t r (o ∷ os) [] c p f = absurd p
+served-last l T C t r (o ∷ os) (job a zero ∷ q) c p f = p .1
+served-last l T C t r (o ∷ os) (job a (suc zero) ∷ q) c p f = p .1
+served-last l T C t r (o ∷ os) (job a (suc (suc w)) ∷ q) c p f = absurd (omega (arith, leb-true (suc (suc w)) 1 f))
+
+module _ (x : Standing) (g : List Call) (gone : ℕ → Bool) (now : ℕ) (jobs owners key left : List ℕ) (n : ℕ) (out : List ℕ)
+    (bytes : List ℕ) (cores : ℕ) (offsets : List ℕ) (F : Frame x bytes cores offsets)
+    (X : Turning x g gone now jobs owners key left n out) where
+  abbrev p : Plan
+  p = x .plan
+
+  abbrev l : List Entry
+  l = x .log
+
+  abbrev s : TaskSet
+  s = contentOf p .tasks
+
+  abbrev E : Engine
+  E = machineEngine s
+
+  abbrev O : ℕ → List ℕ
+  O = x .owners
+
+  abbrev N : Machine
+  N = state E (step ∷ g)
+
+  abbrev now-owners : ℕ → List ℕ
+  now-owners = ownersNow p l (x .lent) O gone
+
+  abbrev over : ℕ → Bool
+  over = ended p l (x .lent) g
+
+  -- nobody beyond the table waits
+  waits-low : (j : ℕ) → waiting N j ≡ true → j < 16
+  unfolding waiting opened
+  waits-low j w = go (ltb j (s .count)) refl
+    where
+      go : (b : Bool) → ltb j (s .count) ≡ b → j < 16
+      go true q = omega (arith, ltb-true j (s .count) q, plan-limits p (F .accepted) .tasks-high)
+      go false q =
+          absurd (false≢true (sym (ap (λ (a : Lane). pending (a .queue)) (reached-sound s (reached s (step ∷ g)) .unused j (ltb-false j (s .count) q))) ∙ w))
+
+  module _ (i : ℕ) (fin : over i ≡ true) (new : gone i ≡ false) where
+    known : i < s .count
+    known = ended-known p l (x .lent) (x .entered) g O (X .answered) (F .room) (X .before) i fin
+
+    low : i < 16
+    low = omega (arith, known, plan-limits p (F .accepted) .tasks-high)
+
+    next-whole : Whole l (drop 1 (O i)) (N .lane i .queue)
+    unfolding ended tick advanced
+    next-whole =
+        let both = and-eq-true-iff (runs s (state E g) i) (finishing (state E g .lane i .queue)) .0 fin in
+        rw (both .0)
+        (served-last l (s .task i .separation) (s .task i .budget) (state E g .clock) 0 (O i) (state E g .lane i .queue)
+        (reached-sound s (reached s g) .lanes i known .rising) (X .before .rooted i known) (both .1))
+
+    -- the owners of loop i are still all there
+    owners-here : now-owners i ≡ O i
+    owners-here = rw new
+
+    abbrev first : ℕ
+    first = getD (O i) 0 0
+
+    pub first-read : row owners (16 * i) ≡ first
+    first-read =
+        let e : 16 * i + 0 ≡ 16 * i = omega arith in
+        rw (X .owners-are) ((rw e at (owner-at now-owners i 0 low (omega arith))) ∙ ap (λ (os : List ℕ). getD os 0 0) owners-here)
+
+    pub finish-room : 8 * row owners (16 * i) + 8 ≤ length out
+    finish-room =
+        omega (
+          arith,
+          first-read,
+          first-early p l (x .lent) (x .entered) g O (X .answered) (F .room) (X .before) i fin,
+          F .room,
+          X .stage .long,
+        )
+
+    here : O i ≡ first ∷ drop 1 (O i)
+    here = some-owner p l (x .lent) (x .entered) g O (X .answered) (F .room) (X .before) i fin
+
+    count-now : row jobs i ≡ length (O i)
+    count-now = rw (X .counts-are) (count-at now-owners i low ∙ ap length owners-here)
+
+    pub finish-low : (i < 16) × (1 ≤ row jobs i)
+    finish-low = (low, omega (arith, count-now, some (O i) here))
+      where
+        some : (os : List ℕ) → os ≡ first ∷ drop 1 (O i) → 1 ≤ length os
+        some os e = rw e (omega arith)
+
+    -- with i's first owner taken off
+    abbrev then-owners : ℕ → List ℕ
+    then-owners = ownersNow p l (x .lent) O (andOne p l (x .lent) gone i)
+
+    owners-step : (λ j. cond (eqb j i) (drop 1 (now-owners j)) (now-owners j)) ≡ then-owners
+    owners-step = fun-ext (λ j. at j (eqb j i) refl (gone j) refl)
+      where
+        at :
+            (j : ℕ) (b : Bool) → eqb j i ≡ b → (c : Bool) → gone j ≡ c
+            → cond b (drop 1 (cond c (drop 1 (O j)) (O j))) (cond c (drop 1 (O j)) (O j)) ≡ cond (c || b) (drop 1 (O j)) (O j)
+        at j true e true c = absurd (true≢false (sym c ∙ ap gone (eqb-true j i e) ∙ new))
+        at j true e false c = refl
+        at j false e true c = refl
+        at j false e false c = refl
+
+    pub finish-counts : (jobs′ : List ℕ) → jobs′ ≡ set jobs i (row jobs i - 1) → jobs′ ≡ countsIn then-owners
+    finish-counts jobs′ q =
+        q
+        ∙ ap (λ (a : List ℕ). set a i (row a i - 1)) (X .counts-are)
+        ∙ counts-less now-owners i low
+        ∙ ap countsIn owners-step
+
+    fits-before : Fit p (state E g)
+    fits-before =
+        reached-fit p (F .accepted) (F .tidied) (state E g) (reached s g) (omega (arith, machine-clock s g, X .now-is, X .limit))
+
+    pub finish-owners : (owners′ : List ℕ) → owners′ ≡ moved i owners → owners′ ≡ ownersIn then-owners
+    finish-owners owners′ q =
+        q
+        ∙ ap (moved i) (X .owners-are)
+        ∙ moved-owners now-owners i low
+        (rw owners-here (book-few p l (x .lent) (x .entered) g O (X .answered) fits-before (X .before) i))
+        ∙ ap ownersIn owners-step
+
+    then-here : then-owners i ≡ drop 1 (O i)
+    then-here = rw (new, eq-eqb i i refl)
+
+    count-then : (jobs′ : List ℕ) → jobs′ ≡ countsIn then-owners → row jobs′ i ≡ length (drop 1 (O i))
+    count-then jobs′ q = rw q (count-at then-owners i low ∙ ap length then-here)
+
+    abbrev second : ℕ
+    second = getD (drop 1 (O i)) 0 0
+
+    second-read : (owners′ : List ℕ) → owners′ ≡ ownersIn then-owners → row owners′ (16 * i) ≡ second
+    second-read owners′ q =
+        let e : 16 * i + 0 ≡ 16 * i = omega arith in
+        rw q ((rw e at (owner-at then-owners i 0 low (omega arith))) ∙ ap (λ (os : List ℕ). getD os 0 0) then-here)
+
+    out-step : (λ j. over j && not (andOne p l (x .lent) gone i j)) ≡ without (λ j. over j && not (gone j)) i
+    out-step = fun-ext (λ j. at (over j) (gone j) (eqb j i))
+      where
+        at : (a b c : Bool) → a && not (b || c) ≡ (a && not b) && not c
+        at true true c = refl
+        at true false c = refl
+        at false b c = refl
+
+    out-here : over i && not (gone i) ≡ true
+    out-here = rw (fin, new)
+
+    stage-then : (out′ : List ℕ) → out′ ≡ sets out (8 * row owners (16 * i)) (reportBytes (finished now)) → Stage p l (x .lent) (x .entered) g O (andOne p l (x .lent) gone i) out′
+    stage-then out′ q =
+        subst (Stage p l (x .lent) (x .entered) g O (andOne p l (x .lent) gone i))
+        (sym (q ∙ rw (first-read, X .now-is)))
+        (stage-more p l (x .lent) (x .entered) g O (X .answered) (F .room) (X .before) i fin gone out new (X .stage))
+
+    module _ (jobs′ owners′ out′ : List ℕ) (jq : jobs′ ≡ set jobs i (row jobs i - 1)) (oq : owners′ ≡ moved i owners)
+        (uq : out′ ≡ sets out (8 * row owners (16 * i)) (reportBytes (finished now))) where
+      turned :
+          (key′ left′ : List ℕ) (n′ : ℕ) → Heads s N (without (λ j. over j && not (gone j)) i) key′ left′ n′
+          → Turning x g (andOne p l (x .lent) gone i) now jobs′ owners′ key′ left′ n′ out′
+      turned key′ left′ n′ A =
+          record {
+            answered = X .answered;
+            before = X .before;
+            now-is = X .now-is;
+            limit = X .limit;
+            counts-are = finish-counts jobs′ jq;
+            owners-are = finish-owners owners′ oq;
+            heads-are = rw out-step A;
+            stage = stage-then out′ uq;
+          }
+
+      -- no job is left
+      pub finish-none : row jobs′ i ≡ 0 → Turning x g (andOne p l (x .lent) gone i) now jobs′ owners′ key left n out′
+      unfolding waiting
+      finish-none z =
+          turned key left n
+          (left-out s N (λ j. over j && not (gone j)) key left n i (X .heads-are)
+          (empty (drop 1 (O i)) (sym (count-then jobs′ (finish-counts jobs′ jq)) ∙ z) (N .lane i .queue) next-whole))
+        where
+          empty : (os : List ℕ) → length os ≡ 0 → (q : List Job) → Whole l os q → pending q ≡ false
+          empty [] e [] w = refl
+          empty [] e (j ∷ q) w = absurd w
+          empty (o ∷ os) e q w = absurd (omega arith)
+
+      module _ (more : row jobs′ i ≢ 0) where
+        -- the next job is as it was released
+        record Next : Type 0 where
+          waits : waiting N i ≡ true
+          key-is : keyOf s N i ≡ 16 * (tickAt l second + s .task i .offset) + i
+          work-is : headWork (N .lane i .queue) ≡ demandAt l second
+          early : second < x .entered
+
+        next : Next
+        unfolding waiting keyOf point
+        next = go (drop 1 (O i)) refl (N .lane i .queue) refl
+          where
+            go : (os : List ℕ) → drop 1 (O i) ≡ os → (q : List Job) → N .lane i .queue ≡ q → Next
+            go [] z q y = absurd (more (count-then jobs′ (finish-counts jobs′ jq) ∙ ap length z))
+            go (o ∷ os) z [] y = absurd (rw (z, y) at next-whole)
+            go (o ∷ os) z (job a w ∷ q) y =
+                let v = rw (z, y) at next-whole in
+                record {
+                  waits = rw y;
+                  key-is = rw (y, z, v .0);
+                  work-is = rw (y, z) (v .1);
+                  early = rw z ((rw z at ((rw here at (X .before .small i)) .1)) .0);
+                }
+
+        pub finish-long : 2 + 9 * row owners′ (16 * i) + 9 ≤ length bytes
+        finish-long = omega (arith, second-read owners′ (finish-owners owners′ oq), next .early, F .in-log, F .long)
+
+        pub finish-place : n < 16
+        finish-place =
+            room-for s N (λ j. over j && not (gone j)) key left n waits-low (X .heads-are) i low out-here
+
+        pub finish-more :
+            (r : Release) → Releases bytes (row owners′ (16 * i)) r → (key′ left′ : List ℕ)
+            → Inserted key left n (16 * (r .tick + row offsets i) + i) (r .demand) key′ left′
+            → Turning x g (andOne p l (x .lent) gone i) now jobs′ owners′ key′ left′ (n + 1) out′
+        finish-more r R key′ left′ I =
+            turned key′ left′ (n + 1)
+            (inserted s N (λ j. over j && not (gone j)) key left n i (X .heads-are) waits-low (next .waits) out-here key′ left′
+            (subst (λ v. Inserted key left n v (headWork (N .lane i .queue)) key′ left′) (sym key-same)
+            (subst (λ w. Inserted key left n (16 * (r .tick + row offsets i) + i) w key′ left′) (sym work-same) I)))
+          where
+            at : row owners′ (16 * i) ≡ second
+            at = second-read owners′ (finish-owners owners′ oq)
+
+            counted : second < entryCount bytes
+            counted = omega (arith, next .early, F .in-log, ap (λ (a : List Entry). length a) (F .log-is), entries-length bytes)
+
+            entry : getD l second noEntry ≡ entryIn bytes (row owners′ (16 * i))
+            entry = rw (F .log-is, at) (entry-at bytes second counted)
+
+            offset : row offsets i ≡ s .task i .offset
+            offset =
+                let h : i < p .tasks = omega (arith, known, in-count p) in
+                F .offsets-are i h ∙ sym (ap (λ (t : Task). t .offset) (in-task p i h))
+
+            key-same : keyOf s N i ≡ 16 * (r .tick + row offsets i) + i
+            key-same = next .key-is ∙ rw (R .tick, offset) (ap (λ (y : Entry). 16 * (y .tick + s .task i .offset) + i) entry)
+
+            work-same : headWork (N .lane i .queue) ≡ r .demand
+            work-same = next .work-is ∙ ap (λ (y : Entry). y .demand) entry ∙ sym (R .demand)
