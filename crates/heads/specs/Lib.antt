@@ -1,3 +1,4 @@
 pub mod Order
 pub mod OrderLaws
 pub mod HeadLaws
+pub mod ScanLaws
