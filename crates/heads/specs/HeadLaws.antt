@@ -136,14 +136,15 @@ module _ (s : TaskSet) (M N : Machine) (d : ℕ) (T : Ticks s M N d) where
               let f = S .from-low a h in
               let x = A .sound (S .from a) f in
               let o = not-over (S .from a) f (S .some a h) in
-              let t = still (x .0) (x .1 .waits) o in
-              (x .0,
-              record {
-                waits = t .waits;
-                inside = o;
-                key-is = S .keys a h ∙ x .1 .key-is ∙ sym (t .key-same);
-                work-is = S .works a h ∙ after-here (S .from a) f ∙ sym (t .work-same);
-              });
+              let t = still (x .0) (x .1 .waits) o in (
+                x .0,
+                record {
+                  waits = t .waits;
+                  inside = o;
+                  key-is = S .keys a h ∙ x .1 .key-is ∙ sym (t .key-same);
+                  work-is = S .works a h ∙ after-here (S .from a) f ∙ sym (t .work-same);
+                },
+              );
           complete = λ i w o.
               let v = waited i w in
               let r = place-of i v o in
@@ -235,14 +236,15 @@ module _ (s : TaskSet) (M : Machine) (out : ℕ → Bool) (key left : List ℕ) 
             (a : ℕ) → a < n → (b : ℕ) → (row key′ b ≡ row key a) × (row left′ b ≡ row left a)
             → (j : ℕ) × Head s M (without out i) (row key′ b) (row left′ b) j
         kept a h b e =
-            let x = A .sound a h in
-            (x .0,
-            record {
-              waits = x .1 .waits;
-              inside = still-out (x .0) (x .1 .inside);
-              key-is = e .0 ∙ x .1 .key-is;
-              work-is = e .1 ∙ x .1 .work-is;
-            })
+            let x = A .sound a h in (
+              x .0,
+              record {
+                waits = x .1 .waits;
+                inside = still-out (x .0) (x .1 .inside);
+                key-is = e .0 ∙ x .1 .key-is;
+                work-is = e .1 ∙ x .1 .work-is;
+              },
+            )
 
         moved : (j : ℕ) → (a : ℕ) × (a < n) × (row key a ≡ keyOf s M j) → (a : ℕ) × (a < n + 1) × (row key′ a ≡ keyOf s M j)
         moved j r = go (ltb (r .0) (I .at)) refl
