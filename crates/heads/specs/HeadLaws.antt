@@ -87,14 +87,14 @@ module _ (s : TaskSet) (M N : Machine) (d : ℕ) (T : Ticks s M N d) where
               ∙ sym e
           go false e = place-idle s M key left n few known A b (A .sound b h .0) h (ltb-false _ _ e) (A .sound b h .1 .key-is) ∙ sym e
 
-      after-here :
+      pub after-here :
           workAfter left (s .cores) d b
           ≡ cond (runs s M (A .sound b h .0)) (headWork (M .lane (A .sound b h .0) .queue) - d) (headWork (M .lane (A .sound b h .0) .queue))
       unfolding workAfter
       after-here = rw (runs-here, A .sound b h .1 .work-is)
 
       -- with work left it did not finish, and with none it did
-      over-here : (x : Bool) → over s M d (A .sound b h .0) ≡ x → cond x 0 1 ≤ workAfter left (s .cores) d b
+      pub over-here : (x : Bool) → over s M d (A .sound b h .0) ≡ x → cond x 0 1 ≤ workAfter left (s .cores) d b
       unfolding over
       over-here true e = omega arith
       over-here false e = rw after-here (go (runs s M (A .sound b h .0)) refl)
@@ -108,7 +108,7 @@ module _ (s : TaskSet) (M N : Machine) (d : ℕ) (T : Ticks s M N d) where
               (eq-or-lt-of-le (T .enough (A .sound b h .0) r))
           go false r = busy (A .sound b h .0) (A .sound b h .1 .waits)
 
-      not-over : 1 ≤ workAfter left (s .cores) d b → over s M d (A .sound b h .0) ≡ false
+      pub not-over : 1 ≤ workAfter left (s .cores) d b → over s M d (A .sound b h .0) ≡ false
       unfolding over
       not-over w = go (runs s M (A .sound b h .0)) refl (eqb (headWork (M .lane (A .sound b h .0) .queue)) d) refl
         where

@@ -37,7 +37,8 @@ use Rattle.history.specs.Owners.{Owned, finishing, owned-length, owned-head, ow
 use Rattle.codec.specs.Bytes.{byte}
 use Rattle.logs.specs.LogBytes.{reportBytes}
 use Rattle.logs.specs.ReportLaws.{Said, said-length, said-beyond, said-here, said-other}
-use Rattle.running.specs.Lower.{headWork, lowerHead, lowered}
+use Rattle.heads.specs.Order.{headWork}
+use Rattle.running.specs.Lower.{lowerHead, lowered}
 use Rattle.running.specs.LowerLaws.{MoreThan, lowered-runs, wait-lowered}
 use Rattle.running.specs.Running.{Below, Whole, Rooted, Book}
 

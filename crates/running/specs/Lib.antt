@@ -6,3 +6,4 @@ pub mod BookLaws
 pub mod EnterLaws
 pub mod Leap
 pub mod FinishLaws
+pub mod LeapLaws

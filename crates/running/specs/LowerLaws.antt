@@ -1,8 +1,6 @@
 -- Laws of ticks in which nobody finishes.
 --     lowered-runs           the same loops run in the machine after them
 --     wait-lowered           so many steps after a history lead there, if every running head has more work than that
---     lowered-jobs, lowered-release                    its arrays of job counts and releases
---     same-queues, one-lowered                         the remaining work where no queue changes, and where one head is lowered
 use Prim.Native.Nat.{ℕ, zero, suc, pred, _+_, _-_, _*_, _/_, _%_, _≤_, _<_, min}
 use mathlib.Core.Bool.{Bool, true, false, cond, not, _&&_, true≢false}
 use mathlib.Core.Path.{_≡_, refl, sym, ap, fun-ext, _∙_}
@@ -22,7 +20,8 @@ use Rattle.history.specs.Engine.{Call, state}
 use Rattle.history.specs.Log.{wait}
 use Rattle.history.specs.OnMachine.{machineEngine}
 use Rattle.laws.specs.Member.{member}
-use Rattle.running.specs.Lower.{headWork, lowerHead, lowered}
+use Rattle.heads.specs.Order.{headWork}
+use Rattle.running.specs.Lower.{lowerHead, lowered}
 
 module _ (s : TaskSet) (M : Machine) (run : ℕ → Bool) (k : ℕ) where
   lowered-waiting : waiting (lowered run k M) ≡ waiting M
@@ -99,68 +98,3 @@ wait-lowered s h zero more = sym (lowered-none (state (machineEngine s) h) (runs
 wait-lowered s h (suc k) more =
     ap (tick s) (wait-lowered s h k (λ i r. omega (arith, more i r)))
     ∙ lowered-tick s (state (machineEngine s) h) k more
-
--- ---- the arrays
-
-module _ (run : ℕ → Bool) (k : ℕ) (M : Machine) where
-  pub lowered-jobs : jobsIn (lowered run k M) ≡ jobsIn M
-  unfolding jobsIn lowered
-  lowered-jobs = tab-ext _ _ 16 (λ i h. at (run i) (M .lane i .queue))
-    where
-      at : (b : Bool) (q : List Job) → length (cond b (lowerHead k q) q) ≡ length q
-      at true [] = refl
-      at true (job r w ∷ q) = refl
-      at false q = refl
-
-  pub lowered-release : releaseIn (lowered run k M) ≡ releaseIn M
-  unfolding releaseIn jobAt lowered
-  lowered-release = tab-ext _ _ 256 (λ n h. at (run (n / 16)) (M .lane (n / 16) .queue) (n % 16))
-    where
-      at : (b : Bool) (q : List Job) (p : ℕ) → releaseTick (getD (cond b (lowerHead k q) q) p noJob) ≡ releaseTick (getD q p noJob)
-      at true [] p = refl
-      at true (job r w ∷ q) zero = refl
-      at true (job r w ∷ q) (suc p) = refl
-      at false q p = refl
-
-pub same-queues : (M N : Machine) → ((j : ℕ) → N .lane j .queue ≡ M .lane j .queue) → remainingIn N ≡ remainingIn M
-unfolding remainingIn jobAt
-same-queues M N same = tab-ext _ _ 256 (λ k h. ap (λ (q : List Job). remaining (getD q (k % 16) noJob)) (same (k / 16)))
-
--- one loop's head lowered: one store
-module _ (i k : ℕ) (M N : Machine) (low : i < 16) where
-  pub one-lowered :
-      N .lane i .queue ≡ lowerHead k (M .lane i .queue)
-      → ((j : ℕ) → eqb j i ≡ false → N .lane j .queue ≡ M .lane j .queue)
-      → pending (M .lane i .queue) ≡ true
-      → remainingIn N ≡ set (remainingIn M) (16 * i) (row (remainingIn M) (16 * i) - k)
-  unfolding remainingIn
-  one-lowered here others some =
-      sym
-      (set-tab (λ n. remaining (jobAt M n)) 256 (16 * i) (row (remainingIn M) (16 * i) - k)
-      ∙ tab-ext _ _ 256 (by-place _ (λ j q h m. at j q m (eqb j i) refl q refl)))
-    where
-      head : row (remainingIn M) (16 * i) ≡ remaining (getD (M .lane i .queue) 0 noJob)
-      head =
-          let e : 16 * i + 0 ≡ 16 * i = omega arith in
-          row-remaining M (16 * i) (omega arith) ∙ ap remaining (rw e at (job-at M i 0 (omega arith)))
-
-      first-less : (q : List Job) → pending q ≡ true → remaining (getD q 0 noJob) - k ≡ remaining (getD (lowerHead k q) 0 noJob)
-      first-less [] p = absurd (true≢false (sym p))
-      first-less (job r w ∷ q) p = refl
-
-      rest-same : (q : List Job) (p : ℕ) → getD q (suc p) noJob ≡ getD (lowerHead k q) (suc p) noJob
-      rest-same [] p = refl
-      rest-same (job r w ∷ q) p = refl
-
-      at :
-          (j q : ℕ) → q < 16 → (b : Bool) → eqb j i ≡ b → (p : ℕ) → q ≡ p
-          → cond (eqb (16 * j + q) (16 * i)) (row (remainingIn M) (16 * i) - k) (remaining (jobAt M (16 * j + q)))
-          ≡ remaining (jobAt N (16 * j + q))
-      at j q m true e zero z =
-          rw (eq-eqb (16 * j + q) (16 * i) (omega (arith, eqb-true j i e)), job-at N j q m, eqb-true j i e, z, here, head)
-          (first-less (M .lane i .queue) some)
-      at j q m true e (suc p) z =
-          rw (ne-eqb (16 * j + q) (16 * i) (λ (x : 16 * j + q ≡ 16 * i). omega (arith, eqb-true j i e)), job-at N j q m, job-at M j q m, eqb-true j i e, z, here)
-          (ap remaining (rest-same (M .lane i .queue) p))
-      at j q m false e p z =
-          rw (ne-eqb (16 * j + q) (16 * i) (λ (x : 16 * j + q ≡ 16 * i). eqb-false j i e (omega arith)), job-at N j q m, job-at M j q m, others j e)
