@@ -270,3 +270,28 @@ module _ (s : TaskSet) (M : Machine) (out : ℕ → Bool) (key left : List ℕ) 
             (λ b h l. absurd (omega arith))
             (λ l. absurd (omega arith))
             (λ b h m l. rw (I .above a g k .0, I .above b h m .0) (A .rises a b (omega arith) m)))
+
+-- ---- another machine with the same heads
+
+pub record SameHead (s : TaskSet) (M N : Machine) (j : ℕ) : Type 0 where
+  pub waits : waiting N j ≡ waiting M j
+  pub key : keyOf s N j ≡ keyOf s M j
+  pub work : headWork (N .lane j .queue) ≡ headWork (M .lane j .queue)
+
+pub heads-same :
+    (s : TaskSet) (M N : Machine) (out : ℕ → Bool) (key left : List ℕ) (n : ℕ) → ((j : ℕ) → out j ≡ false → SameHead s M N j)
+    → ((j : ℕ) → waiting M j ≡ true → out j ≡ false) → Heads s M (λ j. false) key left n → Heads s N out key left n
+heads-same s M N out key left n same inside A =
+    record {
+      rises = A .rises;
+      sound = λ a h.
+          let x = A .sound a h in
+          let o = inside (x .0) (x .1 .waits) in
+          let t = same (x .0) o in
+          (x .0,
+          record { waits = t .waits ∙ x .1 .waits; inside = o; key-is = x .1 .key-is ∙ sym (t .key); work-is = x .1 .work-is ∙ sym (t .work) });
+      complete = λ j w o.
+          let t = same j o in
+          let r = A .complete j (sym (t .waits) ∙ w) refl in
+          (r .0, r .1, r .2 ∙ sym (t .key));
+    }

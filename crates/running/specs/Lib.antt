@@ -7,3 +7,9 @@ pub mod EnterLaws
 pub mod Leap
 pub mod FinishLaws
 pub mod LeapLaws
+pub mod ReadyLaws
+pub mod Entered
+pub mod EndLaws
+pub mod HandLaws
+pub mod EnterCode
+pub mod RunCode

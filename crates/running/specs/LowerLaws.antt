@@ -1,5 +1,6 @@
 -- Laws of ticks in which nobody finishes.
 --     lowered-runs           the same loops run in the machine after them
+--     wait-wait              some steps and then some more
 --     wait-lowered           so many steps after a history lead there, if every running head has more work than that
 use Prim.Native.Nat.{ℕ, zero, suc, pred, _+_, _-_, _*_, _/_, _%_, _≤_, _<_, min}
 use mathlib.Core.Bool.{Bool, true, false, cond, not, _&&_, true≢false}
@@ -16,7 +17,7 @@ use Rattle.machine.specs.Machine.{Job, job, releaseTick, remaining, Lane, Machi
 use Rattle.state.specs.State.{noJob, jobAt, jobsIn, remainingIn, releaseIn}
 use Rattle.state.specs.ViewLaws.{machine-ext, job-at, row-remaining}
 use Rattle.state.specs.AllLaws.{by-place}
-use Rattle.history.specs.Engine.{Call, state}
+use Rattle.history.specs.Engine.{Call, step, state}
 use Rattle.history.specs.Log.{wait}
 use Rattle.history.specs.OnMachine.{machineEngine}
 use Rattle.laws.specs.Member.{member}
@@ -98,3 +99,9 @@ wait-lowered s h zero more = sym (lowered-none (state (machineEngine s) h) (runs
 wait-lowered s h (suc k) more =
     ap (tick s) (wait-lowered s h k (λ i r. omega (arith, more i r)))
     ∙ lowered-tick s (state (machineEngine s) h) k more
+
+pub wait-wait : (a b : ℕ) (h : List Call) → wait a (wait b h) ≡ wait (a + b) h
+wait-wait zero b h = let z : 0 + b ≡ b = omega arith in ap (λ (n : ℕ). wait n h) (sym z)
+wait-wait (suc a) b h =
+    let z : suc a + b ≡ suc (a + b) = omega arith in
+    ap (λ (g : List Call). step ∷ g) (wait-wait a b h) ∙ ap (λ (n : ℕ). wait n h) (sym z)

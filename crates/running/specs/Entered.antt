@@ -1,0 +1,364 @@
+-- Where a log run stands between two entries, and that each kind of entry leads on to the next.
+--     Entered p l out₀ e …        the first e entries of l are entered: clock, arrays, owners and answer
+--     entered-ready               so a leap may be made
+--     entered-back                an entry that goes back is told by the clock
+--     back-entered                the next entry meets 17
+--     AtTick …                    the run has come to the next entry's tick
+--     refused-entered             the next entry's release is refused
+--     taken-first, taken-behind   it is taken, and its job is the loop's head or stands behind others
+use Prim.Native.Nat.{ℕ, zero, suc, _+_, _-_, _*_, _≤_, _<_}
+use mathlib.Core.Bool.{Bool, true, false, cond, not, _&&_, true≢false}
+use mathlib.Core.Path.{_≡_, refl, sym, ap, subst, fun-ext, _∙_}
+use mathlib.Core.Logic.{_≢_}
+use mathlib.Core.List.{List, [], _∷_, _++_}
+use native.Mathlib.Omega.{arith}
+use lib.ListN.{length, set}
+use lib.Seq.{sets}
+use lib.Dec.{ltb, eqb}
+use borrow.Author.Tests.{ltb-true, ltb-false, leb-false, eqb-true, eq-eqb}
+use Rattle.laws.specs.TabLaws.{tab-ext}
+use Rattle.tasks.specs.declared.Plan.{Plan}
+use Rattle.tasks.specs.declared.Answer.the-variants.{Accepted}
+use Rattle.tasks.specs.TaskSet.{TaskSet, row}
+use Rattle.tasks.specs.Content.{taskOf, contentOf, tidy}
+use Rattle.tasks.specs.Tests.{testPlan}
+use Rattle.machine.specs.Machine.{Job, job, Lane, Machine, opened, full, joined, admitted, pending, waiting, headRelease, point}
+use Rattle.machine.specs.Sound.{reached-sound}
+use Rattle.state.specs.State.{flagOf, tickOf, releasedIn, lastIn}
+use Rattle.state.specs.FitLaws.{plan-limits}
+use Rattle.state.specs.AdmitLaws.{admitted-released, admitted-last}
+use Rattle.heads.specs.Order.{keyOf, headWork, Heads, Inserted}
+use Rattle.heads.specs.HeadLaws.{SameHead, heads-same, inserted}
+use Rattle.heads.specs.RoomLaws.{room-for}
+use Rattle.history.specs.Engine as history
+use Rattle.history.specs.Engine.{taken, refused, Engine, Call, ask, state, verdict, named}
+use Rattle.history.specs.EngineLaws.{ends-ask}
+use Rattle.history.specs.Log.{Entry, tickAt, loopAt, demandAt, back, wait, until, calls, outcome}
+use Rattle.history.specs.LogLaws.{largest-least, clock-calls, clock-entry}
+use Rattle.history.specs.Report.{refusal}
+use Rattle.history.specs.OnMachine.{answerOf, handedOf, machineEngine}
+use Rattle.history.specs.Balance.{answer-allowed, reached, machine-clock}
+use Rattle.history.specs.Refusals.{last-wait}
+use Rattle.history.specs.Owners.{owned-length}
+use Rattle.logs.specs.LogBytes.{entriesIn, reportBytes}
+use Rattle.running.specs.Running.{Running}
+use Rattle.running.specs.OwnerLaws.{joined-owners, count-at, counts-more}
+use Rattle.running.specs.EnterLaws.{Recent, book-refused, book-taken, ownersWith}
+use Rattle.running.specs.Leap.{Standing, Ready, Reaches}
+
+-- steps change no loop's last release
+released-wait : (p : Plan) (k : ℕ) (h : List Call) → releasedIn (state (machineEngine (contentOf p .tasks)) (wait k h)) ≡ releasedIn (state (machineEngine (contentOf p .tasks)) h)
+unfolding releasedIn
+released-wait p k h = tab-ext _ _ 16 (λ i q. ap flagOf (last-wait (contentOf p .tasks) k h i))
+
+lasts-wait : (p : Plan) (k : ℕ) (h : List Call) → lastIn (state (machineEngine (contentOf p .tasks)) (wait k h)) ≡ lastIn (state (machineEngine (contentOf p .tasks)) h)
+unfolding lastIn
+lasts-wait p k h = tab-ext _ _ 16 (λ i q. ap tickOf (last-wait (contentOf p .tasks) k h i))
+
+module _ (p : Plan) (l : List Entry) (out₀ : List ℕ) where
+  abbrev s : TaskSet
+  s = contentOf p .tasks
+
+  abbrev E : Engine
+  E = machineEngine s
+
+  -- the log fits the lent answer, its ticks are below 15's limit, and the plan meets none of 3 to 13
+  pub record Fitting : Type 0 where
+    pub accepted : testPlan p ≡ Accepted
+    pub tidied : tidy p ≡ p
+    pub few : length l < 65536
+    pub ticks : (k : ℕ) → k < length l → tickAt l k ≤ 1000000000
+    pub room : 8 * length l ≤ length out₀
+
+  pub record Entered (e clock : ℕ) (jobs : List ℕ) (released : List Bool) (last owners key left : List ℕ) (n : ℕ) (out : List ℕ) : Type 0 where
+    pub fitting : Fitting
+    pub clock-is : clock ≡ history.clock (calls l e)
+    pub owned-by : ℕ → List ℕ
+    pub running : Running p l out₀ e (calls l e) owned-by jobs owners key left n out
+    pub recent : Recent p l out₀ (calls l e) released last
+
+  -- the calls up to entry e's release
+  abbrev pub upTo : ℕ → List Call
+  upTo e = until (tickAt l e) (calls l e)
+
+  pub record AtTick (e : ℕ) (jobs : List ℕ) (released : List Bool) (last owners key left : List ℕ) (n : ℕ) (out : List ℕ) : Type 0 where
+    pub fitting : Fitting
+    pub onward : back l e ≡ false
+    pub owned-by : ℕ → List ℕ
+    pub running : Running p l out₀ e (upTo e) owned-by jobs owners key left n out
+    pub recent : Recent p l out₀ (upTo e) released last
+
+  module _ (e clock : ℕ) (jobs : List ℕ) (released : List Bool) (last owners key left : List ℕ) (n : ℕ) (out : List ℕ)
+      (X : Entered e clock jobs released last owners key left n out) where
+    abbrev pub standing : Standing
+    standing = record { plan = p; log = l; lent = out₀; entered = e; made = calls l e; owners = X .owned-by }
+
+    pub entered-clock : e ≤ length l → clock ≤ 1000000000
+    entered-clock h =
+        omega (arith, X .clock-is, clock-calls l e, largest-least l e 1000000000 (λ j q. X .fitting .ticks j (omega arith)))
+
+    pub entered-ready :
+        (bytes offsets : List ℕ) (to : ℕ) → l ≡ entriesIn bytes → length bytes ≡ 2 + 9 * length l
+        → ((i : ℕ) → i < p .tasks → row offsets i ≡ taskOf (p .task) i .offset) → e ≤ length l → to ≤ 4000000000
+        → Ready standing bytes (p .cores) offsets clock to jobs owners key left n out
+    entered-ready bytes offsets to same-log long same h far =
+        record {
+          frame =
+              record {
+                accepted = X .fitting .accepted;
+                tidied = X .fitting .tidied;
+                cores-are = refl;
+                offsets-are = same;
+                log-is = same-log;
+                long = long;
+                in-log = h;
+                room = omega (arith, X .fitting .room);
+              };
+          clock-is = X .clock-is;
+          limit = far;
+          stands = X .running;
+        }
+
+    pub entered-back : back l e ≡ ltb (tickAt l e) clock
+    unfolding back
+    entered-back = rw (X .clock-is, clock-calls l e)
+
+    pub back-entered :
+        e < length l → back l e ≡ true
+        → Entered (suc e) clock jobs released last owners key left n (sets out (8 * e) (reportBytes (refusal 17)))
+    unfolding calls outcome
+    back-entered h b =
+        record {
+          fitting = X .fitting;
+          clock-is = rw b (X .clock-is);
+          owned-by = X .owned-by;
+          running =
+              rw b
+              (record {
+                counts-are = X .running .counts-are;
+                owners-are = X .running .owners-are;
+                heads-are = X .running .heads-are;
+                book =
+                    book-refused p l out₀ e (X .owned-by) out (omega (arith, X .fitting .room)) (calls l e) (calls l e) 17 (rw b)
+                    (λ i w. w) (λ i w. w) (λ i d f w. w) (X .running .book);
+              });
+          recent = rw b (X .recent);
+        }
+
+    pub at-tick :
+        (jobs′ owners′ key′ left′ : List ℕ) (n′ : ℕ) (out′ : List ℕ) → back l e ≡ false → Reaches standing (tickAt l e - clock) jobs′ owners′ key′ left′ n′ out′
+        → AtTick e jobs′ released last owners′ key′ left′ n′ out′
+    unfolding until
+    at-tick jobs′ owners′ key′ left′ n′ out′ b R =
+        record {
+          fitting = X .fitting;
+          onward = b;
+          owned-by = R .owned-by;
+          running = rw (sym (X .clock-is)) (R .stands);
+          recent =
+              record {
+                released-are = X .recent .released-are ∙ sym (released-wait p (tickAt l e - history.clock (calls l e)) (calls l e));
+                last-are = X .recent .last-are ∙ sym (lasts-wait p (tickAt l e - history.clock (calls l e)) (calls l e));
+              };
+        }
+
+  module _ (e : ℕ) (jobs : List ℕ) (released : List Bool) (last owners key left : List ℕ) (n : ℕ) (out : List ℕ)
+      (X : AtTick e jobs released last owners key left n out) (less : e < length l) where
+    abbrev i : ℕ
+    i = loopAt l e
+
+    abbrev c : ℕ
+    c = demandAt l e
+
+    -- the machine that the release is handed to
+    abbrev pub machineAt : Machine
+    machineAt = state E (upTo e)
+
+    made : calls l (suc e) ≡ ask i c ∷ upTo e
+    unfolding calls
+    made = rw (X .onward)
+
+    pub outcome-is : outcome E l e ≡ answerOf s machineAt i c
+    unfolding outcome verdict
+    outcome-is = rw (X .onward)
+
+    clock-next : tickAt l e ≡ history.clock (calls l (suc e))
+    clock-next = rw made (sym (clock-entry l e (X .onward)))
+
+    module _ (m : ℕ) (met : answerOf s machineAt i c ≡ refused m) where
+      same-machine : state E (calls l (suc e)) ≡ machineAt
+      unfolding handedOf
+      same-machine = rw (made, met)
+
+      same-named : (j : ℕ) → named E (calls l (suc e)) j (history.clock (calls l (suc e))) ≡ named E (upTo e) j (history.clock (upTo e))
+      unfolding named
+      same-named j = rw made
+
+      pub refused-entered : Entered (suc e) (tickAt l e) jobs released last owners key left n (sets out (8 * e) (reportBytes (refusal m)))
+      refused-entered =
+          record {
+            fitting = X .fitting;
+            clock-is = clock-next;
+            owned-by = X .owned-by;
+            running =
+                record {
+                  counts-are = X .running .counts-are;
+                  owners-are = X .running .owners-are;
+                  heads-are = rw same-machine (X .running .heads-are);
+                  book =
+                      book-refused p l out₀ e (X .owned-by) out (omega (arith, X .fitting .room)) (upTo e) (calls l (suc e)) m (outcome-is ∙ met)
+                      (λ j w. rw (same-named j, same-machine) w)
+                      (λ j w. rw same-machine w)
+                      (λ j d f w. rw made (ends-ask E (upTo e) i c j d f w))
+                      (X .running .book);
+                };
+            recent =
+                record {
+                  released-are = rw same-machine (X .recent .released-are);
+                  last-are = rw same-machine (X .recent .last-are);
+                };
+          }
+
+    module _ (free : answerOf s machineAt i c ≡ taken) where
+      allowed : (i < s .count) × (length (machineAt .lane i .queue) < 16)
+      unfolding full
+      allowed =
+          let a = answer-allowed s machineAt i c free in
+          (a .0 .in-table, leb-false 16 (length (machineAt .lane i .queue)) (a .1))
+
+      low : i < 16
+      low = omega (arith, allowed .0, plan-limits p (X .fitting .accepted) .tasks-high)
+
+      -- as many owners as jobs
+      owners-jobs : length (X .owned-by i) ≡ length (machineAt .lane i .queue)
+      owners-jobs = owned-length E l i _ (X .owned-by i) _ (X .running .book .owned i (allowed .0))
+
+      pub held : row jobs i ≡ length (machineAt .lane i .queue)
+      held = rw (X .running .counts-are) (count-at (X .owned-by) i low ∙ owners-jobs)
+
+      next-machine : state E (calls l (suc e)) ≡ admitted i c machineAt
+      unfolding handedOf
+      next-machine = rw (made, free)
+
+      now : machineAt .clock ≡ tickAt l e
+      now = machine-clock s (upTo e) ∙ clock-entry l e (X .onward)
+
+      room : 8 * suc e ≤ length out₀
+      room = omega (arith, X .fitting .room)
+
+      entered :
+          (key′ left′ : List ℕ) (n′ : ℕ) → Heads s (admitted i c machineAt) (λ j. false) key′ left′ n′
+          → Entered (suc e) (tickAt l e) (set jobs i (row jobs i + 1)) (set released i true) (set last i (tickAt l e))
+          (set owners (16 * i + row jobs i) e) key′ left′ n′ out
+      entered key′ left′ n′ A =
+          record {
+            fitting = X .fitting;
+            clock-is = clock-next;
+            owned-by = ownersWith p l out₀ e (X .owned-by) out room i;
+            running =
+                record {
+                  counts-are = rw (X .running .counts-are) (counts-more (X .owned-by) i e low);
+                  owners-are =
+                      rw (X .running .owners-are)
+                      (joined-owners (X .owned-by) i (row jobs i) e (owners-jobs ∙ sym held) (omega (arith, held, allowed .1)) low);
+                  heads-are = rw next-machine A;
+                  book = book-taken p l out₀ e (X .owned-by) out room (outcome-is ∙ free) (X .running .book) (allowed .0);
+                };
+            recent =
+                record {
+                  released-are = rw (next-machine, X .recent .released-are) (sym (admitted-released i c machineAt));
+                  last-are =
+                      rw (next-machine, X .recent .last-are) (ap (set (lastIn machineAt) i) (sym now) ∙ sym (admitted-last i c machineAt));
+                };
+          }
+
+      -- another loop's head is the same
+      other-head : (j : ℕ) → eqb j i ≡ false → SameHead s machineAt (admitted i c machineAt) j
+      unfolding admitted waiting keyOf point
+      other-head j q = record { waits = rw q; key = rw q; work = rw q }
+
+      pub taken-behind :
+          row jobs i ≢ 0
+          → Entered (suc e) (tickAt l e) (set jobs i (row jobs i + 1)) (set released i true) (set last i (tickAt l e))
+          (set owners (16 * i + row jobs i) e) key left n out
+      unfolding admitted joined waiting keyOf point
+      taken-behind some =
+          entered key left n
+          (heads-same s machineAt (admitted i c machineAt) (λ j. false) key left n (λ j o. at j (eqb j i) refl) (λ j w. refl) (X .running .heads-are))
+        where
+          front : (q : List Job) (a : Job) → length q ≢ 0
+              → (pending (q ++ a ∷ []) ≡ pending q) × (headRelease (q ++ a ∷ []) ≡ headRelease q) × (headWork (q ++ a ∷ []) ≡ headWork q)
+          front [] a ne = absurd (ne refl)
+          front (job r w ∷ q) a ne = (refl, refl, refl)
+
+          at : (j : ℕ) (b : Bool) → eqb j i ≡ b → SameHead s machineAt (admitted i c machineAt) j
+          at j true q =
+              let f = front (machineAt .lane i .queue) (job (machineAt .clock) c) (λ z. some (held ∙ z)) in
+              rw (eqb-true j i q)
+              (record { waits = rw (eq-eqb i i refl) (f .0); key = rw (eq-eqb i i refl, f .1); work = rw (eq-eqb i i refl) (f .2) })
+          at j false q = other-head j q
+
+      module _ (empty : row jobs i ≡ 0) where
+        no-job : machineAt .lane i .queue ≡ []
+        no-job = go (machineAt .lane i .queue) (sym held ∙ empty)
+          where
+            go : (q : List Job) → length q ≡ 0 → q ≡ []
+            go [] z = refl
+            go (a ∷ q) z = absurd (omega arith)
+
+        -- all but the new head
+        others : Heads s (admitted i c machineAt) (λ j. eqb j i) key left n
+        unfolding waiting
+        others =
+            heads-same s machineAt (admitted i c machineAt) (λ j. eqb j i) key left n (λ j q. other-head j q)
+            (λ j w. apart j (eqb j i) refl w) (X .running .heads-are)
+          where
+            apart : (j : ℕ) (b : Bool) → eqb j i ≡ b → waiting machineAt j ≡ true → eqb j i ≡ false
+            apart j true q w = absurd (true≢false (sym w ∙ ap (λ (k : ℕ). pending (machineAt .lane k .queue)) (eqb-true j i q) ∙ ap pending no-job))
+            apart j false q w = q
+
+        waits-low : (j : ℕ) → waiting (admitted i c machineAt) j ≡ true → j < 16
+        unfolding waiting opened
+        waits-low j w = go (ltb j (s .count)) refl
+          where
+            go : (b : Bool) → ltb j (s .count) ≡ b → j < 16
+            go true q = omega (arith, ltb-true j (s .count) q, plan-limits p (X .fitting .accepted) .tasks-high)
+            go false q =
+                absurd
+                (true≢false
+                (sym w
+                ∙ ap (λ (a : Machine). pending (a .lane j .queue)) (sym next-machine)
+                ∙ ap (λ (a : Lane). pending (a .queue)) (reached-sound s (reached s (calls l (suc e))) .unused j (ltb-false j (s .count) q))))
+
+        pub taken-place : n < 16
+        taken-place = room-for s (admitted i c machineAt) (λ j. eqb j i) key left n waits-low others i low (eq-eqb i i refl)
+
+        pub taken-rises : (a b : ℕ) → a < b → b < n → row key a < row key b
+        taken-rises = X .running .heads-are .rises
+
+        new-key : keyOf s (admitted i c machineAt) i ≡ 16 * (tickAt l e + s .task i .offset) + i
+        unfolding admitted joined keyOf point
+        new-key = rw (eq-eqb i i refl, no-job, now)
+
+        new-work : headWork (admitted i c machineAt .lane i .queue) ≡ c
+        unfolding admitted joined
+        new-work = rw (eq-eqb i i refl, no-job)
+
+        new-waits : waiting (admitted i c machineAt) i ≡ true
+        unfolding admitted joined waiting
+        new-waits = rw (eq-eqb i i refl, no-job)
+
+        pub taken-first :
+            (key′ left′ : List ℕ) → Inserted key left n (16 * (tickAt l e + s .task i .offset) + i) c key′ left′
+            → Entered (suc e) (tickAt l e) (set jobs i (row jobs i + 1)) (set released i true) (set last i (tickAt l e))
+            (set owners (16 * i + row jobs i) e) key′ left′ (n + 1) out
+        taken-first key′ left′ I =
+            entered key′ left′ (n + 1)
+            (subst (λ f. Heads s (admitted i c machineAt) f key′ left′ (n + 1)) (fun-ext (λ j. nobody (eqb j i)))
+            (inserted s (admitted i c machineAt) (λ j. eqb j i) key left n i others waits-low new-waits (eq-eqb i i refl) key′ left′
+            (subst (λ v. Inserted key left n v (headWork (admitted i c machineAt .lane i .queue)) key′ left′) (sym new-key)
+            (subst (λ w. Inserted key left n (16 * (tickAt l e + s .task i .offset) + i) w key′ left′) (sym new-work) I))))
+          where
+            nobody : (b : Bool) → b && not b ≡ false
+            nobody true = refl
+            nobody false = refl

@@ -1,0 +1,208 @@
+-- An entry's release handed over at its tick, by the arrays.
+--     Columns p …            a plan's separations, budgets and offsets, in arrays of their own
+--     Handing p l out₀ e …   the run has come to entry e's tick, with the entry's three numbers and the plan's columns
+--     Handed                 what the code that hands it over gives: the entry is entered, and whether it was taken
+--     numberOf               an answer's number
+--     answer-20              a loop that isn't in the table
+--     answer-rest            one that is: the first of 21, 22 and 23, by the arrays
+--     hand-refused, hand-behind, hand-first      the ends of the code: it is refused; its job stands behind others, or is its loop's head
+use Prim.Native.Nat.{ℕ, zero, suc, _+_, _*_, _≤_, _<_}
+use mathlib.Core.Bool.{Bool, true, false, cond}
+use mathlib.Core.Path.{_≡_, refl, sym, ap, subst, _∙_}
+use mathlib.Core.Logic.{_≢_}
+use mathlib.Core.Option.{Option, none, some}
+use mathlib.Core.List.{List, [], _∷_}
+use native.Mathlib.Numerals.{add-one}
+use native.Mathlib.Omega.{arith}
+use lib.ListN.{length, getD, set}
+use lib.Seq.{sets}
+use lib.Dec.{leb}
+use borrow.Author.Tests.{le-leb, lt-leb}
+use Rattle.tasks.specs.declared.Task.{Task}
+use Rattle.tasks.specs.declared.Plan.{Plan}
+use Rattle.tasks.specs.declared.Answer.{Answer}
+use Rattle.tasks.specs.declared.Answer.the-variants.{Accepted, Refused}
+use Rattle.tasks.specs.TaskSet.{TaskSet, row}
+use Rattle.tasks.specs.Content.{taskOf, contentOf}
+use Rattle.tasks.specs.Tests.{refuse, firstMet, outside}
+use Rattle.machine.specs.Machine.{Machine, within, tooSoon, full}
+use Rattle.state.specs.State.{flagOf, tickOf, lastOf}
+use Rattle.state.specs.ViewLaws.{flag-in, row-last}
+use Rattle.state.specs.FitLaws.{in-task, in-count, plan-limits}
+use Rattle.state.specs.CallLaws.{admission}
+use Rattle.history.specs.Engine.{Outcome, taken, refused, isTaken, firstOf, state}
+use Rattle.history.specs.Log.{Entry, tickAt, loopAt, demandAt, outcome}
+use Rattle.history.specs.LogLaws.{clock-entry}
+use Rattle.history.specs.Report.{refusal}
+use Rattle.history.specs.OnMachine.{answerOf, machineEngine}
+use Rattle.history.specs.Balance.{machine-clock}
+use Rattle.history.specs.Owners.{owned-length}
+use Rattle.heads.specs.Order.{Inserted}
+use Rattle.logs.specs.LogBytes.{reportBytes}
+use Rattle.demand.specs.Delivered.{outcomeOf}
+use Rattle.running.specs.OwnerLaws.{count-at}
+use Rattle.running.specs.Entered.{Entered, AtTick, upTo, machineAt, outcome-is, refused-entered, taken-behind, taken-place, taken-rises, taken-first}
+
+pub record Columns (p : Plan) (tasks : ℕ) (separations budgets offsets : List ℕ) : Type 0 where
+  pub tasks-are : tasks ≡ p .tasks
+  pub separations-are : (i : ℕ) → i < tasks → row separations i ≡ taskOf (p .task) i .separation
+  pub budgets-are : (i : ℕ) → i < tasks → row budgets i ≡ taskOf (p .task) i .budget
+  pub offsets-are : (i : ℕ) → i < tasks → row offsets i ≡ taskOf (p .task) i .offset
+
+pub record Handing (p : Plan) (l : List Entry) (out₀ : List ℕ) (e tick task demand tasks : ℕ) (separations budgets offsets jobs : List ℕ)
+    (released : List Bool) (last owners key left : List ℕ) (n : ℕ) (out : List ℕ) : Type 0 where
+  pub at : AtTick p l out₀ e jobs released last owners key left n out
+  pub less : e < length l
+  pub columns : Columns p tasks separations budgets offsets
+  pub tick-is : tick ≡ tickAt l e
+  pub task-is : task ≡ loopAt l e
+  pub demand-is : demand ≡ demandAt l e
+
+-- an answer's number, 0 where it is no refusal
+abbrev pub numberOf : Answer → ℕ
+numberOf Accepted = 0
+numberOf (Refused k i) = k
+
+-- 1 where entry e is taken, else 0
+abbrev pub takes : Plan → List Entry → ℕ → ℕ
+takes p l e = cond (isTaken (outcome (machineEngine (contentOf p .tasks)) l e)) 1 0
+
+abbrev pub Handed :
+    ℕ → ℕ → ℕ → ℕ → ℕ → List ℕ → List ℕ → List ℕ → List ℕ → List Bool → List ℕ → List ℕ → List ℕ → List ℕ → ℕ → List ℕ → ℕ → List ℕ → List Bool
+    → List ℕ → List ℕ → List ℕ → List ℕ → ℕ → List ℕ → Type 0
+Handed e tick task demand tasks separations budgets offsets jobs released last owners key left n out r jobs′ released′ last′ owners′ key′ left′ n′ out′ =
+    (p : Plan) (l : List Entry) (out₀ : List ℕ)
+    → Handing p l out₀ e tick task demand tasks separations budgets offsets jobs released last owners key left n out
+    → Entered p l out₀ (e + 1) tick jobs′ released′ last′ owners′ key′ left′ n′ out′ × (r ≡ takes p l e)
+
+-- a list of tests, in both forms
+first-outcome :
+    (a b c : Bool) → outcomeOf (firstMet (refuse 21 a ∷ refuse 22 b ∷ refuse 23 c ∷ [])) ≡ firstOf ((21, a) ∷ (22, b) ∷ (23, c) ∷ [])
+unfolding firstMet
+first-outcome true b c = refl
+first-outcome false true c = refl
+first-outcome false false true = refl
+first-outcome false false false = refl
+
+last-back : (o : Option ℕ) → lastOf (flagOf o) (tickOf o) ≡ o
+last-back none = refl
+last-back (some t) = refl
+
+module _ (p : Plan) (l : List Entry) (out₀ : List ℕ) (e tick task demand tasks : ℕ) (separations budgets offsets jobs : List ℕ)
+    (released : List Bool) (last owners key left : List ℕ) (n : ℕ) (out : List ℕ)
+    (H : Handing p l out₀ e tick task demand tasks separations budgets offsets jobs released last owners key left n out) where
+  abbrev s : TaskSet
+  s = contentOf p .tasks
+
+  abbrev M : Machine
+  M = machineAt p l out₀ e jobs released last owners key left n out (H .at) (H .less)
+
+  pub hand-room : 8 * e + 8 ≤ length out
+  hand-room = omega (arith, H .less, H .at .fitting .room, H .at .running .book .long)
+
+  pub hand-small : e < 65536
+  hand-small = omega (arith, H .less, H .at .fitting .few)
+
+  pub answer-20 : tasks ≤ task → answerOf s M (loopAt l e) (demandAt l e) ≡ refused 20
+  unfolding answerOf
+  answer-20 h =
+      rw (le-leb (s .count) (loopAt l e) (omega (arith, H .columns .tasks-are, in-count p, H .task-is)))
+
+  module _ (h : task < tasks) where
+    pub hand-low : task < 16
+    hand-low = omega (arith, H .columns .tasks-are, in-count p, plan-limits p (H .at .fitting .accepted) .tasks-high)
+
+    now : tick ≡ M .clock
+    now = H .tick-is ∙ sym (machine-clock s (upTo p l out₀ e) ∙ clock-entry l e (H .at .onward))
+
+    -- as many jobs as owners
+    count-here : row jobs task ≡ length (M .lane task .queue)
+    count-here =
+        rw (H .at .running .counts-are)
+        (count-at (H .at .owned-by) task hand-low
+        ∙ owned-length (machineEngine s) l task _ (H .at .owned-by task) _
+        (H .at .running .book .owned task (omega (arith, H .columns .tasks-are, in-count p))))
+
+    pub answer-rest :
+        outcomeOf (admission (row separations task) (row budgets task) tick demand (row jobs task) (getD released task false) (row last task))
+        ≡ answerOf s M (loopAt l e) (demandAt l e)
+    unfolding admission answerOf tooSoon full
+    answer-rest =
+        rw (
+          lt-leb (s .count) (loopAt l e) (omega (arith, H .columns .tasks-are, in-count p, H .task-is)),
+          H .at .recent .released-are,
+          H .at .recent .last-are,
+          count-here,
+          flag-in M task hand-low,
+          row-last M task hand-low,
+          last-back (M .lane task .last),
+          H .columns .separations-are task h,
+          H .columns .budgets-are task h,
+          now,
+          sym (H .task-is),
+          sym (H .demand-is),
+          in-task p task (omega (arith, H .columns .tasks-are)),
+        )
+        (first-outcome (outside 1 (taskOf (p .task) task .budget) demand) (within (taskOf (p .task) task .separation) (M .clock) (M .lane task .last)) (leb 16 (length (M .lane task .queue))))
+
+    pub hand-answer :
+        (a : Answer)
+        → a ≡ admission (row separations task) (row budgets task) tick demand (row jobs task) (getD released task false) (row last task)
+        → outcomeOf a ≡ answerOf s M (loopAt l e) (demandAt l e)
+    hand-answer a q = ap outcomeOf q ∙ answer-rest
+
+  pub hand-refused :
+      (m : ℕ) (out′ : List ℕ) → answerOf s M (loopAt l e) (demandAt l e) ≡ refused m → out′ ≡ sets out (8 * e) (reportBytes (refusal m))
+      → Entered p l out₀ (e + 1) tick jobs released last owners key left n out′ × (0 ≡ takes p l e)
+  hand-refused m out′ met q = (
+    rw (add-one e, q, H .tick-is)
+        (refused-entered p l out₀ e jobs released last owners key left n out (H .at) (H .less) m met),
+    rw (outcome-is p l out₀ e jobs released last owners key left n out (H .at) (H .less), met),
+  )
+
+  module _ (free : answerOf s M (loopAt l e) (demandAt l e) ≡ taken) where
+    took : 1 ≡ takes p l e
+    took = rw (outcome-is p l out₀ e jobs released last owners key left n out (H .at) (H .less), free)
+
+    -- the job stands behind others of its loop
+    pub hand-behind :
+        row jobs task ≢ 0
+        → Entered p l out₀ (e + 1) tick (set jobs task (row jobs task + 1)) (set released task true) (set last task tick)
+        (set owners (16 * task + row jobs task) e) key left n out
+        × (1 ≡ takes p l e)
+    hand-behind ne =
+        (rw (add-one e, H .tick-is, H .task-is)
+        (taken-behind p l out₀ e jobs released last owners key left n out (H .at) (H .less) free (λ z. ne (ap (row jobs) (H .task-is) ∙ z))), took)
+
+    module _ (empty : row jobs task ≡ 0) where
+      empty-here : row jobs (loopAt l e) ≡ 0
+      empty-here = ap (row jobs) (sym (H .task-is)) ∙ empty
+
+      pub hand-place : n < 16
+      hand-place = taken-place p l out₀ e jobs released last owners key left n out (H .at) (H .less) free empty-here
+
+      pub hand-rises : (a b : ℕ) → a < b → b < n → row key a < row key b
+      hand-rises = taken-rises p l out₀ e jobs released last owners key left n out (H .at) (H .less) free empty-here
+
+      -- it is its loop's head
+      pub hand-first :
+          (key′ left′ : List ℕ) → task < tasks → Inserted key left n (16 * (tick + row offsets task) + task) demand key′ left′
+          → Entered p l out₀ (e + 1) tick (set jobs task (row jobs task + 1)) (set released task true) (set last task tick)
+          (set owners (16 * task + row jobs task) e) key′ left′ (n + 1) out
+          × (1 ≡ takes p l e)
+      hand-first key′ left′ h I =
+          (rw (add-one e, H .tick-is, H .task-is)
+          (taken-first p l out₀ e jobs released last owners key left n out (H .at) (H .less) free empty-here key′ left′ I′), took)
+        where
+          offset : row offsets task ≡ s .task (loopAt l e) .offset
+          offset =
+              let k : task < p .tasks = omega (arith, H .columns .tasks-are) in
+              H .columns .offsets-are task h ∙ sym (ap (λ (t : Task). t .offset) (in-task p task k)) ∙ ap (λ (i : ℕ). s .task i .offset) (H .task-is)
+
+          same : 16 * (tick + row offsets task) + task ≡ 16 * (tickAt l e + s .task (loopAt l e) .offset) + loopAt l e
+          same = omega (arith, H .tick-is, H .task-is, offset)
+
+          I′ : Inserted key left n (16 * (tickAt l e + s .task (loopAt l e) .offset) + loopAt l e) (demandAt l e) key′ left′
+          I′ =
+              subst (λ v. Inserted key left n v (demandAt l e) key′ left′) same
+              (subst (λ w. Inserted key left n (16 * (tick + row offsets task) + task) w key′ left′) (H .demand-is) I)
