@@ -1,7 +1,2 @@
-// The run of a release log. Document 01, "Release logs".
-mod entry;
+// wip
 mod onward;
-mod run;
-
-pub use run::Ran;
-pub use run::run_log;

@@ -1,92 +1,60 @@
-// From one clock to a later one, by leaps: "the choice depends only on the heads and their priority points", so as long as no running job
-// finishes and nothing is released every tick is the same tick.
-use choice::choose;
-use choice::points;
-use leap::least;
-use leap::lower;
-use leap::note;
-use service::serve;
-ghost use Prim.Native.Nat.{_≤_, _<_};
-ghost use Rattle.running.specs.Leap.{Standing, Ready, Leapt, Advanced};
+// From one clock to a later one, by leaps: who runs depends only on the heads and their priority points, so as long as no running job finishes
+// and nothing is released every tick is the same tick.
+use heads::insert;
+use heads::least;
+use heads::settle;
+use logs::read::release_at;
+use logs::report::put_finished;
+use service::move_down;
+ghost use mathlib.Core.Path.{_≡_};
 
-// One leap towards clock `to`: so many ticks as pass until a running job finishes, or until `to`. Answers the clock after it.
-fn leap(
-    clock: u32,
-    to: u32,
-    cores: usize,
-    tasks: usize,
-    offsets: &[u32; 16],
-    jobs: &mut [usize; 16],
-    remaining: &mut [u32; 256],
-    release: &mut [u32; 256],
-    owners: &mut [u32; 256],
-    out: &mut [u8],
-) -> u32
-    requires { ⌜
-        ((x : Standing) × Ready x cores tasks (now offsets) clock to (now jobs) (now remaining) (now release) (now owners) (now out))
-        × (clock < to)
-        ⌝ }
-    ensures { λ r. ⌜
-        Leapt cores tasks (now (offsets .entry)) clock to
-        (now (jobs .entry)) (now (remaining .entry)) (now (release .entry)) (now (owners .entry)) (now (out .entry)) r
-        (now (jobs .exit)) (now (remaining .exit)) (now (release .exit)) (now (owners .exit)) (now (out .exit))
-        ⌝ }
-{
-    let mut left = points(jobs, release, offsets, tasks);
-    choose(&mut left, cores, tasks);
-    let ticks = least(&left, jobs, remaining, tasks, to - clock);
-    lower(&left, jobs, remaining, tasks, ticks - 1);
-    let finish = clock + ticks;
-    let mut responses = [0u32; 16];
-    serve(
-        finish,
-        &left,
-        jobs,
-        remaining,
-        release,
-        &mut responses,
-        tasks,
-    );
-    note(finish, &responses, owners, out, tasks);
-    finish
+
+ghost use Prim.Native.Nat.{ℕ, _+_, _≤_, _<_};
+ghost use lib.ListN.{length};
+
+
+ghost use Rattle.running.specs.FinishCode.{Finishing, Finished};
+
+// A clock, and how many tasks have a job that may run.
+pub struct Stop {
+    pub clock: u32,
+    pub heads: usize,
 }
 
-// "stepped up to an entry's tick where that is later than its clock"
-pub fn advance(
-    from: u32,
-    to: u32,
-    cores: usize,
-    tasks: usize,
+// Task `i` finished a job at clock `now`: its entry gets its report, and the task's next job, if any, takes its place among the heads. Answers
+// how many heads there are then.
+fn finish(
+    i: usize,
+    clock: u32,
+    log: &[u8],
     offsets: &[u32; 16],
     jobs: &mut [usize; 16],
-    remaining: &mut [u32; 256],
-    release: &mut [u32; 256],
     owners: &mut [u32; 256],
+    key: &mut [u64; 16],
+    left: &mut [u32; 16],
+    heads: usize,
     out: &mut [u8],
-)
+) -> usize
     requires { ⌜
-        ((x : Standing) × Ready x cores tasks (now offsets) from to (now jobs) (now remaining) (now release) (now owners) (now out))
-        × (from ≤ to)
+        (length (now key) ≡ 16) × (length (now left) ≡ 16)
+        × Finishing i clock (now log) (now offsets) (now jobs) (now owners) (now key) (now left) heads (now out)
         ⌝ }
     ensures { λ r. ⌜
-        Advanced cores tasks (now (offsets .entry)) from to
-        (now (jobs .entry)) (now (remaining .entry)) (now (release .entry)) (now (owners .entry)) (now (out .entry)) to
-        (now (jobs .exit)) (now (remaining .exit)) (now (release .exit)) (now (owners .exit)) (now (out .exit))
+        (length (now (key .exit)) ≡ 16) × (length (now (left .exit)) ≡ 16)
+        × Finished i clock (now (log .entry)) (now (offsets .entry))
+        (now (jobs .entry)) (now (owners .entry)) (now (key .entry)) (now (left .entry)) heads (now (out .entry))
+        (now (jobs .exit)) (now (owners .exit)) (now (key .exit)) (now (left .exit)) r (now (out .exit))
         ⌝ }
 {
-    let mut clock = from;
-    while clock < to {
-        clock = leap(
-            clock,
-            to,
-            cores,
-            tasks,
-            offsets,
-            jobs,
-            remaining,
-            release,
-            owners,
-            out,
-        );
+    put_finished(out, owners[16 * i] as usize, clock);
+    move_down(owners, i);
+    let more = jobs[i] - 1;
+    jobs[i] = more;
+    if more == 0 {
+        return heads;
     }
+    let next = release_at(log, owners[16 * i] as usize);
+    let point = next.tick as u64 + offsets[i] as u64;
+    insert(key, left, heads, 16 * point + i as u64, next.demand);
+    heads + 1
 }

@@ -1,7 +1,7 @@
 -- A loop that finishes in the last tick of a leap, by its code.
 --     next-whole        its queue afterwards is that of the owners behind the first
---     finish-room       the first owner's report has room
---     FinishReady       what its code needs; Finished: what it gives
+--     finish-room, finish-low, finish-offset, finish-long, finish-place      what its code needs
+--     finish-none, finish-more      what it gives: the loop has no job left, or its next job is a head
 use Prim.Native.Nat.{ℕ, zero, suc, _+_, _-_, _*_, _≤_, _<_}
 use mathlib.Core.Bool.{Bool, true, false, cond, not, _&&_, _||_, true≢false, false≢true, and-eq-true-iff}
 use mathlib.Core.Path.{_≡_, refl, sym, ap, subst, fun-ext, _∙_}
@@ -37,7 +37,7 @@ use Rattle.heads.specs.Order.{keyOf, headWork, Heads, Inserted}
 use Rattle.heads.specs.HeadLaws.{without, inserted, left-out}
 use Rattle.heads.specs.RoomLaws.{room-for}
 use Rattle.running.specs.Running.{ownersIn, countsIn, Whole, Rooted, Book}
-use Rattle.running.specs.OwnerLaws.{owner-at, moved-owners, count-at, counts-less}
+use Rattle.running.specs.OwnerLaws.{owner-at, moved-owners, count-at, less-one, counts-less}
 use Rattle.running.specs.BookLaws.{book-few, ended, ownersNow, andOne, Stage, ended-known, some-owner, first-early, stage-more}
 use Rattle.running.specs.Leap.{Standing, Frame, Turning}
 
@@ -137,6 +137,20 @@ module _ (x : Standing) (g : List Call) (gone : ℕ → Bool) (now : ℕ) (jobs 
         some : (os : List ℕ) → os ≡ first ∷ drop 1 (O i) → 1 ≤ length os
         some os e = rw e (omega arith)
 
+    offset-is : row offsets i ≡ s .task i .offset
+    offset-is =
+        let h : i < p .tasks = omega (arith, known, in-count p) in
+        F .offsets-are i h ∙ sym (ap (λ (t : Task). t .offset) (in-task p i h))
+
+    pub finish-offset : row offsets i ≤ 100000
+    finish-offset =
+        omega (
+          arith,
+          offset-is,
+          plan-limits p (F .accepted) .offset-high i known,
+          plan-limits p (F .accepted) .separation-high i known,
+        )
+
     -- with i's first owner taken off
     abbrev then-owners : ℕ → List ℕ
     then-owners = ownersNow p l (x .lent) O (andOne p l (x .lent) gone i)
@@ -174,8 +188,8 @@ module _ (x : Standing) (g : List Call) (gone : ℕ → Bool) (now : ℕ) (jobs 
     then-here : then-owners i ≡ drop 1 (O i)
     then-here = rw (new, eq-eqb i i refl)
 
-    count-then : (jobs′ : List ℕ) → jobs′ ≡ countsIn then-owners → row jobs′ i ≡ length (drop 1 (O i))
-    count-then jobs′ q = rw q (count-at then-owners i low ∙ ap length then-here)
+    count-then : row jobs i - 1 ≡ length (drop 1 (O i))
+    count-then = omega (arith, count-now, less-one (O i))
 
     abbrev second : ℕ
     second = getD (drop 1 (O i)) 0 0
@@ -220,19 +234,19 @@ module _ (x : Standing) (g : List Call) (gone : ℕ → Bool) (now : ℕ) (jobs 
           }
 
       -- no job is left
-      pub finish-none : row jobs′ i ≡ 0 → Turning x g (andOne p l (x .lent) gone i) now jobs′ owners′ key left n out′
+      pub finish-none : row jobs i - 1 ≡ 0 → Turning x g (andOne p l (x .lent) gone i) now jobs′ owners′ key left n out′
       unfolding waiting
       finish-none z =
           turned key left n
           (left-out s N (λ j. over j && not (gone j)) key left n i (X .heads-are)
-          (empty (drop 1 (O i)) (sym (count-then jobs′ (finish-counts jobs′ jq)) ∙ z) (N .lane i .queue) next-whole))
+          (empty (drop 1 (O i)) (sym count-then ∙ z) (N .lane i .queue) next-whole))
         where
           empty : (os : List ℕ) → length os ≡ 0 → (q : List Job) → Whole l os q → pending q ≡ false
           empty [] e [] w = refl
           empty [] e (j ∷ q) w = absurd w
           empty (o ∷ os) e q w = absurd (omega arith)
 
-      module _ (more : row jobs′ i ≢ 0) where
+      module _ (more : row jobs i - 1 ≢ 0) where
         -- the next job is as it was released
         record Next : Type 0 where
           waits : waiting N i ≡ true
@@ -245,7 +259,7 @@ module _ (x : Standing) (g : List Call) (gone : ℕ → Bool) (now : ℕ) (jobs 
         next = go (drop 1 (O i)) refl (N .lane i .queue) refl
           where
             go : (os : List ℕ) → drop 1 (O i) ≡ os → (q : List Job) → N .lane i .queue ≡ q → Next
-            go [] z q y = absurd (more (count-then jobs′ (finish-counts jobs′ jq) ∙ ap length z))
+            go [] z q y = absurd (more (count-then ∙ ap length z))
             go (o ∷ os) z [] y = absurd (rw (z, y) at next-whole)
             go (o ∷ os) z (job a w ∷ q) y =
                 let v = rw (z, y) at next-whole in
@@ -282,13 +296,8 @@ module _ (x : Standing) (g : List Call) (gone : ℕ → Bool) (now : ℕ) (jobs 
             entry : getD l second noEntry ≡ entryIn bytes (row owners′ (16 * i))
             entry = rw (F .log-is, at) (entry-at bytes second counted)
 
-            offset : row offsets i ≡ s .task i .offset
-            offset =
-                let h : i < p .tasks = omega (arith, known, in-count p) in
-                F .offsets-are i h ∙ sym (ap (λ (t : Task). t .offset) (in-task p i h))
-
             key-same : keyOf s N i ≡ 16 * (r .tick + row offsets i) + i
-            key-same = next .key-is ∙ rw (R .tick, offset) (ap (λ (y : Entry). 16 * (y .tick + s .task i .offset) + i) entry)
+            key-same = next .key-is ∙ rw (R .tick, offset-is) (ap (λ (y : Entry). 16 * (y .tick + s .task i .offset) + i) entry)
 
             work-same : headWork (N .lane i .queue) ≡ r .demand
             work-same = next .work-is ∙ ap (λ (y : Entry). y .demand) entry ∙ sym (R .demand)

@@ -6,6 +6,7 @@ pub mod BookLaws
 pub mod EnterLaws
 pub mod Leap
 pub mod FinishLaws
+pub mod FinishCode
 pub mod LeapLaws
 pub mod ReadyLaws
 pub mod Entered

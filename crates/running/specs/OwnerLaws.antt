@@ -110,7 +110,7 @@ pub count-at : (O : ℕ → List ℕ) (i : ℕ) → i < 16 → row (countsIn O) 
 unfolding countsIn row
 count-at O i h = getD-tab (λ j. length (O j)) 16 i 0 h
 
-less-one : (os : List ℕ) → length (drop 1 os) ≡ length os - 1
+pub less-one : (os : List ℕ) → length (drop 1 os) ≡ length os - 1
 less-one [] = refl
 less-one (o ∷ os) = omega arith
 

@@ -1,2 +1,0 @@
-pub mod Ran
-pub mod RanLaws
