@@ -287,9 +287,10 @@ heads-same s M N out key left n same inside A =
       sound = λ a h.
           let x = A .sound a h in
           let o = inside (x .0) (x .1 .waits) in
-          let t = same (x .0) o in
-          (x .0,
-          record { waits = t .waits ∙ x .1 .waits; inside = o; key-is = x .1 .key-is ∙ sym (t .key); work-is = x .1 .work-is ∙ sym (t .work) });
+          let t = same (x .0) o in (
+            x .0,
+            record { waits = t .waits ∙ x .1 .waits; inside = o; key-is = x .1 .key-is ∙ sym (t .key); work-is = x .1 .work-is ∙ sym (t .work) },
+          );
       complete = λ j w o.
           let t = same j o in
           let r = A .complete j (sym (t .waits) ∙ w) refl in

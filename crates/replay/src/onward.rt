@@ -7,13 +7,11 @@ use logs::read::release_at;
 use logs::report::put_finished;
 use service::move_down;
 ghost use mathlib.Core.Path.{_≡_};
-
-
-ghost use Prim.Native.Nat.{ℕ, _+_, _≤_, _<_};
+ghost use Prim.Native.Nat.{_≤_, _<_, min};
 ghost use lib.ListN.{length};
-
-
+ghost use Rattle.running.specs.Leap.{Standing, Ready, Leapt, Advanced};
 ghost use Rattle.running.specs.FinishCode.{Finishing, Finished};
+ghost use Rattle.running.specs.AllCode.{AllFinishing, AllFinished};
 
 // A clock, and how many tasks have a job that may run.
 pub struct Stop {
@@ -57,4 +55,150 @@ fn finish(
     let point = next.tick as u64 + offsets[i] as u64;
     insert(key, left, heads, 16 * point + i as u64, next.demand);
     heads + 1
+}
+
+// The tasks in the first `finished` places of `done` finished a job at `clock`. Answers how many heads there are then.
+fn finish_all(
+    done: &[usize; 16],
+    finished: usize,
+    clock: u32,
+    log: &[u8],
+    offsets: &[u32; 16],
+    jobs: &mut [usize; 16],
+    owners: &mut [u32; 256],
+    key: &mut [u64; 16],
+    left: &mut [u32; 16],
+    heads: usize,
+    out: &mut [u8],
+) -> usize
+    requires { ⌜
+        (finished ≤ 16) × (length (now key) ≡ 16) × (length (now left) ≡ 16)
+        × AllFinishing (now done) finished clock (now log) (now offsets) (now jobs) (now owners) (now key) (now left) heads (now out)
+        ⌝ }
+    ensures { λ r. ⌜
+        (length (now (key .exit)) ≡ 16) × (length (now (left .exit)) ≡ 16)
+        × AllFinished (now (done .entry)) finished clock (now (log .entry)) (now (offsets .entry))
+        (now (jobs .entry)) (now (owners .entry)) (now (key .entry)) (now (left .entry)) heads (now (out .entry)) finished
+        (now (jobs .exit)) (now (owners .exit)) (now (key .exit)) (now (left .exit)) r (now (out .exit))
+        ⌝ }
+{
+    let mut count = heads;
+    let mut a = 0;
+    while a < finished {
+        count = finish(
+            done[a],
+            clock,
+            log,
+            offsets,
+            jobs,
+            owners,
+            key,
+            left,
+            count,
+            out,
+        );
+        a += 1;
+    }
+    count
+}
+
+fn fewer(x: usize, y: usize) -> usize
+    ensures { λ r. ⌜ r ≡ min x y ⌝ }
+{
+    if x < y {
+        return x;
+    }
+    y
+}
+
+// One leap towards clock `to`: so many ticks as pass until a running job finishes, or until `to`.
+fn leap(
+    clock: u32,
+    to: u32,
+    cores: usize,
+    log: &[u8],
+    offsets: &[u32; 16],
+    jobs: &mut [usize; 16],
+    owners: &mut [u32; 256],
+    key: &mut [u64; 16],
+    left: &mut [u32; 16],
+    heads: usize,
+    out: &mut [u8],
+) -> Stop
+    requires { ⌜
+        (length (now key) ≡ 16) × (length (now left) ≡ 16) × (clock < to)
+        × ((x : Standing) × Ready x (now log) cores (now offsets) clock to (now jobs) (now owners) (now key) (now left) heads (now out))
+        ⌝ }
+    ensures { λ r. ⌜
+        (length (now (key .exit)) ≡ 16) × (length (now (left .exit)) ≡ 16)
+        × Leapt (now (log .entry)) cores (now (offsets .entry)) clock to
+        (now (jobs .entry)) (now (owners .entry)) (now (key .entry)) (now (left .entry)) heads (now (out .entry)) (r .clock)
+        (now (jobs .exit)) (now (owners .exit)) (now (key .exit)) (now (left .exit)) (r .heads) (now (out .exit))
+        ⌝ }
+{
+    let ticks = least(left, fewer(cores, heads), to - clock);
+    let clock = clock + ticks;
+    let mut done = [0usize; 16];
+    let settled = settle(key, left, &mut done, heads, cores, ticks);
+    let heads = finish_all(
+        &done,
+        settled.finished,
+        clock,
+        log,
+        offsets,
+        jobs,
+        owners,
+        key,
+        left,
+        settled.heads,
+        out,
+    );
+    Stop { clock, heads }
+}
+
+// "stepped up to an entry's tick where that is later than its clock". Answers how many heads there are then.
+pub fn advance(
+    from: u32,
+    to: u32,
+    cores: usize,
+    log: &[u8],
+    offsets: &[u32; 16],
+    jobs: &mut [usize; 16],
+    owners: &mut [u32; 256],
+    key: &mut [u64; 16],
+    left: &mut [u32; 16],
+    heads: usize,
+    out: &mut [u8],
+) -> usize
+    requires { ⌜
+        (length (now key) ≡ 16) × (length (now left) ≡ 16) × (from ≤ to)
+        × ((x : Standing) × Ready x (now log) cores (now offsets) from to (now jobs) (now owners) (now key) (now left) heads (now out))
+        ⌝ }
+    ensures { λ r. ⌜
+        (length (now (key .exit)) ≡ 16) × (length (now (left .exit)) ≡ 16)
+        × Advanced (now (log .entry)) cores (now (offsets .entry)) from to
+        (now (jobs .entry)) (now (owners .entry)) (now (key .entry)) (now (left .entry)) heads (now (out .entry)) to
+        (now (jobs .exit)) (now (owners .exit)) (now (key .exit)) (now (left .exit)) r (now (out .exit))
+        ⌝ }
+{
+    let mut clock = from;
+    let mut count = heads;
+    while clock < to {
+        let stop = leap(
+            clock,
+            to,
+            cores,
+            log,
+            offsets,
+            jobs,
+            owners,
+            key,
+            left,
+            count,
+            out,
+        );
+        clock = stop.clock;
+        count = stop.heads;
+    }
+    count
 }

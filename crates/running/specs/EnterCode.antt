@@ -85,12 +85,13 @@ module _ (p : Plan) (out₀ log : List ℕ) (e clock cores tasks : ℕ) (separat
         (rw (add-one e, q) (back-entered p l out₀ e clock jobs released last owners key left n out (X .entered) (X .less) b), rw b)
 
     pub enter-ready : (x : Standing) × Ready x log cores offsets clock (r .tick) jobs owners key left n out
-    enter-ready =
-        (standing p l out₀ e clock jobs released last owners key left n out (X .entered),
-        rw (X .cores-are)
-        (entered-ready p l out₀ e clock jobs released last owners key left n out (X .entered) log offsets (r .tick) refl (X .long)
-        (λ i h. X .columns .offsets-are i (omega (arith, X .columns .tasks-are)))
-        (omega (arith, X .less)) (omega (arith, enter-tick, X .entered .fitting .ticks e (X .less)))))
+    enter-ready = (
+      standing p l out₀ e clock jobs released last owners key left n out (X .entered),
+      rw (X .cores-are)
+          (entered-ready p l out₀ e clock jobs released last owners key left n out (X .entered) log offsets (r .tick) refl (X .long)
+          (λ i h. X .columns .offsets-are i (omega (arith, X .columns .tasks-are)))
+          (omega (arith, X .less)) (omega (arith, enter-tick, X .entered .fitting .ticks e (X .less)))),
+    )
 
     pub enter-handing :
         (jobs′ owners′ key′ left′ : List ℕ) (n′ : ℕ) (out′ : List ℕ) → clock ≤ r .tick

@@ -68,11 +68,12 @@ module _ (i now : ℕ) (bytes offsets jobs owners key left : List ℕ) (n : ℕ)
     module _ (more : row jobs i - 1 ≢ 0) where
       pub finishing-next : Finishing i now bytes offsets jobs owners key left n out → (2 + 9 * row owners′ (16 * i) + 9 ≤ length bytes) × (n < 16)
       finishing-next P =
-          let X = P .1 .1 .1 .1 in
-          (finish-long (P .0) (P .1 .0) (P .1 .1 .0) now jobs owners key left n out bytes (P .1 .1 .1 .0) offsets (X .frame) (X .turning) i (X .over) (X .new)
-          jobs′ owners′ out′ jq oq uq more,
-          finish-place (P .0) (P .1 .0) (P .1 .1 .0) now jobs owners key left n out bytes (P .1 .1 .1 .0) offsets (X .frame) (X .turning) i (X .over) (X .new)
-          jobs′ owners′ out′ jq oq uq more)
+          let X = P .1 .1 .1 .1 in (
+            finish-long (P .0) (P .1 .0) (P .1 .1 .0) now jobs owners key left n out bytes (P .1 .1 .1 .0) offsets (X .frame) (X .turning) i (X .over) (X .new)
+                jobs′ owners′ out′ jq oq uq more,
+            finish-place (P .0) (P .1 .0) (P .1 .1 .0) now jobs owners key left n out bytes (P .1 .1 .1 .0) offsets (X .frame) (X .turning) i (X .over) (X .new)
+                jobs′ owners′ out′ jq oq uq more,
+          )
 
       pub finished-more :
           (r : Release) → Releases bytes (row owners′ (16 * i)) r → (key′ left′ : List ℕ)

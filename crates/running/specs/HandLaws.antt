@@ -170,9 +170,11 @@ module _ (p : Plan) (l : List Entry) (out₀ : List ℕ) (e tick task demand tas
         → Entered p l out₀ (e + 1) tick (set jobs task (row jobs task + 1)) (set released task true) (set last task tick)
         (set owners (16 * task + row jobs task) e) key left n out
         × (1 ≡ takes p l e)
-    hand-behind ne =
-        (rw (add-one e, H .tick-is, H .task-is)
-        (taken-behind p l out₀ e jobs released last owners key left n out (H .at) (H .less) free (λ z. ne (ap (row jobs) (H .task-is) ∙ z))), took)
+    hand-behind ne = (
+      rw (add-one e, H .tick-is, H .task-is)
+          (taken-behind p l out₀ e jobs released last owners key left n out (H .at) (H .less) free (λ z. ne (ap (row jobs) (H .task-is) ∙ z))),
+      took,
+    )
 
     module _ (empty : row jobs task ≡ 0) where
       empty-here : row jobs (loopAt l e) ≡ 0
@@ -190,9 +192,11 @@ module _ (p : Plan) (l : List Entry) (out₀ : List ℕ) (e tick task demand tas
           → Entered p l out₀ (e + 1) tick (set jobs task (row jobs task + 1)) (set released task true) (set last task tick)
           (set owners (16 * task + row jobs task) e) key′ left′ (n + 1) out
           × (1 ≡ takes p l e)
-      hand-first key′ left′ h I =
-          (rw (add-one e, H .tick-is, H .task-is)
-          (taken-first p l out₀ e jobs released last owners key left n out (H .at) (H .less) free empty-here key′ left′ I′), took)
+      hand-first key′ left′ h I = (
+        rw (add-one e, H .tick-is, H .task-is)
+            (taken-first p l out₀ e jobs released last owners key left n out (H .at) (H .less) free empty-here key′ left′ I′),
+        took,
+      )
         where
           offset : row offsets task ≡ s .task (loopAt l e) .offset
           offset =

@@ -129,9 +129,10 @@ module _ (x : Standing) (bytes : List ℕ) (cores : ℕ) (offsets : List ℕ) (c
 
   module _ (less : clock < to) (r d : ℕ) (r-is : r ≡ min cores n) (d-is : d ≡ lowest left (to - clock) r) where
     pub leap-ticks : (1 ≤ d) × (clock + d ≤ to)
-    leap-ticks =
-        (rw d-is (lowest-some left (to - clock) r (omega arith) (λ a l. place-busy a (omega arith))),
-        omega (arith, d-is, lowest-room left (to - clock) r))
+    leap-ticks = (
+      rw d-is (lowest-some left (to - clock) r (omega arith) (λ a l. place-busy a (omega arith))),
+      omega (arith, d-is, lowest-room left (to - clock) r),
+    )
 
     enough : (i : ℕ) → runs s M i ≡ true → d ≤ headWork (M .lane i .queue)
     enough i q =

@@ -8,6 +8,7 @@ pub mod Leap
 pub mod FinishLaws
 pub mod FinishCode
 pub mod LeapLaws
+pub mod AllCode
 pub mod ReadyLaws
 pub mod Entered
 pub mod EndLaws

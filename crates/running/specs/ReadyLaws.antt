@@ -83,9 +83,10 @@ module _ (bytes : List ℕ) (cores : ℕ) (offsets : List ℕ) (from to : ℕ) (
         ((x : Standing) × Ready x bytes cores offsets from to jobs owners key left n out)
         → (x : Standing) × Ready x bytes cores offsets clock to jobs′ owners′ key′ left′ n′ out′
     advanced-ready P =
-        let S = A (P .0) (P .1) in
-        (later (P .0) (clock - from) (S .owned-by),
-        reaches-ready (P .0) bytes cores offsets from to jobs owners key left n out (P .1) (clock - from) jobs′ owners′ key′ left′ n′ out′ S clock back)
+        let S = A (P .0) (P .1) in (
+          later (P .0) (clock - from) (S .owned-by),
+          reaches-ready (P .0) bytes cores offsets from to jobs owners key left n out (P .1) (clock - from) jobs′ owners′ key′ left′ n′ out′ S clock back,
+        )
 
     pub advanced-more :
         (now : ℕ) (jobs″ owners″ key″ left″ : List ℕ) (n″ : ℕ) (out″ : List ℕ)

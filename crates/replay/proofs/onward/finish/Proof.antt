@@ -117,9 +117,12 @@ add-insert c = let a = c .before .before .before .before .before .before .before
 insert-requires : tie.Need-insert-requires
 unfolding row
 insert-requires c κs =
-    let a = c .before .before .before .before .before .before .before .before .before .before .before .before .before .before .before .before .before .args in
-    (finishing-next (a .i) (a .clock) (a .log .now) (a .offsets .now) (a .jobs .now) (a .owners .now) (a .key .now) (a .left .now) (a .heads) (a .out .now) _ _ _ refl (c .before .before .before .before .before .before .before .before .move-down .ensures) (c .before .before .before .before .before .before .before .before .before .before .before .before .put-finished .ensures) (c .before .before .before .before .before .before .if1 .left) (c .before .before .before .before .before .before .before .before .before .before .before .before .before .before .before .before .before .pre .2) .1,
-    finishing-rises (a .i) (a .clock) (a .log .now) (a .offsets .now) (a .jobs .now) (a .owners .now) (a .key .now) (a .left .now) (a .heads) (a .out .now) (c .before .before .before .before .before .before .before .before .before .before .before .before .before .before .before .before .before .pre .2), c .before .before .before .before .before .before .before .before .before .before .before .before .before .before .before .before .before .pre .0, c .before .before .before .before .before .before .before .before .before .before .before .before .before .before .before .before .before .pre .1)
+    let a = c .before .before .before .before .before .before .before .before .before .before .before .before .before .before .before .before .before .args in (
+      finishing-next (a .i) (a .clock) (a .log .now) (a .offsets .now) (a .jobs .now) (a .owners .now) (a .key .now) (a .left .now) (a .heads) (a .out .now) _ _ _ refl (c .before .before .before .before .before .before .before .before .move-down .ensures) (c .before .before .before .before .before .before .before .before .before .before .before .before .put-finished .ensures) (c .before .before .before .before .before .before .if1 .left) (c .before .before .before .before .before .before .before .before .before .before .before .before .before .before .before .before .before .pre .2) .1,
+      finishing-rises (a .i) (a .clock) (a .log .now) (a .offsets .now) (a .jobs .now) (a .owners .now) (a .key .now) (a .left .now) (a .heads) (a .out .now) (c .before .before .before .before .before .before .before .before .before .before .before .before .before .before .before .before .before .pre .2),
+      c .before .before .before .before .before .before .before .before .before .before .before .before .before .before .before .before .before .pre .0,
+      c .before .before .before .before .before .before .before .before .before .before .before .before .before .before .before .before .before .pre .1,
+    )
 
 add-result : tie.Need-add-result
 unfolding row
@@ -135,9 +138,11 @@ returns-2 : tie.Need-returns-2
 unfolding row
 returns-2 c =
     let a = c .before .before .before .before .before .before .before .before .before .before .before .before .before .before .before .before .before .before .args in
-    let I = c .insert .ensures in
-    (I .1, I .2,
-    finished-more (a .i) (a .clock) (a .log .now) (a .offsets .now) (a .jobs .now) (a .owners .now) (a .key .now) (a .left .now) (a .heads) (a .out .now) _ _ _ refl (c .before .before .before .before .before .before .before .before .before .move-down .ensures) (c .before .before .before .before .before .before .before .before .before .before .before .before .before .put-finished .ensures) (c .before .before .before .before .before .before .before .if1 .left) (c .before .before .before .before .before .release-at .result) (c .before .before .before .before .before .release-at .ensures) _ _ (I .0))
+    let I = c .insert .ensures in (
+      I .1,
+      I .2,
+      finished-more (a .i) (a .clock) (a .log .now) (a .offsets .now) (a .jobs .now) (a .owners .now) (a .key .now) (a .left .now) (a .heads) (a .out .now) _ _ _ refl (c .before .before .before .before .before .before .before .before .before .move-down .ensures) (c .before .before .before .before .before .before .before .before .before .before .before .before .before .put-finished .ensures) (c .before .before .before .before .before .before .before .if1 .left) (c .before .before .before .before .before .release-at .result) (c .before .before .before .before .before .release-at .ensures) _ _ (I .0),
+    )
 
 pub finish-spec : {M : Type 1} → statement M
 finish-spec =
