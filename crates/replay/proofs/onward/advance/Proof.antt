@@ -1,47 +1,60 @@
+-- `replay::onward::advance` meets its contract; the loop's invariant says where the leaps so far have led.
+use Rattle.running.specs.Leap.{Advanced}
+use Rattle.running.specs.ReadyLaws.{advanced-none, advanced-ready, advanced-more}
 use borrow.Author.Needs.{needs}
 use native.Mathlib.Omega.{arith}
-use native.Mathlib.Numerals.{add-one}
-use Prim.Native.Nat.{ℕ, _≤_, _<_, _+_, _*_, _-_}
-use mathlib.Core.Path.{_≡_, refl, ap, sym, _∙_}
-use mathlib.Core.Logic.{⊎-elim}
-use lib.ListN.{length, getD, set, length-set}
+use Prim.Native.Nat.{ℕ, _≤_, _-_}
+use mathlib.Core.Path.{_≡_, refl}
+use lib.ListN.{length}
 use Rattle.replay.proofs.onward.advance.Statement.{statement}
 use Rattle.replay.proofs.onward.advance.Tie as tie
-use Rattle.replay.proofs.onward.advance.Reads as reads
-use Rattle.replay.proofs.onward.advance.Lts as lts
-use Rattle.replay.proofs.onward.leap.Reads as leap-reads
 
 abbrev Inv-loop : tie.InvT-loop
 Inv-loop from to cores log offsets jobs₀ owners₀ key₀ left₀ heads out₀ clock₀ count₀ jobs owners key left out clock count =
-    ?
+    (from ≤ clock)
+    × (clock ≤ to)
+    × (length out ≡ length out₀)
+    × (length key ≡ 16)
+    × (length left ≡ 16)
+    × Advanced log cores offsets from to jobs₀ owners₀ key₀ left₀ heads out₀ clock jobs owners key left count out
 
 abbrev μ-loop : tie.MeasureT-loop
-μ-loop from to cores log offsets jobs₀ owners₀ key₀ left₀ heads out₀ clock₀ count₀ jobs owners key left out clock count =
-    ?
+μ-loop from to cores log offsets jobs₀ owners₀ key₀ left₀ heads out₀ clock₀ count₀ jobs owners key left out clock count = to - clock
 
--- src/onward.rt:186:5
 loop-holds : tie.Need-loop-holds Inv-loop μ-loop
-loop-holds c = search needs
+loop-holds c =
+    let P = c .before .before .pre in
+    (omega arith, omega arith, refl, P .0, P .1, advanced-none _ _ _ _ _ _ _ _ _ _ _)
 
--- src/onward.rt:187:13
 leap-requires : tie.Need-leap-requires Inv-loop μ-loop
-leap-requires c κs = search needs
+leap-requires c κs =
+    let a = c .before .before .before .before .before .before .before .before .before .args in
+    let l = c .before .before .before .before .before .before .loop in
+    (l .inv .3, l .inv .4, omega arith, advanced-ready (a .log .now) (a .cores) (a .offsets .now) (a .from) (a .to) (a .jobs .now) (a .owners .now) (a .key .now) (a .left .now) (a .heads) (a .out .now)
+    (l .clock) (l .jobs) (l .owners) (l .key) (l .left) (l .count) (l .out) (l .inv .0) (l .inv .5) (c .before .before .before .before .before .before .before .before .before .pre .3))
 
--- src/onward.rt:186:5
 loop-less : tie.Need-loop-less Inv-loop μ-loop
-loop-less c = search needs
+loop-less c =
+    let g = c .before .before .leap .ensures .2 in
+    omega (arith, g .onward, g .within)
 
--- src/onward.rt:186:5
 loop-again : tie.Need-loop-again Inv-loop μ-loop
-loop-again c = search needs
+loop-again c =
+    let a = c .before .before .before .before .before .before .before .before .before .before .before .before .args in
+    let l = c .before .before .before .before .before .before .before .before .before .loop in
+    let g = c .before .before .leap .ensures in
+    (omega (arith, g .2 .onward), g .2 .within, search needs, g .0, g .1,
+    advanced-more (a .log .now) (a .cores) (a .offsets .now) (a .from) (a .to) (a .jobs .now) (a .owners .now) (a .key .now) (a .left .now) (a .heads) (a .out .now)
+    (l .clock) (l .jobs) (l .owners) (l .key) (l .left) (l .count) (l .out) (l .inv .0) (l .inv .5) _ _ _ _ _ _ _ (g .2))
 
--- src/onward.rt:160:1
 same-length : tie.Need-same-length Inv-loop μ-loop
 same-length c = search needs
 
--- src/onward.rt:160:1
 returns : tie.Need-returns Inv-loop μ-loop
-returns c = search needs
+returns c =
+    let l = c .before .loop in
+    let e : l .clock ≡ c .before .before .before .before .args .to = omega arith in
+    (l .inv .3, l .inv .4, rw e at (l .inv .5))
 
 pub advance-spec : {M : Type 1} → statement M
 advance-spec =

@@ -1,50 +1,57 @@
+-- `replay::onward::leap` meets its contract.
+use Rattle.running.specs.ReadyLaws.{ready-cores, ready-few}
+use Rattle.running.specs.AllCode.{leap-in, leap-finishing, leap-made}
 use native.Mathlib.Omega.{arith}
-use native.Mathlib.Numerals.{add-one}
-use Prim.Native.Nat.{ℕ, _≤_, _<_, _+_, _*_, _-_}
-use mathlib.Core.Path.{_≡_, refl, ap, sym, _∙_}
-use mathlib.Core.Logic.{⊎-elim}
-use lib.ListN.{length, getD, set, length-set}
 use borrow.Author.Needs.{needs}
 use Rattle.replay.proofs.onward.leap.Statement.{statement}
 use Rattle.replay.proofs.onward.leap.Tie as tie
-use Rattle.replay.proofs.onward.leap.Reads as reads
-use Rattle.replay.proofs.onward.leap.Lts as lts
-use Rattle.heads.proofs.least.Reads as least-reads
-use Rattle.heads.proofs.settle.Reads as settle-reads
-use Rattle.replay.proofs.onward.fewer.Reads as fewer-reads
-use Rattle.replay.proofs.onward.finish_all.Reads as finish-all-reads
 
--- src/onward.rt:139:29
 fewer-requires : tie.Need-fewer-requires
 fewer-requires c κs = search needs
 
--- src/onward.rt:139:50
 sub-least : tie.Need-sub-least
 sub-least c = search needs
 
--- src/onward.rt:139:9
 least-requires : tie.Need-least-requires
-least-requires c κs = search needs
+least-requires c κs = 
+    let a = c .before .before .before .before .args in
+    let P = c .before .before .before .before .pre in
+    let n = ready-few (P .3 .0) (a .log .now) (a .cores) (a .offsets .now) (a .clock) (a .to) (a .jobs .now) (a .owners .now) (a .key .now) (a .left .now) (a .heads) (a .out .now) (P .3 .1) in
+    omega (arith, n, c .fewer .ensures)
 
--- src/onward.rt:140:17
 add-clock : tie.Need-add-clock
-add-clock c = search needs
+add-clock c = 
+    let a = c .before .before .before .before .before .args in
+    let P = c .before .before .before .before .before .pre in
+    let t = leap-in (P .3 .0) (a .log .now) (a .cores) (a .offsets .now) (a .clock) (a .to) (a .jobs .now) (a .owners .now) (a .key .now) (a .left .now) (a .heads) (a .out .now) (P .3 .1) (P .2) _ _ (c .before .fewer .ensures) (c .least .ensures) in
+    omega (arith, t .1, P .3 .1 .limit)
 
--- src/onward.rt:142:9
 settle-requires : tie.Need-settle-requires
-settle-requires c κs = search needs
+settle-requires c κs = 
+    let a = c .before .before .before .before .before .before .before .before .args in
+    let P = c .before .before .before .before .before .before .before .before .pre in
+    (ready-few (P .3 .0) (a .log .now) (a .cores) (a .offsets .now) (a .clock) (a .to) (a .jobs .now) (a .owners .now) (a .key .now) (a .left .now) (a .heads) (a .out .now) (P .3 .1), P .0, P .1, search needs)
 
--- src/onward.rt:143:9
 finish-all-requires : tie.Need-finish-all-requires
-finish-all-requires c κs = search needs
+finish-all-requires c κs = 
+    let a = c .before .before .before .before .before .before .before .before .before .before .before .before .before .before .before .args in
+    let P = c .before .before .before .before .before .before .before .before .before .before .before .before .before .before .before .pre in
+    let s = c .before .before .before .before .before .before .settle .ensures in
+    let n = ready-few (P .3 .0) (a .log .now) (a .cores) (a .offsets .now) (a .clock) (a .to) (a .jobs .now) (a .owners .now) (a .key .now) (a .left .now) (a .heads) (a .out .now) (P .3 .1) in
+    (omega (arith, s .3, n), s .5, s .6,
+    leap-finishing (P .3 .0) (a .log .now) (a .cores) (a .offsets .now) (a .clock) (a .to) (a .jobs .now) (a .owners .now) (a .key .now) (a .left .now) (a .heads) (a .out .now) (P .3 .1) (P .2) _ _ (c .before .before .before .before .before .before .before .before .before .before .before .fewer .ensures) (c .before .before .before .before .before .before .before .before .before .before .least .ensures) _ _ _ (s .0) _ _ (s .1))
 
--- src/onward.rt:115:1
 same-length : tie.Need-same-length
 same-length c = search needs
 
--- src/onward.rt:115:1
 returns : tie.Need-returns
-returns c = search needs
+returns c = 
+    let a = c .before .before .before .before .before .before .before .before .before .before .before .before .before .before .before .before .before .before .args in
+    let P = c .before .before .before .before .before .before .before .before .before .before .before .before .before .before .before .before .before .before .pre in
+    let s = c .before .before .before .before .before .before .before .before .before .settle .ensures in
+    let f = c .before .before .finish-all .ensures in
+    (f .0, f .1,
+    leap-made (a .log .now) (a .cores) (a .offsets .now) (a .clock) (a .to) (a .jobs .now) (a .owners .now) (a .key .now) (a .left .now) (a .heads) (a .out .now) (P .3) (P .2) _ _ (c .before .before .before .before .before .before .before .before .before .before .before .before .before .before .fewer .ensures) (c .before .before .before .before .before .before .before .before .before .before .before .before .before .least .ensures) _ _ _ (s .0) _ _ (s .1) _ _ _ _ _ _ (f .2))
 
 pub leap-spec : {M : Type 1} → statement M
 leap-spec =
