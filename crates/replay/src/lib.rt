@@ -1,2 +1,3 @@
 // wip
+mod entry;
 mod onward;

@@ -115,6 +115,17 @@ module _ (p : Plan) (l : List Entry) (out₀ : List ℕ) (e tick task demand tas
     now : tick ≡ M .clock
     now = H .tick-is ∙ sym (machine-clock s (upTo p l out₀ e) ∙ clock-entry l e (H .at .onward))
 
+    pub hand-offset : row offsets task ≤ 100000
+    hand-offset =
+        let k : task < p .tasks = omega (arith, H .columns .tasks-are) in
+        let e : row offsets task ≡ s .task task .offset = H .columns .offsets-are task h ∙ sym (ap (λ (t : Task). t .offset) (in-task p task k)) in
+        omega (
+          arith,
+          e,
+          plan-limits p (H .at .fitting .accepted) .offset-high task (omega (arith, in-count p)),
+          plan-limits p (H .at .fitting .accepted) .separation-high task (omega (arith, in-count p)),
+        )
+
     -- as many jobs as owners
     count-here : row jobs task ≡ length (M .lane task .queue)
     count-here =
