@@ -1,55 +1,78 @@
+-- `replay::entry::enter` meets its contract.
+use Rattle.running.specs.EnterCode.{Entering, enter-long, enter-room, enter-ready, enter-back, enter-handing}
+use Rattle.logs.specs.LogBytes.{entriesIn}
+use Rattle.replay.specs.declared.entry.Place.{Place}
 use native.Mathlib.Omega.{arith}
-use native.Mathlib.Numerals.{add-one}
-use Prim.Native.Nat.{ℕ, _≤_, _<_, _+_, _*_, _-_}
-use mathlib.Core.Path.{_≡_, refl, ap, sym, _∙_}
-use mathlib.Core.Logic.{⊎-elim}
-use lib.ListN.{length, getD, set, length-set}
+use Prim.Native.Nat.{ℕ, _≤_}
+use mathlib.Core.Path.{_≡_, _∙_}
 use borrow.Author.Needs.{needs}
 use Rattle.replay.proofs.entry.enter.Statement.{statement}
 use Rattle.replay.proofs.entry.enter.Tie as tie
-use Rattle.replay.proofs.entry.enter.Reads as reads
-use Rattle.replay.proofs.entry.enter.Lts as lts
-use Rattle.logs.proofs.read.release_at.Reads as release-at-reads
-use Rattle.logs.proofs.report.put_refused.Reads as put-refused-reads
-use Rattle.replay.proofs.entry.hand.Reads as hand-reads
-use Rattle.replay.proofs.entry.stay.Reads as stay-reads
-use Rattle.replay.proofs.onward.advance.Reads as advance-reads
 
--- src/entry.rt:145:9
 release-at-requires : tie.Need-release-at-requires
-release-at-requires c κs = ?
+release-at-requires c κs =
+    let P = c .before .before .pre .2 in
+    let a = c .before .before .args in
+    enter-long (P .0) (P .1 .0) (a .log .now) (a .e) (a .clock) (a .cores) (a .tasks) (a .separations .now) (a .budgets .now) (a .offsets .now) (a .jobs .now)
+    (a .released .now) (a .last .now) (a .owners .now) (a .key .now) (a .left .now) (a .heads) (a .out .now) (P .1 .1)
 
--- src/entry.rt:148:9
 put-refused-requires : tie.Need-put-refused-requires
-put-refused-requires c κs = ?
+put-refused-requires c κs =
+    let P = c .before .before .before .before .before .pre .2 in
+    let a = c .before .before .before .before .before .args in
+    enter-room (P .0) (P .1 .0) (a .log .now) (a .e) (a .clock) (a .cores) (a .tasks) (a .separations .now) (a .budgets .now) (a .offsets .now) (a .jobs .now)
+    (a .released .now) (a .last .now) (a .owners .now) (a .key .now) (a .left .now) (a .heads) (a .out .now) (P .1 .1)
 
--- src/entry.rt:149:9
 stay-requires : tie.Need-stay-requires
-stay-requires c κs = ?
+stay-requires c κs = search needs
 
--- src/entry.rt:149:9
 same-length : tie.Need-same-length
 same-length c = search needs
 
--- src/entry.rt:149:9
 returns : tie.Need-returns
-returns c = ?
+returns c =
+    let a = c .before .before .before .before .before .before .before .before .before .args in
+    let P = c .before .before .before .before .before .before .before .before .before .pre in
+    rw (c .stay .ensures)
+    (P .0, P .1,
+    λ p out₀ X.
+    enter-back p out₀ (a .log .now) (a .e) (a .clock) (a .cores) (a .tasks) (a .separations .now) (a .budgets .now) (a .offsets .now) (a .jobs .now)
+    (a .released .now) (a .last .now) (a .owners .now) (a .key .now) (a .left .now) (a .heads) (a .out .now) X (c .before .before .before .before .before .before .release-at .result) (c .before .before .before .before .before .before .release-at .ensures) _
+    (c .before .before .before .before .before .if1 .taken) (c .before .before .before .put-refused .ensures))
 
--- src/entry.rt:151:9
 advance-requires : tie.Need-advance-requires
-advance-requires c κs = ?
+advance-requires c κs =
+    let a = c .before .before .before .before .before .before .before .before .before .args in
+    let P = c .before .before .before .before .before .before .before .before .before .pre in
+    (P .0, P .1, c .before .before .before .before .before .if1 .left,
+    enter-ready (P .2 .0) (P .2 .1 .0) (a .log .now) (a .e) (a .clock) (a .cores) (a .tasks) (a .separations .now) (a .budgets .now) (a .offsets .now) (a .jobs .now)
+    (a .released .now) (a .last .now) (a .owners .now) (a .key .now) (a .left .now) (a .heads) (a .out .now) (P .2 .1 .1) (c .before .before .before .before .before .before .release-at .result) (c .before .before .before .before .before .before .release-at .ensures))
 
--- src/entry.rt:154:5
 hand-requires : tie.Need-hand-requires
-hand-requires c κs = ?
+hand-requires c κs =
+    let a = c .before .before .before .before .before .before .before .before .before .before .before .before .before .before .before .before .before .before .before .args in
+    let P = c .before .before .before .before .before .before .before .before .before .before .before .before .before .before .before .before .before .before .before .pre .2 in
+    let g = c .before .before .before .before .before .before .before .before .before .advance .ensures in
+    (g .0, g .1, (P .0, (entriesIn (a .log .now), (P .1 .0,
+    enter-handing (P .0) (P .1 .0) (a .log .now) (a .e) (a .clock) (a .cores) (a .tasks) (a .separations .now) (a .budgets .now) (a .offsets .now) (a .jobs .now)
+    (a .released .now) (a .last .now) (a .owners .now) (a .key .now) (a .left .now) (a .heads) (a .out .now) (P .1 .1) (c .before .before .before .before .before .before .before .before .before .before .before .before .before .before .before .before .release-at .result) (c .before .before .before .before .before .before .before .before .before .before .before .before .before .before .before .before .release-at .ensures)
+    _ _ _ _ _ _ (c .before .before .before .before .before .before .before .before .before .before .before .before .before .before .before .if1 .left) (g .2)))))
 
--- src/entry.rt:112:1
 same-length-2 : tie.Need-same-length-2
 same-length-2 c = search needs
 
--- src/entry.rt:112:1
 returns-2 : tie.Need-returns-2
-returns-2 c = ?
+returns-2 c =
+    let a = c .before .before .before .before .before .before .before .before .before .before .before .before .before .before .before .before .before .before .before .before .before .before .args in
+    let g = c .before .before .before .before .before .before .before .before .before .before .before .before .advance .ensures in
+    let t = c .before .before .hand .ensures in
+    (t .0, t .1,
+    λ p out₀ X.
+    rw (t .2)
+    (t .3 p (entriesIn (a .log .now)) out₀
+    (enter-handing p out₀ (a .log .now) (a .e) (a .clock) (a .cores) (a .tasks) (a .separations .now) (a .budgets .now) (a .offsets .now) (a .jobs .now)
+    (a .released .now) (a .last .now) (a .owners .now) (a .key .now) (a .left .now) (a .heads) (a .out .now) X (c .before .before .before .before .before .before .before .before .before .before .before .before .before .before .before .before .before .before .before .release-at .result) (c .before .before .before .before .before .before .before .before .before .before .before .before .before .before .before .before .before .before .before .release-at .ensures)
+    _ _ _ _ _ _ (c .before .before .before .before .before .before .before .before .before .before .before .before .before .before .before .before .before .before .if1 .left) (g .2))))
 
 pub enter-spec : {M : Type 1} → statement M
 enter-spec =
