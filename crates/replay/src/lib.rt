@@ -1,3 +1,7 @@
-// wip
+// The run of a release log. Document 01, "Release logs".
 mod entry;
 mod onward;
+mod run;
+
+pub use run::Ran;
+pub use run::run_log;
