@@ -1,7 +1,7 @@
 -- How the log run's answer follows from what its code has seen.
 --     run-refused-table, run-refused-log      the table or the log is refused; run-short: the lent answer is too short
 --     run-fitting     an accepted table and log fit
---     run-taken       the run's counts and bytes are the document's; run-none: so they are of an empty log
+--     run-taken       the run's counts and bytes are the document's
 use Prim.Native.Nat.{ℕ, zero, suc, _+_, _-_, _*_, _≤_, _<_}
 use mathlib.Core.Path.{_≡_, refl, sym, ap, _∙_}
 use mathlib.Core.List.{List, [], _∷_}
@@ -84,11 +84,3 @@ module _ (t l out : List ℕ) where
               rw accepted (λ k. record { answer = Accepted; taken = T k; refused = S k }),
               rw accepted (r ∙ rw (plan-reports (judged t .plan) (plan-passes t a) (entriesIn l) (log-early l b), entries-length l)),
             )
-
-        pub run-none :
-            0 ≡ entryCount l
-            → _≡_ {A = Ran} (record { answer = Accepted; taken = 0; refused = 0 }) (ranOf t l (length out)) × (out ≡ runLeaves t l out)
-        unfolding ranOf runLeaves takenCount refusedCount count sum reportsTo entries
-        run-none z =
-            let n : length (entriesIn l) ≡ 0 = entries-length l ∙ sym z in
-            (rw (accepted, n), rw (accepted, sym z))
