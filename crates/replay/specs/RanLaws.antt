@@ -1,5 +1,5 @@
 -- How the log run's answer follows from what its code has seen.
---     run-refused     the table or the log is refused; run-short: the lent answer is too short
+--     run-refused-table, run-refused-log      the table or the log is refused; run-short: the lent answer is too short
 --     run-fitting     an accepted table and log fit
 --     run-taken       the run's counts and bytes are the document's; run-none: so they are of an empty log
 use Prim.Native.Nat.{ℕ, zero, suc, _+_, _-_, _*_, _≤_, _<_}
