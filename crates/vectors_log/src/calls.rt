@@ -30,7 +30,12 @@ fn lengths() {
         counting(1).entry(0, 0, 1).byte(0),
         ROOM,
     );
-    run(b"14: an entry missing", p3(), counting(2).entry(0, 0, 1), ROOM);
+    run(
+        b"14: an entry missing",
+        p3(),
+        counting(2).entry(0, 0, 1),
+        ROOM,
+    );
 }
 
 // "unsigned, low byte first": the second byte counts entries by 256.

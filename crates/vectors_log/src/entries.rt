@@ -14,10 +14,7 @@ fn on_p1(name: &[u8], log: Log) {
 fn known() {
     on_p1(
         b"20: loops 3 and 255",
-        counting(3)
-            .entry(0, 3, 1)
-            .entry(0, 255, 1)
-            .entry(0, 2, 20),
+        counting(3).entry(0, 3, 1).entry(0, 255, 1).entry(0, 2, 20),
     );
 }
 

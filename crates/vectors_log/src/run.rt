@@ -7,7 +7,7 @@ use cases::same::untouched;
 use cases::say;
 use replay::Ran;
 use tasks::Answer;
-ghost use Prim.Native.Nat.{_+_, _<_};
+ghost use Prim.Native.Nat.{_+_, _≤_, _<_};
 
 // The whole buffer, of which the first bytes are lent.
 pub const ROOM: usize = 400;
@@ -18,9 +18,14 @@ fn wide(byte: u8) -> u64
     byte as u64
 }
 
-// Four bytes, low byte first.
-fn number(a: u8, b: u8, c: u8, d: u8) -> u64 {
-    wide(a) + 256 * wide(b) + 65536 * wide(c) + 16777216 * wide(d)
+// The four bytes at `at`, low byte first.
+fn number_at(buffer: &[u8; 400], at: usize) -> u64
+    requires { ⌜ at ≤ 396 ⌝ }
+{
+    wide(buffer[at])
+        + 256 * wide(buffer[at + 1])
+        + 65536 * wide(buffer[at + 2])
+        + 16777216 * wide(buffer[at + 3])
 }
 
 // "kind 1 and finish tick, or kind 2 and refusal number, 4 bytes each".
@@ -39,14 +44,7 @@ fn say_entries(buffer: &[u8; 400], count: usize) {
     while i < 50 {
         if i < count {
             let at = 8 * i;
-            let kind = number(buffer[at], buffer[at + 1], buffer[at + 2], buffer[at + 3]);
-            let value = number(
-                buffer[at + 4],
-                buffer[at + 5],
-                buffer[at + 6],
-                buffer[at + 7],
-            );
-            say_entry(i, kind, value);
+            say_entry(i, number_at(buffer, at), number_at(buffer, at + 4));
         }
         i += 1;
     }
