@@ -1,11 +1,11 @@
 // Logs and lent answers that are refused 14, 15 and 16, also two of them at once, and those next to the limits. The table is P3.
-use crate::log::Log;
-use crate::log::counting;
-use crate::run::ROOM;
-use crate::run::bytes;
-use crate::run::run;
-use crate::worked::p3;
 use cases::draft::front;
+use cases_log::log::Log;
+use cases_log::log::counting;
+use cases_log::run::ROOM;
+use cases_log::run::bytes;
+use cases_log::run::run;
+use cases_log::tables::p3;
 
 // A log of any bytes.
 fn raw(name: &[u8], log: &[u8], room: usize) {

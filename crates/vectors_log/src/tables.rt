@@ -1,14 +1,14 @@
 // Tables that are refused: "A log run judges the table first", also where the log or the lent answer would be refused.
-use crate::log::counting;
-use crate::run::ROOM;
-use crate::run::bytes;
-use crate::run::run;
 use cases::draft::Draft;
 use cases::draft::P1;
 use cases::draft::P7;
 use cases::draft::labelled;
 use cases::draft::offering;
 use cases::draft::three;
+use cases_log::log::counting;
+use cases_log::run::ROOM;
+use cases_log::run::bytes;
+use cases_log::run::run;
 
 // The table on a log that is right.
 fn judged(name: &[u8], table: Draft) {

@@ -1,17 +1,10 @@
 // P10 and P11 of document 01.
-use crate::log::Log;
-use crate::log::counting;
-use crate::run::ROOM;
-use crate::run::run;
-use cases::draft::Draft;
 use cases::draft::three;
-
-// P3's loops.
-pub const P3: [u32; 9] = [2, 1, 2, 2, 1, 2, 3, 3, 0];
-
-pub fn p3() -> Draft {
-    three(P3).found()
-}
+use cases_log::log::Log;
+use cases_log::log::counting;
+use cases_log::run::ROOM;
+use cases_log::run::run;
+use cases_log::tables::p3;
 
 // "all released at tick 0 with full budgets".
 fn all() -> Log {

@@ -1,13 +1,12 @@
 // Entries that are refused: "the run goes on; the call itself isn't refused". The table is P1.
-use crate::log::Log;
-use crate::log::counting;
-use crate::run::ROOM;
-use crate::run::run;
-use cases::draft::P1;
-use cases::draft::three;
+use cases_log::log::Log;
+use cases_log::log::counting;
+use cases_log::run::ROOM;
+use cases_log::run::run;
+use cases_log::tables::p1;
 
 fn on_p1(name: &[u8], log: Log) {
-    run(name, three(P1).found(), log, ROOM);
+    run(name, p1(), log, ROOM);
 }
 
 // The loops are 0 to 2.

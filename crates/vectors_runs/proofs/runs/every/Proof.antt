@@ -1,8 +1,8 @@
--- `vectors_log::runs::every` is safe and ends: the loops that are left are the measure.
+-- `vectors_runs::runs::every` is safe and ends: the loops that are left are the measure.
 use Prim.Native.Nat.{_-_, _≤_}
 use borrow.Author.Needs.{needs}
-use Rattle.vectors_log.proofs.runs.every.Statement.{statement}
-use Rattle.vectors_log.proofs.runs.every.Tie as tie
+use Rattle.vectors_runs.proofs.runs.every.Statement.{statement}
+use Rattle.vectors_runs.proofs.runs.every.Tie as tie
 
 abbrev Inv-loop : tie.InvT-loop
 Inv-loop log₀ task₀ log task = task ≤ 16

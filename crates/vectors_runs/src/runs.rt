@@ -1,19 +1,15 @@
 // Runs whose finish ticks show who ran when: by priority points, one job of a loop after the other, up to the last job pending.
-use crate::log::Log;
-use crate::log::counting;
-use crate::run::ROOM;
-use crate::run::run;
-use crate::worked::p3;
-use cases::draft::Draft;
 use cases::draft::P1;
 use cases::draft::labelled;
 use cases::draft::offering;
 use cases::draft::on_cores;
 use cases::draft::three;
-
-fn p1() -> Draft {
-    three(P1).found()
-}
+use cases_log::log::Log;
+use cases_log::log::counting;
+use cases_log::run::ROOM;
+use cases_log::run::run;
+use cases_log::tables::p1;
+use cases_log::tables::p3;
 
 // "An empty log takes no step": its answer needs no room.
 fn empty() {

@@ -1,8 +1,8 @@
--- `vectors_log::run::say_entries` is safe and ends: the entries that the buffer has room for and that are left are the measure.
+-- `cases_log::run::say_entries` is safe and ends: the entries that the buffer has room for and that are left are the measure.
 use Prim.Native.Nat.{_-_, _≤_}
 use borrow.Author.Needs.{needs}
-use Rattle.vectors_log.proofs.run.say_entries.Statement.{statement}
-use Rattle.vectors_log.proofs.run.say_entries.Tie as tie
+use Rattle.cases_log.proofs.run.say_entries.Statement.{statement}
+use Rattle.cases_log.proofs.run.say_entries.Tie as tie
 
 abbrev Inv-loop : tie.InvT-loop
 Inv-loop buffer count i₀ i = i ≤ 50

@@ -1,9 +1,9 @@
--- `vectors_log::run::lend` is safe: the bytes lent are as many as `room` says.
+-- `cases_log::run::lend` is safe: the bytes lent are as many as `room` says.
 use native.Mathlib.Omega.{arith}
 use lib.ListN.{length-take}
 use borrow.Author.Needs.{needs}
-use Rattle.vectors_log.proofs.run.lend.Statement.{statement}
-use Rattle.vectors_log.proofs.run.lend.Tie as tie
+use Rattle.cases_log.proofs.run.lend.Statement.{statement}
+use Rattle.cases_log.proofs.run.lend.Tie as tie
 
 slice-relend-prefix-run-log : tie.Need-slice-relend-prefix-run-log
 slice-relend-prefix-run-log c = search needs
