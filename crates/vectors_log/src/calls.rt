@@ -83,11 +83,14 @@ fn two() -> Log {
     counting(2).entry(0, 0, 1).entry(0, 1, 1)
 }
 
-// 256 entries of zeros, which ask for 2,048 bytes.
+// 257 entries, which ask for 2,056 bytes.
 fn many() {
-    let mut log = [0; 2306];
+    let mut log = [0; 2315];
+    log[0] = 1;
     log[1] = 1;
-    raw(b"16: 256 entries, 400 bytes lent", &log, ROOM);
+    raw(b"16: 257 entries, 400 bytes lent", &log, ROOM);
+    log[2309] = 255;
+    raw(b"15: the last of 257 entries", &log, ROOM);
 }
 
 fn rooms() {

@@ -11,7 +11,7 @@ use cases_log::run::run;
 use cases_log::tables::p1;
 use cases_log::tables::p3;
 
-// "An empty log takes no step": its answer needs no room.
+// A log of count 0 has no entry to run or to answer for.
 fn empty() {
     run(b"an empty log", p1(), counting(0), ROOM);
     run(b"an empty log, nothing lent", p1(), counting(0), 0);
