@@ -1,7 +1,8 @@
 -- An entry entered, by its code.
 --     Entering p out₀ log e …      the first e entries of a log's bytes are entered, and there is another; with the plan's columns
 --     Enters                       what the code gives
---     enter-numbers                the entry's numbers, as the reader has them
+--     enter-long, enter-room       its bytes are in the log, and the answer has room for its report
+--     enter-tick                   its tick, as the reader has it
 --     enter-ready                  the leaps up to its tick may be made
 --     enter-back                   an entry that goes back
 --     enter-handing                after the leaps its release may be handed over

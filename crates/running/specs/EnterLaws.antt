@@ -1,8 +1,8 @@
 -- An entry entered keeps the book, whatever its outcome.
---     Recent h …        the arrays of flags and last releases are those of the machine after h; recent-wait: steps change neither
---     enter-back        an entry that meets 17
---     enter-refused     an entry whose release is refused
---     enter-taken       an entry whose release is taken
+--     Recent h …        the arrays of flags and last releases are those of the machine after h
+--     book-refused      an entry that is refused, by 17 or by its release's answer
+--     ownersWith        the owners with the entry as its loop's last
+--     book-taken        an entry whose release is taken
 use Prim.Native.Nat.{ℕ, zero, suc, _+_, _-_, _*_, _≤_, _<_}
 use mathlib.Core.Bool.{Bool, true, false, cond, _&&_, true≢false, or-true}
 use mathlib.Core.Path.{_≡_, refl, sym, ap, subst, _∙_}
