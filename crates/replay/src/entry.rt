@@ -149,7 +149,17 @@ pub fn enter(
         return stay(clock, heads, 0);
     }
     let heads = advance(
-        clock, tick, cores, log, offsets, jobs, owners, key, left, heads, out,
+        clock,
+        tick,
+        cores,
+        log,
+        offsets,
+        jobs,
+        owners,
+        key,
+        left,
+        heads,
+        out,
     );
     hand(
         e,

@@ -137,13 +137,13 @@ fn leap(
         ⌝ }
 {
     let ticks = least(left, fewer(cores, heads), to - clock);
-    let clock = clock + ticks;
+    let reached = clock + ticks;
     let mut done = [0usize; 16];
     let settled = settle(key, left, &mut done, heads, cores, ticks);
     let heads = finish_all(
         &done,
         settled.finished,
-        clock,
+        reached,
         log,
         offsets,
         jobs,
@@ -153,7 +153,10 @@ fn leap(
         settled.heads,
         out,
     );
-    Stop { clock, heads }
+    Stop {
+        heads,
+        clock: reached,
+    }
 }
 
 // "stepped up to an entry's tick where that is later than its clock". Answers how many heads there are then.

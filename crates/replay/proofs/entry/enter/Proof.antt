@@ -33,30 +33,46 @@ returns : tie.Need-returns
 returns c =
     let a = c .before .before .before .before .before .before .before .before .before .args in
     let P = c .before .before .before .before .before .before .before .before .before .pre in
-    rw (c .stay .ensures)
-    (P .0, P .1,
-    λ p out₀ X.
-    enter-back p out₀ (a .log .now) (a .e) (a .clock) (a .cores) (a .tasks) (a .separations .now) (a .budgets .now) (a .offsets .now) (a .jobs .now)
-    (a .released .now) (a .last .now) (a .owners .now) (a .key .now) (a .left .now) (a .heads) (a .out .now) X (c .before .before .before .before .before .before .release-at .result) (c .before .before .before .before .before .before .release-at .ensures) _
-    (c .before .before .before .before .before .if1 .taken) (c .before .before .before .put-refused .ensures))
+    rw (c .stay .ensures) (
+      P .0,
+      P .1,
+      λ p out₀ X.
+          enter-back p out₀ (a .log .now) (a .e) (a .clock) (a .cores) (a .tasks) (a .separations .now) (a .budgets .now) (a .offsets .now) (a .jobs .now)
+          (a .released .now) (a .last .now) (a .owners .now) (a .key .now) (a .left .now) (a .heads) (a .out .now) X (c .before .before .before .before .before .before .release-at .result) (c .before .before .before .before .before .before .release-at .ensures) _
+          (c .before .before .before .before .before .if1 .taken) (c .before .before .before .put-refused .ensures),
+    )
 
 advance-requires : tie.Need-advance-requires
 advance-requires c κs =
     let a = c .before .before .before .before .before .before .before .before .before .args in
-    let P = c .before .before .before .before .before .before .before .before .before .pre in
-    (P .0, P .1, c .before .before .before .before .before .if1 .left,
-    enter-ready (P .2 .0) (P .2 .1 .0) (a .log .now) (a .e) (a .clock) (a .cores) (a .tasks) (a .separations .now) (a .budgets .now) (a .offsets .now) (a .jobs .now)
-    (a .released .now) (a .last .now) (a .owners .now) (a .key .now) (a .left .now) (a .heads) (a .out .now) (P .2 .1 .1) (c .before .before .before .before .before .before .release-at .result) (c .before .before .before .before .before .before .release-at .ensures))
+    let P = c .before .before .before .before .before .before .before .before .before .pre in (
+      P .0,
+      P .1,
+      c .before .before .before .before .before .if1 .left,
+      enter-ready (P .2 .0) (P .2 .1 .0) (a .log .now) (a .e) (a .clock) (a .cores) (a .tasks) (a .separations .now) (a .budgets .now) (a .offsets .now) (a .jobs .now)
+          (a .released .now) (a .last .now) (a .owners .now) (a .key .now) (a .left .now) (a .heads) (a .out .now) (P .2 .1 .1) (c .before .before .before .before .before .before .release-at .result) (c .before .before .before .before .before .before .release-at .ensures),
+    )
 
 hand-requires : tie.Need-hand-requires
 hand-requires c κs =
     let a = c .before .before .before .before .before .before .before .before .before .before .before .before .before .before .before .before .before .before .before .args in
     let P = c .before .before .before .before .before .before .before .before .before .before .before .before .before .before .before .before .before .before .before .pre .2 in
-    let g = c .before .before .before .before .before .before .before .before .before .advance .ensures in
-    (g .0, g .1, (P .0, (entriesIn (a .log .now), (P .1 .0,
-    enter-handing (P .0) (P .1 .0) (a .log .now) (a .e) (a .clock) (a .cores) (a .tasks) (a .separations .now) (a .budgets .now) (a .offsets .now) (a .jobs .now)
-    (a .released .now) (a .last .now) (a .owners .now) (a .key .now) (a .left .now) (a .heads) (a .out .now) (P .1 .1) (c .before .before .before .before .before .before .before .before .before .before .before .before .before .before .before .before .release-at .result) (c .before .before .before .before .before .before .before .before .before .before .before .before .before .before .before .before .release-at .ensures)
-    _ _ _ _ _ _ (c .before .before .before .before .before .before .before .before .before .before .before .before .before .before .before .if1 .left) (g .2)))))
+    let g = c .before .before .before .before .before .before .before .before .before .advance .ensures in (
+      g .0,
+      g .1,
+      (
+        P .0,
+        (
+          entriesIn (a .log .now),
+          (
+            P .1 .0,
+            enter-handing (P .0) (P .1 .0) (a .log .now) (a .e) (a .clock) (a .cores) (a .tasks) (a .separations .now) (a .budgets .now) (a .offsets .now) (a .jobs .now)
+                (a .released .now) (a .last .now) (a .owners .now) (a .key .now) (a .left .now) (a .heads) (a .out .now) (P .1 .1) (c .before .before .before .before .before .before .before .before .before .before .before .before .before .before .before .before .release-at .result) (c .before .before .before .before .before .before .before .before .before .before .before .before .before .before .before .before .release-at .ensures)
+                _ _ _ _ _ _ (c .before .before .before .before .before .before .before .before .before .before .before .before .before .before .before .if1 .left) (g .2),
+          ),
+        ),
+      ),
+    )
 
 same-length-2 : tie.Need-same-length-2
 same-length-2 c = search needs
@@ -65,14 +81,16 @@ returns-2 : tie.Need-returns-2
 returns-2 c =
     let a = c .before .before .before .before .before .before .before .before .before .before .before .before .before .before .before .before .before .before .before .before .before .before .args in
     let g = c .before .before .before .before .before .before .before .before .before .before .before .before .advance .ensures in
-    let t = c .before .before .hand .ensures in
-    (t .0, t .1,
-    λ p out₀ X.
-    rw (t .2)
-    (t .3 p (entriesIn (a .log .now)) out₀
-    (enter-handing p out₀ (a .log .now) (a .e) (a .clock) (a .cores) (a .tasks) (a .separations .now) (a .budgets .now) (a .offsets .now) (a .jobs .now)
-    (a .released .now) (a .last .now) (a .owners .now) (a .key .now) (a .left .now) (a .heads) (a .out .now) X (c .before .before .before .before .before .before .before .before .before .before .before .before .before .before .before .before .before .before .before .release-at .result) (c .before .before .before .before .before .before .before .before .before .before .before .before .before .before .before .before .before .before .before .release-at .ensures)
-    _ _ _ _ _ _ (c .before .before .before .before .before .before .before .before .before .before .before .before .before .before .before .before .before .before .if1 .left) (g .2))))
+    let t = c .before .before .hand .ensures in (
+      t .0,
+      t .1,
+      λ p out₀ X.
+          rw (t .2)
+          (t .3 p (entriesIn (a .log .now)) out₀
+          (enter-handing p out₀ (a .log .now) (a .e) (a .clock) (a .cores) (a .tasks) (a .separations .now) (a .budgets .now) (a .offsets .now) (a .jobs .now)
+          (a .released .now) (a .last .now) (a .owners .now) (a .key .now) (a .left .now) (a .heads) (a .out .now) X (c .before .before .before .before .before .before .before .before .before .before .before .before .before .before .before .before .before .before .before .release-at .result) (c .before .before .before .before .before .before .before .before .before .before .before .before .before .before .before .before .before .before .before .release-at .ensures)
+          _ _ _ _ _ _ (c .before .before .before .before .before .before .before .before .before .before .before .before .before .before .before .before .before .before .if1 .left) (g .2))),
+    )
 
 pub enter-spec : {M : Type 1} → statement M
 enter-spec =

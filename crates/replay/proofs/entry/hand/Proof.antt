@@ -47,18 +47,21 @@ same-length : tie.Need-same-length
 same-length c = search needs
 
 returns : tie.Need-returns
-returns c = 
+returns c =
     let a = c .before .before .before .before .before .before .before .args in
     let P = c .before .before .before .before .before .before .before .pre in
     let S = c .stay .ensures in
-    rw S
-    (P .0, P .1, refl,
-    λ p l out₀ X.
-    hand-refused p l out₀ (a .e) (a .tick) (a .task) (a .demand) (a .tasks) (a .separations .now) (a .budgets .now) (a .offsets .now) (a .jobs .now)
-    (a .released .now) (a .last .now) (a .owners .now) (a .key .now) (a .left .now) (a .heads) (a .out .now) X 20 _
-    (answer-20 p l out₀ (a .e) (a .tick) (a .task) (a .demand) (a .tasks) (a .separations .now) (a .budgets .now) (a .offsets .now) (a .jobs .now)
-    (a .released .now) (a .last .now) (a .owners .now) (a .key .now) (a .left .now) (a .heads) (a .out .now) X (c .before .before .before .before .before .if1 .taken))
-    (c .before .before .before .put-refused .ensures))
+    rw S (
+      P .0,
+      P .1,
+      refl,
+      λ p l out₀ X.
+          hand-refused p l out₀ (a .e) (a .tick) (a .task) (a .demand) (a .tasks) (a .separations .now) (a .budgets .now) (a .offsets .now) (a .jobs .now)
+          (a .released .now) (a .last .now) (a .owners .now) (a .key .now) (a .left .now) (a .heads) (a .out .now) X 20 _
+          (answer-20 p l out₀ (a .e) (a .tick) (a .task) (a .demand) (a .tasks) (a .separations .now) (a .budgets .now) (a .offsets .now) (a .jobs .now)
+          (a .released .now) (a .last .now) (a .owners .now) (a .key .now) (a .left .now) (a .heads) (a .out .now) X (c .before .before .before .before .before .if1 .taken))
+          (c .before .before .before .put-refused .ensures),
+    )
 
 mul-held : tie.Need-mul-held
 mul-held c = omega (arith, low (c))
@@ -110,49 +113,55 @@ same-length-2 c = search needs
 
 returns-2 : tie.Need-returns-2
 unfolding row
-returns-2 c = 
+returns-2 c =
     let a = c .before .before .before .before .before .before .before .before .before .before .before .before .before .before .before .before .args in
     let P = c .before .before .before .before .before .before .before .before .before .before .before .before .before .before .before .before .pre in
     let told = c .before .before .before .before .before .before .enum-told2 .given .1 in
-    rw (c .stay2 .ensures)
-    (P .0, P .1, refl,
-    λ p l out₀ X.
-    hand-refused p l out₀ (a .e) (a .tick) (a .task) (a .demand) (a .tasks) (a .separations .now) (a .budgets .now) (a .offsets .now) (a .jobs .now)
-    (a .released .now) (a .last .now) (a .owners .now) (a .key .now) (a .left .now) (a .heads) (a .out .now) X _ _
-    (sym (hand-answer p l out₀ (a .e) (a .tick) (a .task) (a .demand) (a .tasks) (a .separations .now) (a .budgets .now) (a .offsets .now) (a .jobs .now)
-    (a .released .now) (a .last .now) (a .owners .now) (a .key .now) (a .left .now) (a .heads) (a .out .now) X (c .before .before .before .before .before .before .before .before .before .before .before .before .before .before .if1 .left) _ (c .before .before .before .before .before .before .before .before .admission-test .ensures)) ∙ ap outcomeOf told)
-    (c .before .before .before .put-refused2 .ensures
-    ∙ ap (λ (n : ℕ). sets (a .out .now) (8 * a .e) (reportBytes (refusal n))) (c .before .before .before .before .number .ensures ∙ ap numberOf told)))
+    rw (c .stay2 .ensures) (
+      P .0,
+      P .1,
+      refl,
+      λ p l out₀ X.
+          hand-refused p l out₀ (a .e) (a .tick) (a .task) (a .demand) (a .tasks) (a .separations .now) (a .budgets .now) (a .offsets .now) (a .jobs .now)
+          (a .released .now) (a .last .now) (a .owners .now) (a .key .now) (a .left .now) (a .heads) (a .out .now) X _ _
+          (sym (hand-answer p l out₀ (a .e) (a .tick) (a .task) (a .demand) (a .tasks) (a .separations .now) (a .budgets .now) (a .offsets .now) (a .jobs .now)
+          (a .released .now) (a .last .now) (a .owners .now) (a .key .now) (a .left .now) (a .heads) (a .out .now) X (c .before .before .before .before .before .before .before .before .before .before .before .before .before .before .if1 .left) _ (c .before .before .before .before .before .before .before .before .admission-test .ensures)) ∙ ap outcomeOf told)
+          (c .before .before .before .put-refused2 .ensures
+          ∙ ap (λ (n : ℕ). sets (a .out .now) (8 * a .e) (reportBytes (refusal n))) (c .before .before .before .before .number .ensures ∙ ap numberOf told)),
+    )
 
 cast-owners : tie.Need-cast-owners
-cast-owners c = 
+cast-owners c =
     let a = c .before .before .before .before .before .before .before .before .before .before .args in
     let P = c .before .before .before .before .before .before .before .before .before .before .pre .2 in
-    omega (arith, hand-small (P .0) (P .1 .0) (P .1 .1 .0) (a .e) (a .tick) (a .task) (a .demand) (a .tasks) (a .separations .now) (a .budgets .now) (a .offsets .now) (a .jobs .now)
-    (a .released .now) (a .last .now) (a .owners .now) (a .key .now) (a .left .now) (a .heads) (a .out .now) (P .1 .1 .1))
+    omega (
+      arith,
+      hand-small (P .0) (P .1 .0) (P .1 .1 .0) (a .e) (a .tick) (a .task) (a .demand) (a .tasks) (a .separations .now) (a .budgets .now) (a .offsets .now) (a .jobs .now)
+          (a .released .now) (a .last .now) (a .owners .now) (a .key .now) (a .left .now) (a .heads) (a .out .now) (P .1 .1 .1),
+    )
 
 mul-owners : tie.Need-mul-owners
-mul-owners c = 
+mul-owners c =
     let r = admission-room _ _ _ _ _ _ _ (sym (c .before .before .admission-test .ensures) ∙ c .enum-told .given .1) in
     omega (arith, low (c .before .before .before .before .before .before .before .before), r)
 
 add-owners : tie.Need-add-owners
-add-owners c = 
+add-owners c =
     let r = admission-room _ _ _ _ _ _ _ (sym (c .before .before .admission-test .ensures) ∙ c .enum-told .given .1) in
     omega (arith, low (c .before .before .before .before .before .before .before .before), r)
 
 mul-owners-2 : tie.Need-mul-owners-2
-mul-owners-2 c = 
+mul-owners-2 c =
     let r = admission-room _ _ _ _ _ _ _ (sym (c .before .before .admission-test .ensures) ∙ c .enum-told .given .1) in
     omega (arith, low (c .before .before .before .before .before .before .before .before), r)
 
 element-write-owners : tie.Need-element-write-owners
-element-write-owners c = 
+element-write-owners c =
     let r = admission-room _ _ _ _ _ _ _ (sym (c .before .before .admission-test .ensures) ∙ c .enum-told .given .1) in
     omega (arith, low (c .before .before .before .before .before .before .before .before), r)
 
 add-jobs : tie.Need-add-jobs
-add-jobs c = 
+add-jobs c =
     let r = admission-room _ _ _ _ _ _ _ (sym (c .before .before .admission-test .ensures) ∙ c .enum-told .given .1) in
     omega (arith, low (c .before .before .before .before .before .before .before .before), r)
 
@@ -176,17 +185,20 @@ stay-requires-3 c κs = search needs
 
 returns-3 : tie.Need-returns-3
 unfolding row
-returns-3 c = 
+returns-3 c =
     let a = c .before .before .before .before .before .before .before .before .before .before .before .before .args in
     let P = c .before .before .before .before .before .before .before .before .before .before .before .before .pre in
-    rw (c .stay3 .ensures)
-    (P .0, P .1, refl,
-    λ p l out₀ X.
-    hand-behind p l out₀ (a .e) (a .tick) (a .task) (a .demand) (a .tasks) (a .separations .now) (a .budgets .now) (a .offsets .now) (a .jobs .now)
-    (a .released .now) (a .last .now) (a .owners .now) (a .key .now) (a .left .now) (a .heads) (a .out .now) X
-    (sym (hand-answer p l out₀ (a .e) (a .tick) (a .task) (a .demand) (a .tasks) (a .separations .now) (a .budgets .now) (a .offsets .now) (a .jobs .now)
-    (a .released .now) (a .last .now) (a .owners .now) (a .key .now) (a .left .now) (a .heads) (a .out .now) X (c .before .before .before .before .before .before .before .before .before .before .if1 .left) _ (c .before .before .before .before .admission-test .ensures)) ∙ ap outcomeOf (c .before .before .enum-told .given .1))
-    (c .before .if2 .taken))
+    rw (c .stay3 .ensures) (
+      P .0,
+      P .1,
+      refl,
+      λ p l out₀ X.
+          hand-behind p l out₀ (a .e) (a .tick) (a .task) (a .demand) (a .tasks) (a .separations .now) (a .budgets .now) (a .offsets .now) (a .jobs .now)
+          (a .released .now) (a .last .now) (a .owners .now) (a .key .now) (a .left .now) (a .heads) (a .out .now) X
+          (sym (hand-answer p l out₀ (a .e) (a .tick) (a .task) (a .demand) (a .tasks) (a .separations .now) (a .budgets .now) (a .offsets .now) (a .jobs .now)
+          (a .released .now) (a .last .now) (a .owners .now) (a .key .now) (a .left .now) (a .heads) (a .out .now) X (c .before .before .before .before .before .before .before .before .before .before .if1 .left) _ (c .before .before .before .before .admission-test .ensures)) ∙ ap outcomeOf (c .before .before .enum-told .given .1))
+          (c .before .if2 .taken),
+    )
 
 mul-point : tie.Need-mul-point
 mul-point c = omega (arith, low (c .before .before .before .before .before .before .before .before .before))
@@ -212,45 +224,53 @@ add-insert c = omega (arith, offset (c .before .before .before .before .before .
 
 insert-requires : tie.Need-insert-requires
 unfolding row
-insert-requires c κs = 
+insert-requires c κs =
     let a = c .before .before .before .before .before .before .before .before .before .before .before .before .before .before .args in
     let P = c .before .before .before .before .before .before .before .before .before .before .before .before .before .before .pre .2 in
     let X = P .1 .1 .1 in
     let t = (sym (hand-answer (P .0) (P .1 .0) (P .1 .1 .0) (a .e) (a .tick) (a .task) (a .demand) (a .tasks) (a .separations .now) (a .budgets .now) (a .offsets .now) (a .jobs .now)
-    (a .released .now) (a .last .now) (a .owners .now) (a .key .now) (a .left .now) (a .heads) (a .out .now) X (c .before .before .before .before .before .before .before .before .before .before .before .before .if1 .left) _ (c .before .before .before .before .before .before .admission-test .ensures)) ∙ ap outcomeOf (c .before .before .before .before .enum-told .given .1)) in
-    (hand-place (P .0) (P .1 .0) (P .1 .1 .0) (a .e) (a .tick) (a .task) (a .demand) (a .tasks) (a .separations .now) (a .budgets .now) (a .offsets .now) (a .jobs .now)
-    (a .released .now) (a .last .now) (a .owners .now) (a .key .now) (a .left .now) (a .heads) (a .out .now) X t (c .before .before .before .if2 .left),
-    hand-rises (P .0) (P .1 .0) (P .1 .1 .0) (a .e) (a .tick) (a .task) (a .demand) (a .tasks) (a .separations .now) (a .budgets .now) (a .offsets .now) (a .jobs .now)
-    (a .released .now) (a .last .now) (a .owners .now) (a .key .now) (a .left .now) (a .heads) (a .out .now) X t (c .before .before .before .if2 .left),
-    c .before .before .before .before .before .before .before .before .before .before .before .before .before .before .pre .0, c .before .before .before .before .before .before .before .before .before .before .before .before .before .before .pre .1)
+    (a .released .now) (a .last .now) (a .owners .now) (a .key .now) (a .left .now) (a .heads) (a .out .now) X (c .before .before .before .before .before .before .before .before .before .before .before .before .if1 .left) _ (c .before .before .before .before .before .before .admission-test .ensures)) ∙ ap outcomeOf (c .before .before .before .before .enum-told .given .1)) in (
+      hand-place (P .0) (P .1 .0) (P .1 .1 .0) (a .e) (a .tick) (a .task) (a .demand) (a .tasks) (a .separations .now) (a .budgets .now) (a .offsets .now) (a .jobs .now)
+          (a .released .now) (a .last .now) (a .owners .now) (a .key .now) (a .left .now) (a .heads) (a .out .now) X t (c .before .before .before .if2 .left),
+      hand-rises (P .0) (P .1 .0) (P .1 .1 .0) (a .e) (a .tick) (a .task) (a .demand) (a .tasks) (a .separations .now) (a .budgets .now) (a .offsets .now) (a .jobs .now)
+          (a .released .now) (a .last .now) (a .owners .now) (a .key .now) (a .left .now) (a .heads) (a .out .now) X t (c .before .before .before .if2 .left),
+      c .before .before .before .before .before .before .before .before .before .before .before .before .before .before .pre .0,
+      c .before .before .before .before .before .before .before .before .before .before .before .before .before .before .pre .1,
+    )
 
 add-stay : tie.Need-add-stay
 unfolding row
-add-stay c = 
+add-stay c =
     let a = c .before .before .before .before .before .before .before .before .before .before .before .before .before .before .before .args in
     let P = c .before .before .before .before .before .before .before .before .before .before .before .before .before .before .before .pre .2 in
     let X = P .1 .1 .1 in
     let t = (sym (hand-answer (P .0) (P .1 .0) (P .1 .1 .0) (a .e) (a .tick) (a .task) (a .demand) (a .tasks) (a .separations .now) (a .budgets .now) (a .offsets .now) (a .jobs .now)
     (a .released .now) (a .last .now) (a .owners .now) (a .key .now) (a .left .now) (a .heads) (a .out .now) X (c .before .before .before .before .before .before .before .before .before .before .before .before .before .if1 .left) _ (c .before .before .before .before .before .before .before .admission-test .ensures)) ∙ ap outcomeOf (c .before .before .before .before .before .enum-told .given .1)) in
-    omega (arith, hand-place (P .0) (P .1 .0) (P .1 .1 .0) (a .e) (a .tick) (a .task) (a .demand) (a .tasks) (a .separations .now) (a .budgets .now) (a .offsets .now) (a .jobs .now)
-    (a .released .now) (a .last .now) (a .owners .now) (a .key .now) (a .left .now) (a .heads) (a .out .now) X t (c .before .before .before .before .if2 .left))
+    omega (
+      arith,
+      hand-place (P .0) (P .1 .0) (P .1 .1 .0) (a .e) (a .tick) (a .task) (a .demand) (a .tasks) (a .separations .now) (a .budgets .now) (a .offsets .now) (a .jobs .now)
+          (a .released .now) (a .last .now) (a .owners .now) (a .key .now) (a .left .now) (a .heads) (a .out .now) X t (c .before .before .before .before .if2 .left),
+    )
 
 stay-requires-4 : tie.Need-stay-requires-4
 stay-requires-4 c κs = search needs
 
 returns-4 : tie.Need-returns-4
 unfolding row
-returns-4 c = 
+returns-4 c =
     let a = c .before .before .before .before .before .before .before .before .before .before .before .before .before .before .before .before .args in
     let I = c .before .insert .ensures in
-    rw (c .stay4 .ensures)
-    (I .1, I .2, refl,
-    λ p l out₀ X.
-    hand-first p l out₀ (a .e) (a .tick) (a .task) (a .demand) (a .tasks) (a .separations .now) (a .budgets .now) (a .offsets .now) (a .jobs .now)
-    (a .released .now) (a .last .now) (a .owners .now) (a .key .now) (a .left .now) (a .heads) (a .out .now) X
-    (sym (hand-answer p l out₀ (a .e) (a .tick) (a .task) (a .demand) (a .tasks) (a .separations .now) (a .budgets .now) (a .offsets .now) (a .jobs .now)
-    (a .released .now) (a .last .now) (a .owners .now) (a .key .now) (a .left .now) (a .heads) (a .out .now) X (c .before .before .before .before .before .before .before .before .before .before .before .before .before .before .if1 .left) _ (c .before .before .before .before .before .before .before .before .admission-test .ensures)) ∙ ap outcomeOf (c .before .before .before .before .before .before .enum-told .given .1))
-    (c .before .before .before .before .before .if2 .left) _ _ (c .before .before .before .before .before .before .before .before .before .before .before .before .before .before .if1 .left) (I .0))
+    rw (c .stay4 .ensures) (
+      I .1,
+      I .2,
+      refl,
+      λ p l out₀ X.
+          hand-first p l out₀ (a .e) (a .tick) (a .task) (a .demand) (a .tasks) (a .separations .now) (a .budgets .now) (a .offsets .now) (a .jobs .now)
+          (a .released .now) (a .last .now) (a .owners .now) (a .key .now) (a .left .now) (a .heads) (a .out .now) X
+          (sym (hand-answer p l out₀ (a .e) (a .tick) (a .task) (a .demand) (a .tasks) (a .separations .now) (a .budgets .now) (a .offsets .now) (a .jobs .now)
+          (a .released .now) (a .last .now) (a .owners .now) (a .key .now) (a .left .now) (a .heads) (a .out .now) X (c .before .before .before .before .before .before .before .before .before .before .before .before .before .before .if1 .left) _ (c .before .before .before .before .before .before .before .before .admission-test .ensures)) ∙ ap outcomeOf (c .before .before .before .before .before .before .enum-told .given .1))
+          (c .before .before .before .before .before .if2 .left) _ _ (c .before .before .before .before .before .before .before .before .before .before .before .before .before .before .if1 .left) (I .0),
+    )
 
 pub hand-spec : {M : Type 1} → statement M
 hand-spec =

@@ -29,9 +29,13 @@ loop-holds c =
 leap-requires : tie.Need-leap-requires Inv-loop μ-loop
 leap-requires c κs =
     let a = c .before .before .before .before .before .before .before .before .before .args in
-    let l = c .before .before .before .before .before .before .loop in
-    (l .inv .3, l .inv .4, omega arith, advanced-ready (a .log .now) (a .cores) (a .offsets .now) (a .from) (a .to) (a .jobs .now) (a .owners .now) (a .key .now) (a .left .now) (a .heads) (a .out .now)
-    (l .clock) (l .jobs) (l .owners) (l .key) (l .left) (l .count) (l .out) (l .inv .0) (l .inv .5) (c .before .before .before .before .before .before .before .before .before .pre .3))
+    let l = c .before .before .before .before .before .before .loop in (
+      l .inv .3,
+      l .inv .4,
+      omega arith,
+      advanced-ready (a .log .now) (a .cores) (a .offsets .now) (a .from) (a .to) (a .jobs .now) (a .owners .now) (a .key .now) (a .left .now) (a .heads) (a .out .now)
+          (l .clock) (l .jobs) (l .owners) (l .key) (l .left) (l .count) (l .out) (l .inv .0) (l .inv .5) (c .before .before .before .before .before .before .before .before .before .pre .3),
+    )
 
 loop-less : tie.Need-loop-less Inv-loop μ-loop
 loop-less c =
@@ -42,10 +46,15 @@ loop-again : tie.Need-loop-again Inv-loop μ-loop
 loop-again c =
     let a = c .before .before .before .before .before .before .before .before .before .before .before .before .args in
     let l = c .before .before .before .before .before .before .before .before .before .loop in
-    let g = c .before .before .leap .ensures in
-    (omega (arith, g .2 .onward), g .2 .within, search needs, g .0, g .1,
-    advanced-more (a .log .now) (a .cores) (a .offsets .now) (a .from) (a .to) (a .jobs .now) (a .owners .now) (a .key .now) (a .left .now) (a .heads) (a .out .now)
-    (l .clock) (l .jobs) (l .owners) (l .key) (l .left) (l .count) (l .out) (l .inv .0) (l .inv .5) _ _ _ _ _ _ _ (g .2))
+    let g = c .before .before .leap .ensures in (
+      omega (arith, g .2 .onward),
+      g .2 .within,
+      search needs,
+      g .0,
+      g .1,
+      advanced-more (a .log .now) (a .cores) (a .offsets .now) (a .from) (a .to) (a .jobs .now) (a .owners .now) (a .key .now) (a .left .now) (a .heads) (a .out .now)
+          (l .clock) (l .jobs) (l .owners) (l .key) (l .left) (l .count) (l .out) (l .inv .0) (l .inv .5) _ _ _ _ _ _ _ (g .2),
+    )
 
 same-length : tie.Need-same-length Inv-loop μ-loop
 same-length c = search needs

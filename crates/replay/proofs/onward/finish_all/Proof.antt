@@ -33,9 +33,12 @@ finish-requires : tie.Need-finish-requires Inv-loop μ-loop
 unfolding row
 finish-requires c κs =
     let a = c .before .before .before .before .before .before .before .before .before .before .args in
-    let l = c .before .before .before .before .before .before .before .loop in
-    (l .inv .2, l .inv .3, all-one (a .done .now) (a .finished) (a .clock) (a .log .now) (a .offsets .now) (a .jobs .now) (a .owners .now) (a .key .now) (a .left .now)
-    (a .heads) (a .out .now) (l .a) (l .jobs) (l .owners) (l .key) (l .left) (l .count) (l .out) (omega arith) (l .inv .4) (c .before .before .before .before .before .before .before .before .before .before .pre .3))
+    let l = c .before .before .before .before .before .before .before .loop in (
+      l .inv .2,
+      l .inv .3,
+      all-one (a .done .now) (a .finished) (a .clock) (a .log .now) (a .offsets .now) (a .jobs .now) (a .owners .now) (a .key .now) (a .left .now)
+          (a .heads) (a .out .now) (l .a) (l .jobs) (l .owners) (l .key) (l .left) (l .count) (l .out) (omega arith) (l .inv .4) (c .before .before .before .before .before .before .before .before .before .before .pre .3),
+    )
 
 add-a : tie.Need-add-a Inv-loop μ-loop
 add-a c = search needs
@@ -48,9 +51,14 @@ unfolding row
 loop-again c =
     let a = c .before .before .before .before .before .before .before .before .before .before .before .before .before .args in
     let l = c .before .before .before .before .before .before .before .before .before .before .loop in
-    let g = c .before .before .finish .ensures in
-    (omega arith, search needs, g .0, g .1, all-more (a .done .now) (a .finished) (a .clock) (a .log .now) (a .offsets .now) (a .jobs .now) (a .owners .now) (a .key .now) (a .left .now)
-    (a .heads) (a .out .now) (l .a) (l .jobs) (l .owners) (l .key) (l .left) (l .count) (l .out) (omega arith) (l .inv .4) _ _ _ _ _ _ (g .2))
+    let g = c .before .before .finish .ensures in (
+      omega arith,
+      search needs,
+      g .0,
+      g .1,
+      all-more (a .done .now) (a .finished) (a .clock) (a .log .now) (a .offsets .now) (a .jobs .now) (a .owners .now) (a .key .now) (a .left .now)
+          (a .heads) (a .out .now) (l .a) (l .jobs) (l .owners) (l .key) (l .left) (l .count) (l .out) (omega arith) (l .inv .4) _ _ _ _ _ _ (g .2),
+    )
 
 same-length : tie.Need-same-length Inv-loop μ-loop
 same-length c = search needs

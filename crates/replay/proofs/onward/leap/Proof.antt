@@ -13,45 +13,50 @@ sub-least : tie.Need-sub-least
 sub-least c = search needs
 
 least-requires : tie.Need-least-requires
-least-requires c κs = 
+least-requires c κs =
     let a = c .before .before .before .before .args in
     let P = c .before .before .before .before .pre in
     let n = ready-few (P .3 .0) (a .log .now) (a .cores) (a .offsets .now) (a .clock) (a .to) (a .jobs .now) (a .owners .now) (a .key .now) (a .left .now) (a .heads) (a .out .now) (P .3 .1) in
     omega (arith, n, c .fewer .ensures)
 
-add-clock : tie.Need-add-clock
-add-clock c = 
+add-reached : tie.Need-add-reached
+add-reached c =
     let a = c .before .before .before .before .before .args in
     let P = c .before .before .before .before .before .pre in
     let t = leap-in (P .3 .0) (a .log .now) (a .cores) (a .offsets .now) (a .clock) (a .to) (a .jobs .now) (a .owners .now) (a .key .now) (a .left .now) (a .heads) (a .out .now) (P .3 .1) (P .2) _ _ (c .before .fewer .ensures) (c .least .ensures) in
     omega (arith, t .1, P .3 .1 .limit)
 
 settle-requires : tie.Need-settle-requires
-settle-requires c κs = 
+settle-requires c κs =
     let a = c .before .before .before .before .before .before .before .before .args in
     let P = c .before .before .before .before .before .before .before .before .pre in
     (ready-few (P .3 .0) (a .log .now) (a .cores) (a .offsets .now) (a .clock) (a .to) (a .jobs .now) (a .owners .now) (a .key .now) (a .left .now) (a .heads) (a .out .now) (P .3 .1), P .0, P .1, search needs)
 
 finish-all-requires : tie.Need-finish-all-requires
-finish-all-requires c κs = 
+finish-all-requires c κs =
     let a = c .before .before .before .before .before .before .before .before .before .before .before .before .before .before .before .args in
     let P = c .before .before .before .before .before .before .before .before .before .before .before .before .before .before .before .pre in
     let s = c .before .before .before .before .before .before .settle .ensures in
-    let n = ready-few (P .3 .0) (a .log .now) (a .cores) (a .offsets .now) (a .clock) (a .to) (a .jobs .now) (a .owners .now) (a .key .now) (a .left .now) (a .heads) (a .out .now) (P .3 .1) in
-    (omega (arith, s .3, n), s .5, s .6,
-    leap-finishing (P .3 .0) (a .log .now) (a .cores) (a .offsets .now) (a .clock) (a .to) (a .jobs .now) (a .owners .now) (a .key .now) (a .left .now) (a .heads) (a .out .now) (P .3 .1) (P .2) _ _ (c .before .before .before .before .before .before .before .before .before .before .before .fewer .ensures) (c .before .before .before .before .before .before .before .before .before .before .least .ensures) _ _ _ (s .0) _ _ (s .1))
+    let n = ready-few (P .3 .0) (a .log .now) (a .cores) (a .offsets .now) (a .clock) (a .to) (a .jobs .now) (a .owners .now) (a .key .now) (a .left .now) (a .heads) (a .out .now) (P .3 .1) in (
+      omega (arith, s .3, n),
+      s .5,
+      s .6,
+      leap-finishing (P .3 .0) (a .log .now) (a .cores) (a .offsets .now) (a .clock) (a .to) (a .jobs .now) (a .owners .now) (a .key .now) (a .left .now) (a .heads) (a .out .now) (P .3 .1) (P .2) _ _ (c .before .before .before .before .before .before .before .before .before .before .before .fewer .ensures) (c .before .before .before .before .before .before .before .before .before .before .least .ensures) _ _ _ (s .0) _ _ (s .1),
+    )
 
 same-length : tie.Need-same-length
 same-length c = search needs
 
 returns : tie.Need-returns
-returns c = 
+returns c =
     let a = c .before .before .before .before .before .before .before .before .before .before .before .before .before .before .before .before .before .before .args in
     let P = c .before .before .before .before .before .before .before .before .before .before .before .before .before .before .before .before .before .before .pre in
     let s = c .before .before .before .before .before .before .before .before .before .settle .ensures in
-    let f = c .before .before .finish-all .ensures in
-    (f .0, f .1,
-    leap-made (a .log .now) (a .cores) (a .offsets .now) (a .clock) (a .to) (a .jobs .now) (a .owners .now) (a .key .now) (a .left .now) (a .heads) (a .out .now) (P .3) (P .2) _ _ (c .before .before .before .before .before .before .before .before .before .before .before .before .before .before .fewer .ensures) (c .before .before .before .before .before .before .before .before .before .before .before .before .before .least .ensures) _ _ _ (s .0) _ _ (s .1) _ _ _ _ _ _ (f .2))
+    let f = c .before .before .finish-all .ensures in (
+      f .0,
+      f .1,
+      leap-made (a .log .now) (a .cores) (a .offsets .now) (a .clock) (a .to) (a .jobs .now) (a .owners .now) (a .key .now) (a .left .now) (a .heads) (a .out .now) (P .3) (P .2) _ _ (c .before .before .before .before .before .before .before .before .before .before .before .before .before .before .fewer .ensures) (c .before .before .before .before .before .before .before .before .before .before .before .before .before .least .ensures) _ _ _ (s .0) _ _ (s .1) _ _ _ _ _ _ (f .2),
+    )
 
 pub leap-spec : {M : Type 1} → statement M
 leap-spec =
@@ -60,7 +65,7 @@ leap-spec =
     fewer-requires
     sub-least
     least-requires
-    add-clock
+    add-reached
     settle-requires
     finish-all-requires
     same-length

@@ -43,8 +43,7 @@ advance-requires c κs =
     let s = c .before .before .before .before .before .before .before .before .before .before .before .before .before .before .before .before .before .before .before .before .before .before .split .ensures in
     let B = run-begun (a .plan) (a .out .now) (a .log .now) (a .count) _ _ _ _ _ (b .pre .0) (b .pre .1) (b .pre .2)
     (ap (λ (x : Columns). x .separation) s) (ap (λ (x : Columns). x .budget) s) (ap (λ (x : Columns). x .offset) s) in
-    let X = c .before .before .before .before .before .before .before .before .enter-all .ensures .2 (a .plan) (a .out .now) B in
-    (
+    let X = c .before .before .before .before .before .before .before .before .enter-all .ensures .2 (a .plan) (a .out .now) B in (
       c .before .before .before .before .before .before .before .before .enter-all .ensures .0,
       c .before .before .before .before .before .before .before .before .enter-all .ensures .1,
       omega arith,
@@ -62,8 +61,7 @@ returns c =
     let s = c .before .before .before .before .before .before .before .before .before .before .before .before .before .before .before .before .before .before .before .before .before .before .before .before .before .split .ensures in
     let B = run-begun (a .plan) (a .out .now) (a .log .now) (a .count) _ _ _ _ _ (b .pre .0) (b .pre .1) (b .pre .2)
     (ap (λ (x : Columns). x .separation) s) (ap (λ (x : Columns). x .budget) s) (ap (λ (x : Columns). x .offset) s) in
-    let X = c .before .before .before .before .before .before .before .before .before .before .before .enter-all .ensures .2 (a .plan) (a .out .now) B in
-    (
+    let X = c .before .before .before .before .before .before .before .before .before .before .before .enter-all .ensures .2 (a .plan) (a .out .now) B in (
       X .1 ∙ ap (takenTo (a .plan) (entriesIn (a .log .now))) (b .pre .1),
       run-end (a .plan) (a .out .now) (a .log .now) (a .count) _ _ _ _ _ _ _ _ _ _ _ _ (X .0) (B .columns) (b .pre .2) (b .pre .1) _ _ _ _ _ _ (c .before .before .advance .ensures .2),
     )
