@@ -2,6 +2,7 @@
 --     Overs x g …            the loops in the first f places of `done` finish in the tick after g, each once
 --     AllFinishing, AllFinished      what the code that notes them needs and gives
 --     all-none, all-one, all-more    before the first; the next may be noted; one more
+--     leap-fewer             a leap that stops before its goal finishes a job
 --     leap-made              what the code of a leap gives
 use Prim.Native.Nat.{ℕ, zero, suc, _+_, _-_, _*_, _≤_, _<_, min}
 use mathlib.Core.Bool.{Bool, true, false, _||_}
@@ -10,15 +11,18 @@ use mathlib.Core.List.{List}
 use native.Mathlib.Numerals.{add-one}
 use native.Mathlib.Omega.{arith}
 use lib.ListN.{length}
-use lib.Dec.{eqb}
+use lib.Dec.{ltb, eqb}
+use borrow.Author.Tests.{ltb-true, ltb-false}
 use Rattle.tasks.specs.TaskSet.{row}
 use Rattle.history.specs.Engine.{Call}
 use Rattle.history.specs.Log.{wait}
 use Rattle.heads.specs.Order.{lowest, Settles, Finishes}
-use Rattle.running.specs.BookLaws.{ended, andOne}
-use Rattle.running.specs.Leap.{Standing, Frame, Ready, Reaches, Turning, Leapt}
-use Rattle.running.specs.FinishCode.{Over, Finishing, Finished}
-use Rattle.running.specs.LeapLaws.{goneTo, leap-ticks, turning-none, done-ended, done-new, turning-end}
+use Rattle.running.specs.Running.{countsIn}
+use Rattle.running.specs.BookLaws.{ended, andOne, ownersNow}
+use Rattle.running.specs.Leap.{Standing, Frame, Ready, Reaches, Turning, pendingIn, Fewer, Leapt}
+use Rattle.running.specs.PendingLaws.{pending-kept, pending-less, lowest-stops, work-none}
+use Rattle.running.specs.FinishCode.{Over, Finishing, Finished, finishing-low}
+use Rattle.running.specs.LeapLaws.{goneTo, in-gone, leap-ticks, turning-none, done-ended, done-new, turning-end}
 
 pub record Overs (x : Standing) (g : List Call) (cores : ℕ) (bytes offsets done : List ℕ) (f : ℕ) : Type 0 where
   pub frame : Frame x bytes cores offsets
@@ -109,6 +113,30 @@ module _ (x : Standing) (bytes : List ℕ) (cores : ℕ) (offsets : List ℕ) (c
         turning-end x bytes cores offsets clock to jobs owners key left n out R less r d r-is d-is (d - 1) next key′ left′ c S done f D (clock + d)
         jobs′ owners′ key″ left″ n″ out″ (A x g cores overs begun)
 
+    pub leap-fewer :
+        (jobs′ owners′ key″ left″ : List ℕ) (n″ : ℕ) (out″ : List ℕ)
+        → AllFinished done f (clock + d) bytes offsets jobs owners key′ left′ c out f jobs′ owners′ key″ left″ n″ out″
+        → Fewer to (clock + d) jobs jobs′
+    leap-fewer jobs′ owners′ key″ left″ n″ out″ A = go (ltb (clock + d) to) refl
+      where
+        now-are : jobs′ ≡ countsIn (ownersNow (x .plan) (x .log) (x .lent) (x .owners) (goneTo done f))
+        now-are = A x g cores overs begun .counts-are
+
+        go : (b : Bool) → ltb (clock + d) to ≡ b → Fewer to (clock + d) jobs jobs′
+        go false q =
+            let kept = pending-kept (x .plan) (x .log) (x .lent) (x .owners) (goneTo done f) in
+            rw (now-are, R .stands .counts-are) (omega (arith, kept, ltb-false (clock + d) to q))
+        go true q =
+            let l = lowest-stops left (to - clock) r (omega (arith, d-is, ltb-true (clock + d) to q)) in
+            let some = D .all (l .0) (omega (arith, l .1)) (work-none left cores d (l .0) (omega (arith, l .1)) (l .2 ∙ sym d-is)) in
+            let first =
+            finishing-low (row done 0) (clock + d) bytes offsets jobs owners key′ left′ c out
+            (all-one done f (clock + d) bytes offsets jobs owners key′ left′ c out 0 jobs owners key′ left′ c out (omega (arith, some .1))
+            (all-none done f (clock + d) bytes offsets jobs owners key′ left′ c out) leap-finishing) in
+            let less = pending-less (x .plan) (x .log) (x .lent) (x .owners) (goneTo done f) (row done 0) (first .0) (in-gone done f 0 (omega (arith, some .1)))
+            (rw (R .stands .counts-are) at (first .1)) in
+            rw (now-are, R .stands .counts-are) (omega (arith, less))
+
 pub leap-made :
     (bytes : List ℕ) (cores : ℕ) (offsets : List ℕ) (clock to : ℕ) (jobs owners key left : List ℕ) (n : ℕ) (out : List ℕ)
     → ((x : Standing) × Ready x bytes cores offsets clock to jobs owners key left n out) → clock < to → (r d : ℕ) → r ≡ min cores n
@@ -122,6 +150,8 @@ leap-made bytes cores offsets clock to jobs owners key left n out P less r d r-i
     record {
       onward = omega (arith, b .0);
       within = b .1;
+      fewer =
+          leap-fewer (P .0) bytes cores offsets clock to jobs owners key left n out (P .1) less r d r-is d-is key′ left′ c S done f D jobs′ owners′ key″ left″ n″ out″ A;
       reaches = λ x R.
           subst (λ m. Reaches x m jobs′ owners′ key″ left″ n″ out″) (sym back)
           (leap-reaches x bytes cores offsets clock to jobs owners key left n out R less r d r-is d-is key′ left′ c S done f D jobs′ owners′ key″ left″ n″ out″ A);

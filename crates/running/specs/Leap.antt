@@ -7,12 +7,14 @@
 --     Reaches x …          the arrays are those of some steps later, with some owners
 --     Turning x g gone …   in the midst of a leap: its last tick is made after the calls g, and of the loops that finish in it those in `gone` are
 --                          noted
+--     pendingIn jobs       how many jobs are pending; Fewer: fewer after a leap, unless it came to its goal
 --     Leapt, Advanced      what the code of a leap, and of the leaps up to a tick, gives
-use Prim.Native.Nat.{ℕ, suc, _+_, _-_, _*_, _≤_, _<_}
+use Prim.Native.Nat.{ℕ, suc, _+_, _-_, _*_, _≤_, _<_, min}
 use mathlib.Core.Bool.{Bool, true, not, _&&_}
 use mathlib.Core.Path.{_≡_}
 use mathlib.Core.List.{List, _∷_}
 use lib.ListN.{length}
+use Rattle.laws.specs.Sum.{sum}
 use Rattle.tasks.specs.declared.Plan.{Plan}
 use Rattle.tasks.specs.declared.Answer.the-variants.{Accepted}
 use Rattle.tasks.specs.TaskSet.{row}
@@ -86,10 +88,19 @@ pub record Turning (x : Standing) (g : List Call) (gone : ℕ → Bool) (now : �
 
 -- ---- what the code gives
 
+-- how many jobs are pending, by the loops' numbers of them
+unfoldable pub pendingIn : List ℕ → ℕ
+pendingIn jobs = sum (row jobs) 16
+
+-- fewer are, unless the clock has come to `to`: a leap that stops before that finishes a job
+abbrev pub Fewer : ℕ → ℕ → List ℕ → List ℕ → Type 0
+Fewer to now jobs jobs′ = pendingIn jobs′ + min 1 (to - now) ≤ pendingIn jobs
+
 pub record Leapt (bytes : List ℕ) (cores : ℕ) (offsets : List ℕ) (clock to : ℕ) (jobs owners key left : List ℕ) (n : ℕ) (out : List ℕ)
     (now : ℕ) (jobs′ owners′ key′ left′ : List ℕ) (n′ : ℕ) (out′ : List ℕ) : Type 0 where
   pub onward : clock < now
   pub within : now ≤ to
+  pub fewer : Fewer to now jobs jobs′
   pub reaches :
       (x : Standing) → Ready x bytes cores offsets clock to jobs owners key left n out → Reaches x (now - clock) jobs′ owners′ key′ left′ n′ out′
 

@@ -75,7 +75,7 @@ gone-in done j (suc a) q = go (goneTo done a j) refl (eqb j (row done a)) refl (
     go false y true w ih = (a, omega arith, eqb-true j (row done a) w)
     go false y false w ih = absurd (false≢true (sym (rw (y, w)) ∙ q))
 
-in-gone : (done : List ℕ) (a b : ℕ) → b < a → goneTo done a (row done b) ≡ true
+pub in-gone : (done : List ℕ) (a b : ℕ) → b < a → goneTo done a (row done b) ≡ true
 unfolding goneTo
 in-gone done zero b l = absurd (omega arith)
 in-gone done (suc a) b l =

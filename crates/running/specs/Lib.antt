@@ -5,6 +5,7 @@ pub mod OwnerLaws
 pub mod BookLaws
 pub mod EnterLaws
 pub mod Leap
+pub mod PendingLaws
 pub mod FinishLaws
 pub mod FinishCode
 pub mod LeapLaws

@@ -1,9 +1,10 @@
--- `replay::onward::advance` meets its contract; the loop's invariant says where the leaps so far have led.
-use Rattle.running.specs.Leap.{Advanced}
+-- `replay::onward::advance` meets its contract; the loop's invariant says where the leaps so far have led, its measure that they
+-- are at most one more than the jobs that finish.
+use Rattle.running.specs.Leap.{pendingIn, Advanced}
 use Rattle.running.specs.ReadyLaws.{advanced-none, advanced-ready, advanced-more}
 use borrow.Author.Needs.{needs}
 use native.Mathlib.Omega.{arith}
-use Prim.Native.Nat.{ℕ, _≤_, _-_}
+use Prim.Native.Nat.{ℕ, _+_, _≤_, _-_, min}
 use mathlib.Core.Path.{_≡_, refl}
 use lib.ListN.{length}
 use Rattle.replay.proofs.onward.advance.Statement.{statement}
@@ -19,7 +20,8 @@ Inv-loop from to cores log offsets jobs₀ owners₀ key₀ left₀ heads out₀
     × Advanced log cores offsets from to jobs₀ owners₀ key₀ left₀ heads out₀ clock jobs owners key left count out
 
 abbrev μ-loop : tie.MeasureT-loop
-μ-loop from to cores log offsets jobs₀ owners₀ key₀ left₀ heads out₀ clock₀ count₀ jobs owners key left out clock count = to - clock
+μ-loop from to cores log offsets jobs₀ owners₀ key₀ left₀ heads out₀ clock₀ count₀ jobs owners key left out clock count =
+    pendingIn jobs + min 1 (to - clock)
 
 loop-holds : tie.Need-loop-holds Inv-loop μ-loop
 loop-holds c =
@@ -40,7 +42,7 @@ leap-requires c κs =
 loop-less : tie.Need-loop-less Inv-loop μ-loop
 loop-less c =
     let g = c .before .before .leap .ensures .2 in
-    omega (arith, g .onward, g .within)
+    omega (arith, g .fewer)
 
 loop-again : tie.Need-loop-again Inv-loop μ-loop
 loop-again c =
