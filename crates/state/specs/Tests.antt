@@ -1,6 +1,5 @@
 -- The tests of soundness over a state's arrays, as its code takes them, and how a test over all indices is made.
 --     labelZero, taskZero, loopHolds, placeHolds      the test at one index
---     tidy-tests, loops-tests, places-tests           they are those of a state
 --     all-more, all-fails                             one index more; one that fails
 --     sound-parts                                     soundness by its five parts
 use Prim.Native.Nat.{ℕ, _+_, _-_, _*_, _/_, _%_, _<_}

@@ -1,9 +1,11 @@
 -- The two views of a state: what each array of a machine's state reads, and both round trips.
---     row-jobs, flag-at, row-last, row-remaining, row-release      each array of a machine's state, read at a loop or a place
+--     job-at            a job place of a machine's state is a place of the loop's queue; place-of: so it is read back
+--     row-jobs, flag-in, row-last, row-remaining, row-release      each array of a machine's state, read at a loop or a place
 --     machine-back      a machine of at most 16 jobs a loop, idle from loop 16 on, is the machine of its state
---     Backed s          what state-back uses of soundness: zeros in the unused job places, and tick 0 under a clear flag
---     state-back        such a state is the state of its machine
---     stateOf-shaped    a machine's state has the arrays' lengths
+--     machine-ext       machines with the same clock and the same lanes are one
+--     Backed s          what state-backed uses of soundness: zeros in the unused job places, and tick 0 under a clear flag
+--     state-backed      such a state is the state of its machine
+--     shaped-state      a machine's state has the arrays' lengths
 use Prim.Native.Nat.{ℕ, _+_, _*_, _/_, _%_, _≤_, _<_}
 use mathlib.Core.Bool.{Bool, true, false}
 use mathlib.Core.Path.{_≡_, refl, sym, ap, _∙_}
