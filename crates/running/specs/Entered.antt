@@ -22,7 +22,7 @@ use Rattle.tasks.specs.declared.Answer.the-variants.{Accepted}
 use Rattle.tasks.specs.TaskSet.{TaskSet, row}
 use Rattle.tasks.specs.Content.{taskOf, contentOf, tidy}
 use Rattle.tasks.specs.Tests.{testPlan}
-use Rattle.machine.specs.Machine.{Job, job, Lane, Machine, opened, full, joined, admitted, pending, waiting, headRelease, point}
+use Rattle.machine.specs.Machine.{Job, job, Lane, Machine, full, joined, admitted, pending, waiting, headRelease, point}
 use Rattle.machine.specs.Sound.{reached-sound}
 use Rattle.state.specs.State.{flagOf, tickOf, releasedIn, lastIn}
 use Rattle.state.specs.FitLaws.{plan-limits}
@@ -42,6 +42,7 @@ use Rattle.history.specs.Refusals.{last-wait}
 use Rattle.history.specs.Owners.{owned-length}
 use Rattle.logs.specs.LogBytes.{entriesIn, reportBytes}
 use Rattle.running.specs.Running.{Running}
+use Rattle.running.specs.WaitLaws.{waits-known}
 use Rattle.running.specs.OwnerLaws.{joined-owners, count-at, counts-more}
 use Rattle.running.specs.EnterLaws.{Recent, book-refused, book-taken, ownersWith}
 use Rattle.running.specs.Leap.{Standing, Ready, Reaches}
@@ -318,17 +319,9 @@ module _ (p : Plan) (l : List Entry) (out₀ : List ℕ) where
             apart j false q w = q
 
         waits-low : (j : ℕ) → waiting (admitted i c machineAt) j ≡ true → j < 16
-        unfolding waiting opened
-        waits-low j w = go (ltb j (s .count)) refl
-          where
-            go : (b : Bool) → ltb j (s .count) ≡ b → j < 16
-            go true q = omega (arith, ltb-true j (s .count) q, plan-limits p (X .fitting .accepted) .tasks-high)
-            go false q =
-                absurd
-                (true≢false
-                (sym w
-                ∙ ap (λ (a : Machine). pending (a .lane j .queue)) (sym next-machine)
-                ∙ ap (λ (a : Lane). pending (a .queue)) (reached-sound s (reached s (calls l (suc e))) .unused j (ltb-false j (s .count) q))))
+        waits-low j w =
+            let k = waits-known s (calls l (suc e)) j (ap (λ (a : Machine). waiting a j) next-machine ∙ w) in
+            omega (arith, k, plan-limits p (X .fitting .accepted) .tasks-high)
 
         pub taken-place : n < 16
         taken-place = room-for s (admitted i c machineAt) (λ j. eqb j i) key left n waits-low others i low (eq-eqb i i refl)

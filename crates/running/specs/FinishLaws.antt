@@ -16,7 +16,7 @@ use Rattle.tasks.specs.declared.Task.{Task}
 use Rattle.tasks.specs.declared.Plan.{Plan}
 use Rattle.tasks.specs.TaskSet.{TaskSet, row}
 use Rattle.tasks.specs.Content.{taskOf, contentOf}
-use Rattle.machine.specs.Machine.{Job, job, Lane, Machine, opened, pending, waiting, headRelease, point, runs, served, advanced, tick}
+use Rattle.machine.specs.Machine.{Job, job, Lane, Machine, pending, waiting, headRelease, point, runs, served, advanced, tick}
 use Rattle.machine.specs.Sound.{Rising, reached-sound}
 use Rattle.state.specs.Fit.{Fit}
 use Rattle.state.specs.KeptLaws.{reached-fit}
@@ -37,6 +37,7 @@ use Rattle.heads.specs.Order.{keyOf, headWork, Heads, Inserted}
 use Rattle.heads.specs.HeadLaws.{without, inserted, left-out}
 use Rattle.heads.specs.RoomLaws.{room-for}
 use Rattle.running.specs.Running.{ownersIn, countsIn, Whole, Rooted, Book}
+use Rattle.running.specs.WaitLaws.{waits-known}
 use Rattle.running.specs.OwnerLaws.{owner-at, moved-owners, count-at, less-one, counts-less}
 use Rattle.running.specs.BookLaws.{book-few, ended, ownersNow, andOne, Stage, ended-known, some-owner, first-early, stage-more}
 use Rattle.running.specs.Leap.{Standing, Frame, Turning}
@@ -80,13 +81,7 @@ module _ (x : Standing) (g : List Call) (gone : ℕ → Bool) (now : ℕ) (jobs 
 
   -- nobody beyond the table waits
   waits-low : (j : ℕ) → waiting N j ≡ true → j < 16
-  unfolding waiting opened
-  waits-low j w = go (ltb j (s .count)) refl
-    where
-      go : (b : Bool) → ltb j (s .count) ≡ b → j < 16
-      go true q = omega (arith, ltb-true j (s .count) q, plan-limits p (F .accepted) .tasks-high)
-      go false q =
-          absurd (false≢true (sym (ap (λ (a : Lane). pending (a .queue)) (reached-sound s (reached s (step ∷ g)) .unused j (ltb-false j (s .count) q))) ∙ w))
+  waits-low j w = omega (arith, waits-known s (step ∷ g) j w, plan-limits p (F .accepted) .tasks-high)
 
   module _ (i : ℕ) (fin : over i ≡ true) (new : gone i ≡ false) where
     known : i < s .count

@@ -18,7 +18,7 @@ use borrow.Author.Tests.{ltb-true, ltb-false, lt-ltb, le-ltb, leb-true, le-leb, 
 use Rattle.tasks.specs.declared.Plan.{Plan}
 use Rattle.tasks.specs.TaskSet.{TaskSet, row}
 use Rattle.tasks.specs.Content.{contentOf}
-use Rattle.machine.specs.Machine.{Job, job, Lane, Machine, opened, pending, waiting, point, runs, leftOf, served, advanced, tick}
+use Rattle.machine.specs.Machine.{Job, job, Lane, Machine, pending, waiting, point, runs, leftOf, served, advanced, tick}
 use Rattle.machine.specs.Sound.{reached-sound}
 use Rattle.machine.specs.Choice.{earliest}
 use Rattle.state.specs.FitLaws.{in-cores, plan-limits}
@@ -35,6 +35,7 @@ use Rattle.heads.specs.HeadLaws.{Ticks, over, settled, after-here, over-here}
 use Rattle.running.specs.Lower.{lowerHead, lowered}
 use Rattle.running.specs.LowerLaws.{MoreThan, lowered-runs, wait-lowered}
 use Rattle.running.specs.Running.{Book}
+use Rattle.running.specs.WaitLaws.{waits-known}
 use Rattle.running.specs.BookLaws.{book-wait, ended, ownersNow, andOne, Stage, stage-none, book-tick}
 use Rattle.running.specs.Leap.{Standing, later, Stands, Frame, Ready, Reaches, Turning}
 
@@ -108,13 +109,7 @@ module _ (x : Standing) (bytes : List ℕ) (cores : ℕ) (offsets : List ℕ) (c
   few = plan-limits p (R .frame .accepted) .tasks-high
 
   pub ready-waits : (i : ℕ) → waiting M i ≡ true → i < s .count
-  unfolding waiting opened
-  ready-waits i w = go (ltb i (s .count)) refl
-    where
-      go : (b : Bool) → ltb i (s .count) ≡ b → i < s .count
-      go true q = ltb-true i (s .count) q
-      go false q =
-          absurd (false≢true (sym (ap (λ (a : Lane). pending (a .queue)) (reached-sound s (reached s h) .unused i (ltb-false i (s .count) q))) ∙ w))
+  ready-waits = waits-known s h
 
   pub ready-busy : (i : ℕ) → waiting M i ≡ true → 1 ≤ headWork (M .lane i .queue)
   unfolding waiting

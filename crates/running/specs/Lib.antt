@@ -1,6 +1,7 @@
 pub mod Lower
 pub mod LowerLaws
 pub mod Running
+pub mod WaitLaws
 pub mod OwnerLaws
 pub mod BookLaws
 pub mod EnterLaws

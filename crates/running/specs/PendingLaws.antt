@@ -12,31 +12,22 @@ use lib.Dec.{ltb}
 use borrow.Author.Tests.{ltb-true, ltb-false, lt-ltb}
 use Rattle.laws.specs.Sum.{sum}
 use Rattle.laws.specs.SumLaws.{sum-mono, sum-less}
-use Rattle.laws.specs.TabLaws.{getD-tab}
 use Rattle.tasks.specs.declared.Plan.{Plan}
 use Rattle.tasks.specs.TaskSet.{row}
 use Rattle.history.specs.Log.{Entry}
 use Rattle.heads.specs.Order.{lowest, workAfter}
 use Rattle.running.specs.Running.{countsIn}
+use Rattle.running.specs.OwnerLaws.{count-at, less-one}
 use Rattle.running.specs.BookLaws.{ownersNow}
 use Rattle.running.specs.Leap.{pendingIn}
 
-counts-row : (O : ℕ → List ℕ) (i : ℕ) → i < 16 → row (countsIn O) i ≡ length (O i)
-unfolding row countsIn
-counts-row O i h = getD-tab (λ i. length (O i)) 16 i 0 h
-
-less-one : (b : Bool) (l : List ℕ) → length (cond b (drop 1 l) l) ≤ length l
-less-one false l = omega arith
-less-one true [] = omega arith
-less-one true (o ∷ l) = omega arith
-
-first-off : (l : List ℕ) → 1 ≤ length l → length (drop 1 l) < length l
-first-off [] h = absurd (omega arith)
-first-off (o ∷ l) h = omega arith
+no-more : (b : Bool) (l : List ℕ) → length (cond b (drop 1 l) l) ≤ length l
+no-more false l = omega arith
+no-more true l = omega (arith, less-one l)
 
 module _ (p : Plan) (l : List Entry) (out₀ : List ℕ) (O : ℕ → List ℕ) (gone : ℕ → Bool) where
   each : (i : ℕ) → i < 16 → row (countsIn (ownersNow p l out₀ O gone)) i ≤ row (countsIn O) i
-  each i h = rw (counts-row (ownersNow p l out₀ O gone) i h, counts-row O i h) (less-one (gone i) (O i))
+  each i h = rw (count-at (ownersNow p l out₀ O gone) i h, count-at O i h) (no-more (gone i) (O i))
 
   pub pending-kept : pendingIn (countsIn (ownersNow p l out₀ O gone)) ≤ pendingIn (countsIn O)
   unfolding pendingIn
@@ -49,10 +40,10 @@ module _ (p : Plan) (l : List Entry) (out₀ : List ℕ) (O : ℕ → List ℕ) 
   pending-less i h g some = sum-less (row (countsIn (ownersNow p l out₀ O gone))) (row (countsIn O)) 16 each i h differs
     where
       off : row (countsIn (ownersNow p l out₀ O gone)) i ≡ length (drop 1 (O i))
-      off = counts-row (ownersNow p l out₀ O gone) i h ∙ rw g
+      off = count-at (ownersNow p l out₀ O gone) i h ∙ rw g
 
       differs : row (countsIn (ownersNow p l out₀ O gone)) i ≡ row (countsIn O) i → ⊥
-      differs q = omega (arith, q, off, counts-row O i h, first-off (O i) (omega (arith, some, counts-row O i h)))
+      differs q = omega (arith, q, off, count-at O i h, less-one (O i), some)
 
 pub lowest-stops : (left : List ℕ) (room k : ℕ) → lowest left room k < room → (b : ℕ) × (b < k) × (row left b ≡ lowest left room k)
 unfolding lowest
