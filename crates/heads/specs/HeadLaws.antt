@@ -2,17 +2,17 @@
 --     Ticks, over       the machine some ticks later, in which the same loops ran and none finished before the last; the loops that finished then
 --     settled           the places that are left are that machine's heads, but for the loops that finished
 --     inserted          a loop that was out is in; left-out: one without a job may count as in
-use Prim.Native.Nat.{ℕ, zero, suc, _+_, _-_, _*_, _%_, _≤_, _<_, min}
-use mathlib.Core.Bool.{Bool, true, false, cond, not, _&&_, true≢false, false≢true, and-false, and-true}
+use Prim.Native.Nat.{ℕ, zero, suc, _+_, _-_, _*_, _≤_, _<_}
+use mathlib.Core.Bool.{Bool, true, false, cond, not, _&&_, true≢false, false≢true, and-false}
 use mathlib.Core.Path.{_≡_, refl, sym, ap, subst, _∙_}
 use mathlib.Core.Logic.{_≢_, _⊎_, inl, inr, ⊎-elim}
 use mathlib.Core.List.{List, [], _∷_}
 use native.Mathlib.Nat.{eq-or-lt-of-le}
 use native.Mathlib.Omega.{arith}
 use lib.Dec.{ltb, eqb}
-use borrow.Author.Tests.{ltb-true, ltb-false, le-ltb, lt-ltb, eqb-true, eqb-false, eq-eqb, ne-eqb}
+use borrow.Author.Tests.{ltb-true, ltb-false, eqb-true, eqb-false, eq-eqb}
 use Rattle.tasks.specs.TaskSet.{TaskSet, row}
-use Rattle.machine.specs.Machine.{Job, job, Machine, pending, waiting, headRelease, point, runs, leftOf}
+use Rattle.machine.specs.Machine.{Job, job, Machine, pending, waiting, point, runs, leftOf}
 use Rattle.machine.specs.Choice.{earliest}
 use Rattle.heads.specs.Order.{keyOf, headWork, Head, Heads, workAfter, Settles, Inserted}
 use Rattle.heads.specs.OrderLaws.{key-loop, loop-at, place-runs, place-idle}

@@ -12,7 +12,7 @@ use Rattle.laws.specs.SumLaws.{count-le, count-not, count-pos, count-members}
 use Rattle.laws.specs.Member.{member, Distinct}
 use Rattle.tasks.specs.TaskSet.{TaskSet, row}
 use Rattle.machine.specs.Machine.{Machine, waiting, point}
-use Rattle.heads.specs.Order.{Rises, keyOf, Head, Heads}
+use Rattle.heads.specs.Order.{Rises, keyOf, Heads}
 use Rattle.heads.specs.OrderLaws.{later, later-in, later-rises, not-again}
 
 rises-distinct : (K : ℕ → ℕ) (l : List ℕ) → Rises K l → Distinct l

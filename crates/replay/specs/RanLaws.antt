@@ -2,25 +2,21 @@
 --     run-refused-table, run-refused-log      the table or the log is refused; run-short: the lent answer is too short
 --     run-fitting     an accepted table and log fit
 --     run-taken       the run's counts and bytes are the document's
-use Prim.Native.Nat.{ℕ, zero, suc, _+_, _-_, _*_, _≤_, _<_}
-use mathlib.Core.Path.{_≡_, refl, sym, ap, _∙_}
-use mathlib.Core.List.{List, [], _∷_}
+use Prim.Native.Nat.{ℕ, _-_, _*_, _≤_, _<_}
+use mathlib.Core.Path.{_≡_, sym, _∙_}
+use mathlib.Core.List.{List}
 use native.Mathlib.Omega.{arith}
 use lib.ListN.{length}
-use lib.Dec.{ltb}
 use borrow.Author.Tests.{lt-ltb, le-ltb}
-use Rattle.laws.specs.Sum.{sum, count}
-use Rattle.tasks.specs.declared.Plan.{Plan}
 use Rattle.tasks.specs.declared.Answer.{Answer}
 use Rattle.tasks.specs.declared.Answer.the-variants.{Accepted, Refused}
 use Rattle.tasks.specs.Content.{contentOf}
-use Rattle.tasks.specs.Tests.{refuse, firstMet}
+use Rattle.tasks.specs.Tests.{firstMet}
 use Rattle.codec.specs.Table.{verdict}
-use Rattle.codec.specs.Bytes.{entries}
-use Rattle.table.specs.Judged.{judged, onAccepted}
+use Rattle.table.specs.Judged.{judged}
 use Rattle.roundtrip.specs.RoundTrip.{judged-tidy}
 use Rattle.logs.specs.LogBytes.{entryCount, entriesIn, logTest, reportsTo}
-use Rattle.logs.specs.LogLaws.{entries-length, log-length}
+use Rattle.logs.specs.LogLaws.{entries-length}
 use Rattle.history.specs.Report.{report, takenCount, refusedCount, counts-all}
 use Rattle.history.specs.OnMachine.{machineEngine}
 use Rattle.demand.specs.DeliveredLaws.{plan-reports, plan-counts}

@@ -4,14 +4,13 @@
 --     all-none, all-one, all-more    before the first; the next may be noted; one more
 --     leap-fewer             a leap that stops before its goal finishes a job
 --     leap-made              what the code of a leap gives
-use Prim.Native.Nat.{ℕ, zero, suc, _+_, _-_, _*_, _≤_, _<_, min}
-use mathlib.Core.Bool.{Bool, true, false, _||_}
-use mathlib.Core.Path.{_≡_, refl, sym, ap, subst, fun-ext, _∙_}
+use Prim.Native.Nat.{ℕ, suc, _+_, _-_, _≤_, _<_, min}
+use mathlib.Core.Bool.{Bool, true, false}
+use mathlib.Core.Path.{_≡_, refl, sym, subst, fun-ext, _∙_}
 use mathlib.Core.List.{List}
 use native.Mathlib.Numerals.{add-one}
 use native.Mathlib.Omega.{arith}
-use lib.ListN.{length}
-use lib.Dec.{ltb, eqb}
+use lib.Dec.{ltb}
 use borrow.Author.Tests.{ltb-true, ltb-false}
 use Rattle.tasks.specs.TaskSet.{row}
 use Rattle.history.specs.Engine.{Call}
@@ -19,7 +18,7 @@ use Rattle.history.specs.Log.{wait}
 use Rattle.heads.specs.Order.{lowest, Settles, Finishes}
 use Rattle.running.specs.Running.{countsIn}
 use Rattle.running.specs.BookLaws.{ended, andOne, ownersNow}
-use Rattle.running.specs.Leap.{Standing, Frame, Ready, Reaches, Turning, pendingIn, Fewer, Leapt}
+use Rattle.running.specs.Leap.{Standing, Frame, Ready, Reaches, Turning, Fewer, Leapt}
 use Rattle.running.specs.PendingLaws.{pending-kept, pending-less, lowest-stops, work-none}
 use Rattle.running.specs.FinishCode.{Over, Finishing, Finished, finishing-low}
 use Rattle.running.specs.LeapLaws.{goneTo, in-gone, leap-ticks, turning-none, done-ended, done-new, turning-end}

@@ -8,26 +8,25 @@
 --     stage-none, stage-more      none is noted; one more
 --     book-tick      all are: the book after the tick
 use Prim.Native.Nat.{ℕ, zero, suc, _+_, _-_, _*_, _≤_, _<_}
-use mathlib.Core.Bool.{Bool, true, false, cond, _&&_, _||_, true≢false, false≢true, or-false, and-eq-true-iff}
-use mathlib.Core.Path.{_≡_, refl, sym, ap, subst, _∙_}
+use mathlib.Core.Bool.{Bool, true, false, cond, _&&_, _||_, false≢true, or-false, and-eq-true-iff}
+use mathlib.Core.Path.{_≡_, refl, sym, ap, _∙_}
 use mathlib.Core.Logic.{_⊎_, inl, inr, ⊎-elim}
 use mathlib.Core.List.{List, [], _∷_}
-use native.Mathlib.Nat.{le-refl}
 use native.Mathlib.Omega.{arith}
 use lib.ListN.{length, getD, drop}
 use lib.Seq.{sets}
-use lib.Dec.{ltb, leb, eqb}
-use borrow.Author.Tests.{ltb-true, ltb-false, lt-ltb, eqb-true, eqb-false, eq-eqb, lt-leb}
+use lib.Dec.{ltb, eqb}
+use borrow.Author.Tests.{ltb-true, ltb-false, eqb-true, eqb-false, eq-eqb, lt-leb}
 use Rattle.laws.specs.Member.{member}
 use Rattle.laws.specs.MemberLaws.{member-cases}
 use Rattle.tasks.specs.declared.Plan.{Plan}
 use Rattle.tasks.specs.TaskSet.{TaskSet}
 use Rattle.tasks.specs.Content.{contentOf}
-use Rattle.machine.specs.Machine.{Job, job, Machine, runs, served, advanced, tick}
+use Rattle.machine.specs.Machine.{Job, job, runs, served, advanced, tick}
 use Rattle.machine.specs.Sound.{Rising, reached-sound}
 use Rattle.machine.specs.Choice.{earliest}
 use Rattle.state.specs.Fit.{Fit}
-use Rattle.history.specs.Engine.{taken, refused, Engine, Call, step, clock, state, named, Ends}
+use Rattle.history.specs.Engine.{refused, Engine, Call, step, clock, state, named, Ends}
 use Rattle.history.specs.EngineLaws.{ends-step}
 use Rattle.history.specs.Log.{Entry, loopAt, wait, outcome, Taken, owed}
 use Rattle.history.specs.Report.{finished, refusal}

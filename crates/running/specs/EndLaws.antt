@@ -3,7 +3,7 @@
 --     end-said          every entry's report is said
 --     end-reports       so the answer is the document's
 --     entered-none      where a run stands before its first entry
-use Prim.Native.Nat.{ℕ, zero, suc, _+_, _-_, _*_, _/_, _%_, _≤_, _<_}
+use Prim.Native.Nat.{ℕ, zero, suc, _+_, _-_, _≤_, _<_}
 use mathlib.Core.Bool.{Bool, true, false, true≢false, false≢true}
 use mathlib.Core.Path.{_≡_, refl, sym, ap, subst, _∙_}
 use mathlib.Core.Logic.{_⊎_, inl, inr}
@@ -28,7 +28,7 @@ use Rattle.state.specs.CallLaws.{opened-empty}
 use Rattle.history.specs.Engine.{Outcome, taken, refused, Engine, Call, state, Ends}
 use Rattle.history.specs.EngineLaws.{ends-step, ends-once}
 use Rattle.history.specs.Log.{Entry, loopAt, wait, calls, outcome, Taken, owed, rest, whole}
-use Rattle.history.specs.Report.{finished, refusal, report, report-finished, report-refused}
+use Rattle.history.specs.Report.{finished, report, report-finished, report-refused}
 use Rattle.history.specs.OnMachine.{machineEngine}
 use Rattle.history.specs.Drain.{quiet-idle}
 use Rattle.history.specs.Demand.{machine-claim}

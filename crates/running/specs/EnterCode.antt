@@ -6,8 +6,8 @@
 --     enter-ready                  the leaps up to its tick may be made
 --     enter-back                   an entry that goes back
 --     enter-handing                after the leaps its release may be handed over
-use Prim.Native.Nat.{ℕ, suc, _+_, _-_, _*_, _≤_, _<_}
-use mathlib.Core.Bool.{Bool, true, false, cond}
+use Prim.Native.Nat.{ℕ, _+_, _-_, _*_, _≤_, _<_}
+use mathlib.Core.Bool.{Bool, true}
 use mathlib.Core.Path.{_≡_, refl, sym, ap, subst, _∙_}
 use mathlib.Core.List.{List}
 use native.Mathlib.Numerals.{add-one}
@@ -17,14 +17,10 @@ use lib.Seq.{sets}
 use lib.Dec.{ltb}
 use borrow.Author.Tests.{lt-ltb, le-ltb}
 use Rattle.tasks.specs.declared.Plan.{Plan}
-use Rattle.tasks.specs.TaskSet.{row}
-use Rattle.tasks.specs.Content.{taskOf, contentOf}
-use Rattle.history.specs.Engine.{Engine}
 use Rattle.history.specs.Log.{Entry, tickAt, loopAt, demandAt, back, outcome}
 use Rattle.history.specs.Report.{refusal}
-use Rattle.history.specs.OnMachine.{machineEngine}
 use Rattle.logs.specs.declared.read.Release.{Release}
-use Rattle.logs.specs.LogBytes.{entryCount, entryIn, entriesIn, reportBytes}
+use Rattle.logs.specs.LogBytes.{entryCount, entriesIn, reportBytes}
 use Rattle.logs.specs.LogStages.{Releases}
 use Rattle.logs.specs.LogLaws.{entries-length, entry-at}
 use Rattle.running.specs.Leap.{Standing, Ready, Reaches, Advanced}

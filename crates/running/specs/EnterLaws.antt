@@ -3,34 +3,32 @@
 --     book-refused      an entry that is refused, by 17 or by its release's answer
 --     ownersWith        the owners with the entry as its loop's last
 --     book-taken        an entry whose release is taken
-use Prim.Native.Nat.{ℕ, zero, suc, _+_, _-_, _*_, _≤_, _<_}
-use mathlib.Core.Bool.{Bool, true, false, cond, _&&_, true≢false, or-true}
-use mathlib.Core.Path.{_≡_, refl, sym, ap, subst, _∙_}
+use Prim.Native.Nat.{ℕ, suc, _+_, _-_, _*_, _≤_, _<_}
+use mathlib.Core.Bool.{Bool, true, false, cond, or-true}
+use mathlib.Core.Path.{_≡_, refl, sym, ap, _∙_}
 use mathlib.Core.Logic.{_⊎_, inl, inr, ⊎-elim}
 use mathlib.Core.List.{List, [], _∷_, _++_}
 use native.Mathlib.Nat.{le-refl, eq-or-lt-of-le, le-of-suc-le-suc}
 use native.Mathlib.Omega.{arith}
-use lib.ListN.{length, getD, set}
+use lib.ListN.{length}
 use lib.Seq.{sets}
-use lib.Dec.{ltb, eqb}
-use borrow.Author.Tests.{ltb-true, ltb-false, eqb-true, eqb-false, eq-eqb, ne-eqb}
+use lib.Dec.{eqb}
+use borrow.Author.Tests.{eqb-true, eqb-false, eq-eqb, ne-eqb}
 use Rattle.laws.specs.Member.{member}
 use Rattle.laws.specs.MemberLaws.{member-append, member-here}
 use Rattle.tasks.specs.declared.Plan.{Plan}
-use Rattle.tasks.specs.TaskSet.{TaskSet, row}
+use Rattle.tasks.specs.TaskSet.{TaskSet}
 use Rattle.tasks.specs.Content.{contentOf}
-use Rattle.machine.specs.Machine.{Job, job, Machine, admitted, joined}
-use Rattle.state.specs.State.{jobsIn, releasedIn, lastIn, remainingIn, releaseIn}
-use Rattle.history.specs.Engine.{Outcome, taken, refused, Engine, Call, ask, clock, state, verdict, named, Ends}
+use Rattle.machine.specs.Machine.{Job, job, admitted, joined}
+use Rattle.state.specs.State.{releasedIn, lastIn}
+use Rattle.history.specs.Engine.{refused, Engine, Call, ask, clock, state, verdict, named, Ends}
 use Rattle.history.specs.EngineLaws.{ends-ask}
-use Rattle.history.specs.Log.{Entry, tickAt, loopAt, demandAt, back, wait, until, calls, outcome, Taken, owed}
+use Rattle.history.specs.Log.{Entry, tickAt, loopAt, demandAt, until, calls, outcome, Taken, owed}
 use Rattle.history.specs.LogLaws.{taken-call, clock-entry}
-use Rattle.history.specs.Report.{Report, finished, refusal}
-use Rattle.history.specs.OnMachine.{answerOf, ifTaken, handedOf, machineEngine}
-use Rattle.history.specs.Refusals.{last-wait}
+use Rattle.history.specs.Report.{finished, refusal}
+use Rattle.history.specs.OnMachine.{handedOf, machineEngine}
 use Rattle.history.specs.Balance.{not-refused, machine-clock}
 use Rattle.history.specs.Owners.{Owned, owners-taken}
-use Rattle.codec.specs.Bytes.{byte}
 use Rattle.logs.specs.LogBytes.{reportBytes}
 use Rattle.logs.specs.ReportLaws.{Said, said-length, said-beyond, said-here, said-other}
 use Rattle.running.specs.Running.{Below, Whole, Rooted, Book}

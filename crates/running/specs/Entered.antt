@@ -6,8 +6,8 @@
 --     AtTick …                    the run has come to the next entry's tick
 --     refused-entered             the next entry's release is refused
 --     taken-first, taken-behind   it is taken, and its job is the loop's head or stands behind others
-use Prim.Native.Nat.{ℕ, zero, suc, _+_, _-_, _*_, _≤_, _<_}
-use mathlib.Core.Bool.{Bool, true, false, cond, not, _&&_, true≢false}
+use Prim.Native.Nat.{ℕ, suc, _+_, _-_, _*_, _≤_, _<_}
+use mathlib.Core.Bool.{Bool, true, false, not, _&&_, true≢false}
 use mathlib.Core.Path.{_≡_, refl, sym, ap, subst, fun-ext, _∙_}
 use mathlib.Core.Logic.{_≢_}
 use mathlib.Core.List.{List, [], _∷_, _++_}
@@ -15,15 +15,14 @@ use native.Mathlib.Omega.{arith}
 use lib.ListN.{length, set}
 use lib.Seq.{sets}
 use lib.Dec.{ltb, eqb}
-use borrow.Author.Tests.{ltb-true, ltb-false, leb-false, eqb-true, eq-eqb}
+use borrow.Author.Tests.{leb-false, eqb-true, eq-eqb}
 use Rattle.laws.specs.TabLaws.{tab-ext}
 use Rattle.tasks.specs.declared.Plan.{Plan}
 use Rattle.tasks.specs.declared.Answer.the-variants.{Accepted}
 use Rattle.tasks.specs.TaskSet.{TaskSet, row}
 use Rattle.tasks.specs.Content.{taskOf, contentOf, tidy}
 use Rattle.tasks.specs.Tests.{testPlan}
-use Rattle.machine.specs.Machine.{Job, job, Lane, Machine, full, joined, admitted, pending, waiting, headRelease, point}
-use Rattle.machine.specs.Sound.{reached-sound}
+use Rattle.machine.specs.Machine.{Job, job, Machine, full, joined, admitted, pending, waiting, headRelease, point}
 use Rattle.state.specs.State.{flagOf, tickOf, releasedIn, lastIn}
 use Rattle.state.specs.FitLaws.{plan-limits}
 use Rattle.state.specs.AdmitLaws.{admitted-released, admitted-last}
@@ -37,7 +36,7 @@ use Rattle.history.specs.Log.{Entry, tickAt, loopAt, demandAt, back, wait, unti
 use Rattle.history.specs.LogLaws.{largest-least, clock-calls, clock-entry}
 use Rattle.history.specs.Report.{refusal}
 use Rattle.history.specs.OnMachine.{answerOf, handedOf, machineEngine}
-use Rattle.history.specs.Balance.{answer-allowed, reached, machine-clock}
+use Rattle.history.specs.Balance.{answer-allowed, machine-clock}
 use Rattle.history.specs.Refusals.{last-wait}
 use Rattle.history.specs.Owners.{owned-length}
 use Rattle.logs.specs.LogBytes.{entriesIn, reportBytes}

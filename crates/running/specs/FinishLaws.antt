@@ -10,13 +10,13 @@ use mathlib.Core.List.{List, [], _∷_}
 use native.Mathlib.Omega.{arith}
 use lib.ListN.{length, getD, drop, set}
 use lib.Seq.{sets}
-use lib.Dec.{ltb, eqb, leb}
-use borrow.Author.Tests.{ltb-true, ltb-false, leb-true, eqb-true, eq-eqb}
+use lib.Dec.{eqb}
+use borrow.Author.Tests.{leb-true, eqb-true, eq-eqb}
 use Rattle.tasks.specs.declared.Task.{Task}
 use Rattle.tasks.specs.declared.Plan.{Plan}
 use Rattle.tasks.specs.TaskSet.{TaskSet, row}
-use Rattle.tasks.specs.Content.{taskOf, contentOf}
-use Rattle.machine.specs.Machine.{Job, job, Lane, Machine, pending, waiting, headRelease, point, runs, served, advanced, tick}
+use Rattle.tasks.specs.Content.{contentOf}
+use Rattle.machine.specs.Machine.{Job, job, Machine, pending, waiting, point, runs, served, advanced, tick}
 use Rattle.machine.specs.Sound.{Rising, reached-sound}
 use Rattle.state.specs.Fit.{Fit}
 use Rattle.state.specs.KeptLaws.{reached-fit}
@@ -31,12 +31,12 @@ use Rattle.history.specs.Balance.{reached, machine-clock}
 use Rattle.history.specs.Owners.{finishing}
 use Rattle.logs.specs.declared.read.Release.{Release}
 use Rattle.logs.specs.LogStages.{Releases}
-use Rattle.logs.specs.LogBytes.{entryCount, entryIn, entriesIn, reportBytes}
+use Rattle.logs.specs.LogBytes.{entryCount, entryIn, reportBytes}
 use Rattle.logs.specs.LogLaws.{entries-length, entry-at}
 use Rattle.heads.specs.Order.{keyOf, headWork, Heads, Inserted}
 use Rattle.heads.specs.HeadLaws.{without, inserted, left-out}
 use Rattle.heads.specs.RoomLaws.{room-for}
-use Rattle.running.specs.Running.{ownersIn, countsIn, Whole, Rooted, Book}
+use Rattle.running.specs.Running.{ownersIn, countsIn, Whole, Rooted}
 use Rattle.running.specs.WaitLaws.{waits-known}
 use Rattle.running.specs.OwnerLaws.{owner-at, moved-owners, count-at, less-one, counts-less}
 use Rattle.running.specs.BookLaws.{book-few, ended, ownersNow, andOne, Stage, ended-known, some-owner, first-early, stage-more}

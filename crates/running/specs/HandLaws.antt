@@ -6,7 +6,7 @@
 --     answer-20              a loop that isn't in the table
 --     answer-rest            one that is: the first of 21, 22 and 23, by the arrays
 --     hand-refused, hand-behind, hand-first      the ends of the code: it is refused; its job stands behind others, or is its loop's head
-use Prim.Native.Nat.{ℕ, zero, suc, _+_, _*_, _≤_, _<_}
+use Prim.Native.Nat.{ℕ, _+_, _*_, _≤_, _<_}
 use mathlib.Core.Bool.{Bool, true, false, cond}
 use mathlib.Core.Path.{_≡_, refl, sym, ap, subst, _∙_}
 use mathlib.Core.Logic.{_≢_}
@@ -30,7 +30,7 @@ use Rattle.state.specs.State.{flagOf, tickOf, lastOf}
 use Rattle.state.specs.ViewLaws.{flag-in, row-last}
 use Rattle.state.specs.FitLaws.{in-task, in-count, plan-limits}
 use Rattle.state.specs.CallLaws.{admission}
-use Rattle.history.specs.Engine.{Outcome, taken, refused, isTaken, firstOf, state}
+use Rattle.history.specs.Engine.{taken, refused, isTaken, firstOf}
 use Rattle.history.specs.Log.{Entry, tickAt, loopAt, demandAt, outcome}
 use Rattle.history.specs.LogLaws.{clock-entry}
 use Rattle.history.specs.Report.{refusal}

@@ -10,7 +10,7 @@
 --     pendingIn jobs       how many jobs are pending; Fewer: fewer after a leap, unless it came to its goal
 --     Leapt, Advanced      what the code of a leap, and of the leaps up to a tick, gives
 use Prim.Native.Nat.{ℕ, suc, _+_, _-_, _*_, _≤_, _<_, min}
-use mathlib.Core.Bool.{Bool, true, not, _&&_}
+use mathlib.Core.Bool.{Bool, not, _&&_}
 use mathlib.Core.Path.{_≡_}
 use mathlib.Core.List.{List, _∷_}
 use lib.ListN.{length}

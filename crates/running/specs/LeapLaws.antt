@@ -5,39 +5,38 @@
 --     goneTo                       the loops of the first places of a list
 --     done-ended, done-new, all-gone      the loops that were taken out are those that finish, each once
 --     turning-end                  all of them noted, the leap is made
-use Prim.Native.Nat.{ℕ, zero, suc, pred, _+_, _-_, _*_, _%_, _≤_, _<_, min}
+use Prim.Native.Nat.{ℕ, zero, suc, pred, _+_, _-_, _%_, _≤_, _<_, min}
 use mathlib.Core.Bool.{Bool, true, false, cond, not, _&&_, _||_, true≢false, false≢true, and-true, or-true, and-eq-true-iff}
 use mathlib.Core.Path.{_≡_, refl, sym, ap, subst, fun-ext, _∙_}
-use mathlib.Core.Logic.{_≢_, _⊎_, inl, inr, ⊎-elim}
+use mathlib.Core.Logic.{_≢_, _⊎_, ⊎-elim}
 use mathlib.Core.List.{List, [], _∷_}
 use native.Mathlib.Nat.{eq-or-lt-of-le, le-of-suc-le-suc}
 use native.Mathlib.Omega.{arith}
-use lib.ListN.{length}
-use lib.Dec.{ltb, leb, eqb}
-use borrow.Author.Tests.{ltb-true, ltb-false, lt-ltb, le-ltb, leb-true, le-leb, lt-leb, eqb-true, eqb-false, eq-eqb, ne-eqb}
+use lib.Dec.{leb, eqb}
+use borrow.Author.Tests.{le-leb, lt-leb, eqb-true, eqb-false, eq-eqb, ne-eqb}
 use Rattle.tasks.specs.declared.Plan.{Plan}
 use Rattle.tasks.specs.TaskSet.{TaskSet, row}
 use Rattle.tasks.specs.Content.{contentOf}
-use Rattle.machine.specs.Machine.{Job, job, Lane, Machine, pending, waiting, point, runs, leftOf, served, advanced, tick}
+use Rattle.machine.specs.Machine.{Job, job, Machine, pending, waiting, runs, leftOf, served, advanced, tick}
 use Rattle.machine.specs.Sound.{reached-sound}
 use Rattle.machine.specs.Choice.{earliest}
 use Rattle.state.specs.FitLaws.{in-cores, plan-limits}
 use Rattle.history.specs.Engine as history
 use Rattle.history.specs.Engine.{Engine, Call, step, state}
 use Rattle.history.specs.EngineLaws.{clock-wait}
-use Rattle.history.specs.Log.{Entry, wait}
+use Rattle.history.specs.Log.{wait}
 use Rattle.history.specs.OnMachine.{machineEngine}
 use Rattle.history.specs.Balance.{reached}
 use Rattle.history.specs.Owners.{finishing}
-use Rattle.heads.specs.Order.{keyOf, headWork, Head, Heads, lowest, workAfter, Settles, Finishes}
+use Rattle.heads.specs.Order.{keyOf, headWork, Heads, lowest, workAfter, Settles, Finishes}
 use Rattle.heads.specs.OrderLaws.{key-loop, loop-at, runs-place}
 use Rattle.heads.specs.HeadLaws.{Ticks, over, settled, after-here, over-here}
 use Rattle.running.specs.Lower.{lowerHead, lowered}
 use Rattle.running.specs.LowerLaws.{MoreThan, lowered-runs, wait-lowered}
 use Rattle.running.specs.Running.{Book}
 use Rattle.running.specs.WaitLaws.{waits-known}
-use Rattle.running.specs.BookLaws.{book-wait, ended, ownersNow, andOne, Stage, stage-none, book-tick}
-use Rattle.running.specs.Leap.{Standing, later, Stands, Frame, Ready, Reaches, Turning}
+use Rattle.running.specs.BookLaws.{book-wait, ended, ownersNow, stage-none, book-tick}
+use Rattle.running.specs.Leap.{Standing, Ready, Reaches, Turning}
 
 -- the least of some ticks and the first places' work
 lowest-room : (left : List ℕ) (room k : ℕ) → lowest left room k ≤ room

@@ -2,25 +2,18 @@
 --     lowered-runs           the same loops run in the machine after them
 --     wait-wait              some steps and then some more
 --     wait-lowered           so many steps after a history lead there, if every running head has more work than that
-use Prim.Native.Nat.{ℕ, zero, suc, pred, _+_, _-_, _*_, _/_, _%_, _≤_, _<_, min}
-use mathlib.Core.Bool.{Bool, true, false, cond, not, _&&_, true≢false}
+use Prim.Native.Nat.{ℕ, zero, suc, pred, _+_, _-_, _≤_, _<_}
+use mathlib.Core.Bool.{Bool, true, false, cond}
 use mathlib.Core.Path.{_≡_, refl, sym, ap, fun-ext, _∙_}
 use mathlib.Core.List.{List, [], _∷_}
 use native.Mathlib.Omega.{arith}
-use lib.ListN.{length, getD, set}
-use lib.Dec.{ltb, eqb}
-use borrow.Author.Tests.{ltb-true, ltb-false, lt-ltb, le-ltb, eqb-true, eqb-false, eq-eqb, ne-eqb}
-use Rattle.laws.specs.Rank.{ranked}
-use Rattle.laws.specs.TabLaws.{set-tab, tab-ext}
-use Rattle.tasks.specs.TaskSet.{TaskSet, row}
-use Rattle.machine.specs.Machine.{Job, job, releaseTick, remaining, Lane, Machine, pending, waiting, headRelease, point, before, chosen, runs, leftOf, served, advanced, tick}
-use Rattle.state.specs.State.{noJob, jobAt, jobsIn, remainingIn, releaseIn}
-use Rattle.state.specs.ViewLaws.{machine-ext, job-at, row-remaining}
-use Rattle.state.specs.AllLaws.{by-place}
+use lib.Dec.{ltb}
+use Rattle.tasks.specs.TaskSet.{TaskSet}
+use Rattle.machine.specs.Machine.{Job, job, Machine, pending, waiting, headRelease, point, before, chosen, runs, leftOf, served, advanced, tick}
+use Rattle.state.specs.ViewLaws.{machine-ext}
 use Rattle.history.specs.Engine.{Call, step, state}
 use Rattle.history.specs.Log.{wait}
 use Rattle.history.specs.OnMachine.{machineEngine}
-use Rattle.laws.specs.Member.{member}
 use Rattle.heads.specs.Order.{headWork}
 use Rattle.running.specs.Lower.{lowerHead, lowered}
 

@@ -4,7 +4,7 @@
 --     reaches-ready                 where a leap leads, the next may be made
 --     reaches-more                  two leaps are one
 --     advanced-none, advanced-ready, advanced-more      before the first leap, between two, and after one more
-use Prim.Native.Nat.{ℕ, _+_, _-_, _*_, _≤_, _<_}
+use Prim.Native.Nat.{ℕ, _+_, _-_, _≤_}
 use mathlib.Core.Bool.{false}
 use mathlib.Core.Path.{_≡_, sym, ap, subst, _∙_}
 use mathlib.Core.List.{List}

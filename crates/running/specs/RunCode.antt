@@ -7,11 +7,11 @@
 --     run-ready, run-end               after the last entry: the leaps until nothing is pending may be made, and then the answer is the document's
 use Prim.Native.Nat.{ℕ, zero, suc, _+_, _-_, _*_, _≤_, _<_}
 use mathlib.Core.Bool.{Bool, true, false, cond}
-use mathlib.Core.Path.{_≡_, refl, sym, ap, subst, _∙_}
+use mathlib.Core.Path.{_≡_, refl, subst, _∙_}
 use mathlib.Core.List.{List}
 use native.Mathlib.Numerals.{add-one}
 use native.Mathlib.Omega.{arith}
-use lib.ListN.{length, getD, replicate}
+use lib.ListN.{length, replicate}
 use Rattle.laws.specs.Tab.{tab, cut}
 use Rattle.laws.specs.TabLaws.{getD-tab, cut-below}
 use Rattle.laws.specs.Sum.{sum, count}
@@ -27,7 +27,7 @@ use Rattle.history.specs.Report.{report}
 use Rattle.history.specs.OnMachine.{machineEngine}
 use Rattle.logs.specs.LogBytes.{entriesIn, reportsTo}
 use Rattle.running.specs.Running.{Book}
-use Rattle.running.specs.Leap.{Standing, Ready, Reaches, Advanced}
+use Rattle.running.specs.Leap.{Standing, Ready, Advanced}
 use Rattle.running.specs.Entered.{Fitting, Entered, standing, entered-clock, entered-ready}
 use Rattle.running.specs.EndLaws.{end-reports, entered-none}
 use Rattle.running.specs.HandLaws.{Columns, takes}

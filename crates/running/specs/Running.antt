@@ -7,7 +7,7 @@
 --     Book p l out₀ e h O out     after the calls h, made for the first e entries of l: O are the owners of the pending jobs, and out says of
 --                                 each refused entry its number and of each that has ended its finish tick
 --     Running                     that, and the arrays are those of the machine after h
-use Prim.Native.Nat.{ℕ, zero, suc, _+_, _*_, _/_, _%_, _≤_, _<_}
+use Prim.Native.Nat.{ℕ, suc, _*_, _/_, _%_, _≤_, _<_}
 use mathlib.Core.Bool.{true, false}
 use mathlib.Core.Path.{_≡_}
 use mathlib.Core.Logic.{_⊎_}
@@ -16,7 +16,7 @@ use lib.ListN.{length, getD}
 use Rattle.laws.specs.Tab.{tab}
 use Rattle.laws.specs.Member.{member}
 use Rattle.tasks.specs.declared.Plan.{Plan}
-use Rattle.tasks.specs.TaskSet.{TaskSet, row}
+use Rattle.tasks.specs.TaskSet.{TaskSet}
 use Rattle.tasks.specs.Content.{contentOf}
 use Rattle.machine.specs.Machine.{Job, job}
 use Rattle.history.specs.Engine.{refused, Engine, Call, clock, state, named, Ends}

@@ -1,10 +1,6 @@
 -- `replay::entry::enter` meets its contract.
-use Rattle.running.specs.EnterCode.{Entering, enter-long, enter-room, enter-ready, enter-back, enter-handing}
+use Rattle.running.specs.EnterCode.{enter-long, enter-room, enter-ready, enter-back, enter-handing}
 use Rattle.logs.specs.LogBytes.{entriesIn}
-use Rattle.replay.specs.declared.entry.Place.{Place}
-use native.Mathlib.Omega.{arith}
-use Prim.Native.Nat.{ℕ, _≤_}
-use mathlib.Core.Path.{_≡_, _∙_}
 use borrow.Author.Needs.{needs}
 use Rattle.replay.proofs.entry.enter.Statement.{statement}
 use Rattle.replay.proofs.entry.enter.Tie as tie

@@ -1,14 +1,13 @@
 -- `replay::entry::hand` meets its contract.
-use Rattle.running.specs.HandLaws.{Handing, numberOf, hand-room, hand-small, hand-low, hand-offset, answer-20, hand-answer, hand-refused, hand-behind, hand-place, hand-rises, hand-first}
+use Rattle.running.specs.HandLaws.{numberOf, hand-room, hand-small, hand-low, hand-offset, answer-20, hand-answer, hand-refused, hand-behind, hand-place, hand-rises, hand-first}
 use Rattle.demand.specs.Delivered.{outcomeOf}
 use Rattle.state.specs.CallLaws.{admission-room}
 use Rattle.tasks.specs.TaskSet.{row}
 use Rattle.history.specs.Report.{refusal}
 use Rattle.logs.specs.LogBytes.{reportBytes}
-use Rattle.replay.specs.declared.entry.Place.{Place}
 use native.Mathlib.Omega.{arith}
 use Prim.Native.Nat.{ℕ, _+_, _*_, _≤_, _<_}
-use mathlib.Core.Path.{_≡_, refl, sym, ap, _∙_}
+use mathlib.Core.Path.{refl, sym, ap, _∙_}
 use lib.ListN.{length}
 use lib.Seq.{sets}
 use borrow.Author.Needs.{needs}

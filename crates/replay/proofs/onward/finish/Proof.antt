@@ -1,10 +1,8 @@
 -- `replay::onward::finish` meets its contract.
-use Rattle.running.specs.FinishCode.{Finishing, finishing-room, finishing-low, finishing-offset, finishing-rises, finished-none, finishing-next, finished-more}
+use Rattle.running.specs.FinishCode.{finishing-room, finishing-low, finishing-offset, finishing-rises, finished-none, finishing-next, finished-more}
 use Rattle.tasks.specs.TaskSet.{row}
 use native.Mathlib.Omega.{arith}
-use mathlib.Core.Path.{_≡_, refl, sym, ap, _∙_}
-use lib.ListN.{length}
-use lib.Seq.{getD-set-same}
+use mathlib.Core.Path.{refl}
 use borrow.Author.Needs.{needs}
 use Rattle.replay.proofs.onward.finish.Statement.{statement}
 use Rattle.replay.proofs.onward.finish.Tie as tie

@@ -1,5 +1,5 @@
 -- `replay::onward::leap` meets its contract.
-use Rattle.running.specs.ReadyLaws.{ready-cores, ready-few}
+use Rattle.running.specs.ReadyLaws.{ready-few}
 use Rattle.running.specs.AllCode.{leap-in, leap-finishing, leap-made}
 use native.Mathlib.Omega.{arith}
 use borrow.Author.Needs.{needs}

@@ -4,9 +4,7 @@ use Rattle.fields.specs.declared.columns.Columns.{Columns}
 use Rattle.logs.specs.LogBytes.{entriesIn}
 use Rattle.running.specs.RunCode.{takenTo, plan-few, run-begun, run-clock, run-ready, run-end}
 use native.Mathlib.Omega.{arith}
-use Prim.Native.Nat.{ℕ}
-use mathlib.Core.Path.{_≡_, refl, ap, sym, _∙_}
-use lib.ListN.{length}
+use mathlib.Core.Path.{refl, ap, _∙_}
 use borrow.Author.Needs.{needs}
 use Rattle.replay.proofs.run.replay.Statement.{statement}
 use Rattle.replay.proofs.run.replay.Tie as tie

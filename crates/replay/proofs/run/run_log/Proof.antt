@@ -7,16 +7,16 @@ use Rattle.table.specs.declared.Judgement.{Judgement}
 use Rattle.table.specs.Judged.{judged}
 use Rattle.logs.specs.declared.read.Entries.{Entries}
 use Rattle.logs.specs.declared.read.Entries.the-variants.{Read}
-use Rattle.logs.specs.LogBytes.{entriesIn, entryCount}
+use Rattle.logs.specs.LogBytes.{entriesIn}
 use Rattle.logs.specs.LogStages.{Small, answerOfEntries}
-use Rattle.logs.specs.LogLaws.{entries-length, log-length, read-accepted, read-refused, answer-of-entries}
+use Rattle.logs.specs.LogLaws.{entries-length, log-length, read-accepted, read-refused}
 use Rattle.running.specs.Entered.{Fitting}
 use Rattle.running.specs.RunCode.{taken-few}
 use Rattle.replay.specs.declared.run.Ran.{Ran}
 use Rattle.replay.specs.RanLaws.{run-refused-table, run-refused-log, run-short, run-fitting, run-taken}
 use native.Mathlib.Omega.{arith}
-use Prim.Native.Nat.{ℕ, _+_, _-_, _*_, _≤_, _<_}
-use mathlib.Core.Path.{_≡_, refl, ap, sym, subst, _∙_}
+use Prim.Native.Nat.{ℕ, _+_, _-_, _≤_, _<_}
+use mathlib.Core.Path.{_≡_, ap, sym, subst, _∙_}
 use mathlib.Core.List.{List}
 use lib.ListN.{length}
 use borrow.Author.Needs.{needs}
