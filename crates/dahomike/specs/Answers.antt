@@ -15,10 +15,9 @@ use Rattle.tasks.specs.declared.Answer.{Answer}
 use Rattle.tasks.specs.declared.Answer.the-variants.{Accepted, Refused}
 use Rattle.tasks.specs.TaskSet.{bound, row}
 use Rattle.tasks.specs.Content.{Content, taskOf}
-use Rattle.tasks.specs.Tests.{refuse, firstMet}
+use Rattle.tasks.specs.Tests.{refuse, firstMet, unlessRefused}
 use Rattle.table.specs.Bytes.{digits, entries}
 use Rattle.table.specs.Table.{taskCount, contentIn, verdict}
-use Rattle.table.specs.Judged.{onAccepted}
 use Rattle.replay.specs.Ran.{runTest, ranOf}
 
 -- "Each of the two answers one 64-bit number: n for judgement, … and 4,294,967,296 × refusal number + index for a refused call."
@@ -40,7 +39,7 @@ reportBytes c = entries (λ i. digits 4 (c .slack i) ++ digits 4 (bound (c .task
 -- "to a lent buffer; bytes beyond stay." "Nothing lent is written" on a refusal.
 unfoldable pub judgeLeaves : List ℕ → List ℕ → List ℕ
 judgeLeaves t out =
-    onAccepted (judgeTest t (length out)) (reportBytes (contentIn t) ++ drop (8 * taskCount t) out) out
+    unlessRefused (judgeTest t (length out)) (reportBytes (contentIn t) ++ drop (8 * taskCount t) out) out
 
 -- the sum that is a task's bound, from a plan's own arrays
 unfoldable pub boundIn : Plan → ℕ → ℕ

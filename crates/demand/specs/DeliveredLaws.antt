@@ -20,7 +20,7 @@ use Rattle.tasks.specs.declared.Answer.{Answer}
 use Rattle.tasks.specs.declared.Answer.the-variants.{Accepted, Refused}
 use Rattle.tasks.specs.TaskSet.{TaskSet, row}
 use Rattle.tasks.specs.Content.{contentOf, tidy}
-use Rattle.tasks.specs.Tests.{refuse, firstMet, outside, testPlan}
+use Rattle.tasks.specs.Tests.{refuse, firstMet, outside, testPlan, unlessRefused}
 use Rattle.tasks.specs.TestsLaws.{tests-compliant, tests-bounded}
 use Rattle.machine.specs.Machine.{Job, Lane, Machine, opened, tooSoon, full, admitted, pending, waiting, idle, onCore, runs, advanced, tick}
 use Rattle.machine.specs.Reached.{Reached, opening, release}
@@ -29,7 +29,7 @@ use Rattle.machine.specs.Sound.{reached-sound}
 use Rattle.state.specs.declared.State.{State}
 use Rattle.state.specs.State.{jobsIn, stateOf}
 use Rattle.state.specs.SoundState.{allOf}
-use Rattle.state.specs.Calls.{unlessRefused, openOf, admitTests, releaseOf, tickedOf, stepOf}
+use Rattle.state.specs.Calls.{openOf, admitTests, releaseOf, tickedOf, stepOf}
 use Rattle.state.specs.Fit.{Fit}
 use Rattle.state.specs.FitLaws.{plan-limits, in-count, fit-tasks, idle-lane}
 use Rattle.state.specs.TidyLaws.{content-tidy, tidy-tidy, tidy-accepted}

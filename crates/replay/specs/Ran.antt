@@ -7,9 +7,8 @@ use mathlib.Core.List.{List, [], _∷_}
 use lib.ListN.{length}
 use lib.Dec.{ltb}
 use Rattle.tasks.specs.declared.Answer.{Answer}
-use Rattle.tasks.specs.Tests.{refuse, firstMet}
+use Rattle.tasks.specs.Tests.{refuse, firstMet, unlessRefused}
 use Rattle.codec.specs.Table.{verdict}
-use Rattle.table.specs.Judged.{onAccepted}
 use Rattle.logs.specs.LogBytes.{entryCount, entriesIn, logTest, reportsTo}
 use Rattle.history.specs.Report.{report, takenCount, refusedCount}
 use Rattle.demand.specs.Demand3.{runOn}
@@ -24,12 +23,12 @@ unfoldable pub ranOf : List ℕ → List ℕ → ℕ → Ran
 ranOf t l room =
     record {
       answer = runTest t l room;
-      taken = onAccepted (runTest t l room) (takenCount (runOn t) (entriesIn l)) 0;
-      refused = onAccepted (runTest t l room) (refusedCount (runOn t) (entriesIn l)) 0;
+      taken = unlessRefused (runTest t l room) (takenCount (runOn t) (entriesIn l)) 0;
+      refused = unlessRefused (runTest t l room) (refusedCount (runOn t) (entriesIn l)) 0;
     }
 
 -- "For each entry 8 bytes are written: kind 1 and finish tick, or kind 2 and refusal number, 4 bytes each. Bytes beyond these stay." "Nothing
 -- lent is written" on a refusal.
 unfoldable pub runLeaves : List ℕ → List ℕ → List ℕ → List ℕ
 runLeaves t l out =
-    onAccepted (runTest t l (length out)) (reportsTo (report (runOn t) (entriesIn l)) (entryCount l) out) out
+    unlessRefused (runTest t l (length out)) (reportsTo (report (runOn t) (entriesIn l)) (entryCount l) out) out

@@ -19,7 +19,7 @@ use Rattle.tasks.specs.declared.Plan.{Plan}
 use Rattle.tasks.specs.declared.Answer.{Answer}
 use Rattle.tasks.specs.declared.Answer.the-variants.{Accepted, Refused}
 use Rattle.tasks.specs.TaskSet.{row}
-use Rattle.tasks.specs.Content.{taskOf, tidy}
+use Rattle.tasks.specs.Content.{taskOf, tidy, zeroPlan}
 use Rattle.tasks.specs.Tests.{refuse, orNext, firstMet, outside, testPlan}
 use Rattle.tasks.specs.AnswerLaws.{refuse-passed, firstMet-passed}
 use Rattle.machine.specs.Machine.{opened, within, tooSoon, full, admitted}
@@ -27,7 +27,7 @@ use Rattle.state.specs.declared.State.{State}
 use Rattle.state.specs.declared.Opened.{Opened}
 use Rattle.state.specs.declared.Released.{Released}
 use Rattle.state.specs.declared.Stepped.{Stepped}
-use Rattle.state.specs.State.{jobAt, jobsIn, releasedIn, lastIn, remainingIn, releaseIn, stateOf, lastOf, flagAt, laneOf, machineOf, zeroPlan, zeroState}
+use Rattle.state.specs.State.{jobAt, jobsIn, releasedIn, lastIn, remainingIn, releaseIn, stateOf, lastOf, flagAt, laneOf, machineOf, zeroState}
 use Rattle.state.specs.SoundState.{allOf, passes, tidyTest, loopSound, placeSound, soundOf}
 use Rattle.state.specs.Calls.{openOf, tasksOf, stepTests, admitTests, releaseTests, releaseOf, tickedOf, notStepped, stepOf}
 use Rattle.state.specs.AllLaws.{both}

@@ -13,7 +13,7 @@ use Rattle.tasks.specs.declared.Answer.{Answer}
 use Rattle.tasks.specs.declared.Answer.the-variants.{Accepted, Refused}
 use Rattle.tasks.specs.TaskSet.{TaskSet}
 use Rattle.tasks.specs.Content.{contentOf, tidy}
-use Rattle.tasks.specs.Tests.{refuse, firstMet, outside, testPlan}
+use Rattle.tasks.specs.Tests.{refuse, firstMet, unlessRefused, outside, testPlan}
 use Rattle.machine.specs.Machine.{Machine, opened, tooSoon, full, admitted, onCore, runs, tick, responses, idle}
 use Rattle.state.specs.declared.State.{State}
 use Rattle.state.specs.declared.Opened.{Opened}
@@ -21,11 +21,6 @@ use Rattle.state.specs.declared.Released.{Released}
 use Rattle.state.specs.declared.Stepped.{Stepped}
 use Rattle.state.specs.State.{stateOf, machineOf, zeroState}
 use Rattle.state.specs.SoundState.{soundOf}
-
--- the first value where the answer is no refusal, else the second
-abbrev pub unlessRefused : {A : Type 0} → Answer → A → A → A
-unlessRefused Accepted x y = x
-unlessRefused (Refused k i) x y = y
 
 -- "The engine is opened on a plan, tested by 3 to 13, at tick 0 with nothing pending." "Core and loop places that a plan doesn't use are handed
 -- back as zeros, in a newly opened state too"; "A refused … opening hands back a … state of zeros"

@@ -9,13 +9,13 @@ use Rattle.tasks.specs.declared.Plan.{Plan}
 use Rattle.tasks.specs.declared.Answer.{Answer}
 use Rattle.tasks.specs.declared.Answer.the-variants.{Accepted, Refused}
 use Rattle.tasks.specs.Content.{tidy}
-use Rattle.tasks.specs.Tests.{testPlan}
+use Rattle.tasks.specs.Tests.{testPlan, unlessRefused}
 use Rattle.tasks.specs.AnswerLaws.{firstMet-passed}
 use Rattle.machine.specs.Machine.{opened, admitted, tick}
 use Rattle.state.specs.declared.State.{State}
 use Rattle.state.specs.State.{stateOf, machineOf}
 use Rattle.state.specs.SoundState.{soundOf}
-use Rattle.state.specs.Calls.{unlessRefused, openOf, tasksOf, stepTests, admitTests, releaseTests, releaseOf, tickedOf, notStepped, stepOf}
+use Rattle.state.specs.Calls.{openOf, tasksOf, stepTests, admitTests, releaseTests, releaseOf, tickedOf, notStepped, stepOf}
 use Rattle.state.specs.Fit.{Shaped}
 use Rattle.state.specs.FitLaws.{sound-fit, fit-sound}
 use Rattle.state.specs.KeptLaws.{opened-fit, admitted-fit, ticked-fit}

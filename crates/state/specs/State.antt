@@ -3,7 +3,7 @@
 --     jobsIn … releaseIn                each array of a machine's state
 --     stateOf p M                       the state that keeps the plan p and the machine M, zeros in its unused places
 --     laneOf, machineOf s               the machine that a state stands for
---     zeroPlan, zeroState               a plan and a state of zeros
+--     zeroState                         a state of zeros
 use Prim.Native.Nat.{ℕ, _+_, _*_, _/_, _%_}
 use mathlib.Core.Bool.{Bool, true, false}
 use mathlib.Core.Option.{Option, none, some}
@@ -12,7 +12,7 @@ use lib.ListN.{length, getD, replicate}
 use Rattle.laws.specs.Tab.{tab}
 use Rattle.tasks.specs.declared.Plan.{Plan}
 use Rattle.tasks.specs.TaskSet.{row}
-use Rattle.tasks.specs.Content.{noTask}
+use Rattle.tasks.specs.Content.{zeroPlan}
 use Rattle.machine.specs.Machine.{Job, job, releaseTick, remaining, Lane, Machine}
 use Rattle.state.specs.declared.State.{State}
 
@@ -81,17 +81,6 @@ laneOf s i = record { last = lastOf (flagAt s i) (row (s .last) i); queue = tab 
 -- loops from 16 on, which the arrays have no place for, are idle
 unfoldable pub machineOf : State → Machine
 machineOf s = record { clock = s .clock; lane = laneOf s }
-
-unfoldable pub zeroPlan : Plan
-zeroPlan =
-    record {
-      offered = false;
-      cores = 0;
-      tasks = 0;
-      labels = replicate 8 0;
-      task = replicate 16 noTask;
-      slack = replicate 16 0;
-    }
 
 unfoldable pub zeroState : State
 zeroState =

@@ -19,8 +19,8 @@ use Rattle.tasks.specs.declared.Plan.{Plan}
 use Rattle.tasks.specs.declared.Answer.{Answer}
 use Rattle.tasks.specs.declared.Answer.the-variants.{Accepted, Refused}
 use Rattle.tasks.specs.TaskSet.{TaskSet, found, row}
-use Rattle.tasks.specs.Content.{Content, contentOf, planOf, noTask}
-use Rattle.tasks.specs.Tests.{firstMet, orNext, test3, test4, test5, test6, test7, test8, test9, test10, test11, tests}
+use Rattle.tasks.specs.Content.{Content, contentOf, planOf, noTask, zeroPlan}
+use Rattle.tasks.specs.Tests.{firstMet, orNext, test3, test4, test5, test6, test7, test8, test9, test10, test11, tests, unlessRefused}
 use Rattle.tasks.specs.AnswerLaws.{refuse-passed, orNext-passed, firstMet-passed, firstMet-append}
 use Rattle.tasks.specs.LimitsLaws.{limitTests, slackTests, tests-split, limits-passed}
 use Rattle.analysis.specs.Settled.{offering, offeredTest, hadSlack}
@@ -30,7 +30,7 @@ use Rattle.analysis.specs.JudgingLaws.{judging, judging-tests, judging-found, j
 use Rattle.table.specs.declared.Judgement.{Judgement}
 use Rattle.codec.specs.Bytes.{byte, number}
 use Rattle.codec.specs.Table.{coreCount, taskCount, tasksAt, slackCount, slackAt, taskIn, taskSetIn, contentIn, test1, test2, verdict}
-use Rattle.table.specs.Judged.{onAccepted, zeroPlan, refusedWith, judged}
+use Rattle.table.specs.Judged.{refusedWith, judged}
 use Rattle.codec.specs.declared.read.Counts.the-variants.{Read, Refused as NotRead}
 use Rattle.codec.specs.Stages.{countsIn, answerOfCounts}
 use Rattle.table.specs.LoadedLaws.{planIn, tasks-in, labels-in, limits-all, offered-in}
@@ -58,7 +58,7 @@ judgedAnswer p k =
 
 pub record Judges (p : Plan) (k : ℕ) (r : Judgement) : Type 0 where
   pub answer : r .answer ≡ judgedAnswer p k
-  pub plan : r .plan ≡ onAccepted (r .answer) (withSlack p (tab (hadSlack (offering p k)) 16)) zeroPlan
+  pub plan : r .plan ≡ unlessRefused (r .answer) (withSlack p (tab (hadSlack (offering p k)) 16)) zeroPlan
 
 -- the loaders' places, and the plan that they fill
 module _ (t : List ℕ) (m n k : ℕ) (g : Counted t m n k) where
@@ -231,7 +231,7 @@ module _ (t : List ℕ) where
 
   chosen :
       (a : Answer) → a ≡ tests (contentIn t) →
-      onAccepted a (withSlack (loaded t) (tab (hadSlack said) 16)) zeroPlan ≡ onAccepted a (planOf (contentIn t)) zeroPlan
+      unlessRefused a (withSlack (loaded t) (tab (hadSlack said) 16)) zeroPlan ≡ unlessRefused a (planOf (contentIn t)) zeroPlan
   chosen Accepted e = plan-in (sym e)
   chosen (Refused j i) e = refl
 
@@ -240,7 +240,7 @@ module _ (t : List ℕ) where
   unfolding judged said
   judged-from e r g =
       let a = g .answer ∙ answer-in ∙ sym (past-two e) in
-      let p = g .plan ∙ ap (λ (b : Answer). onAccepted b (withSlack (loaded t) (tab (hadSlack said) 16)) zeroPlan) a ∙ chosen (verdict t) (past-two e) in
+      let p = g .plan ∙ ap (λ (b : Answer). unlessRefused b (withSlack (loaded t) (tab (hadSlack said) 16)) zeroPlan) a ∙ chosen (verdict t) (past-two e) in
       λ i. record { answer = a i; plan = p i }
 
 -- the first stage's answer

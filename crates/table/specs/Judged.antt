@@ -4,46 +4,29 @@
 --     written          the writer's answer, `writtenTo` the bytes that it leaves behind
 --     answerOfWritten, lengthOfWritten    document 01's number and index, and the length, for each case of the writer's answer
 use Prim.Native.Nat.{ℕ}
-use mathlib.Core.Bool.{false}
 use mathlib.Core.List.{List, [], _∷_, _++_}
-use lib.ListN.{length, drop, replicate}
+use lib.ListN.{length, drop}
 use lib.Dec.{ltb}
 use Rattle.tasks.specs.declared.Plan.{Plan}
 use Rattle.tasks.specs.declared.Answer.{Answer}
 use Rattle.tasks.specs.declared.Answer.the-variants.{Accepted, Refused}
-use Rattle.tasks.specs.Content.{contentOf, planOf, noTask}
-use Rattle.tasks.specs.Tests.{refuse, firstMet, testPlan}
+use Rattle.tasks.specs.Content.{contentOf, planOf, zeroPlan}
+use Rattle.tasks.specs.Tests.{refuse, firstMet, unlessRefused, testPlan}
 use Rattle.table.specs.declared.Judgement.{Judgement}
 use Rattle.table.specs.declared.Written.{Written}
 use Rattle.table.specs.declared.Written.the-variants.{Length, Refused as NotWritten}
 use Rattle.codec.specs.Table.{contentIn, bytesOf, slackAt, verdict}
-
-unfoldable pub zeroPlan : Plan
-zeroPlan =
-    record {
-      offered = false;
-      cores = 0;
-      tasks = 0;
-      labels = replicate 8 0;
-      task = replicate 16 noTask;
-      slack = replicate 16 0;
-    }
-
--- x where the answer is no refusal, else y
-abbrev pub onAccepted : {A : Type 0} → Answer → A → A → A
-onAccepted Accepted x y = x
-onAccepted (Refused k i) x y = y
 
 unfoldable pub refusedWith : Answer → Judgement
 refusedWith a = record { answer = a; plan = zeroPlan }
 
 -- "A refused judgement … hands back a plan … of zeros"
 unfoldable pub judged : List ℕ → Judgement
-judged t = record { answer = verdict t; plan = onAccepted (verdict t) (planOf (contentIn t)) zeroPlan }
+judged t = record { answer = verdict t; plan = unlessRefused (verdict t) (planOf (contentIn t)) zeroPlan }
 
 -- "its entries without the count byte, with count 0 or a refused table as an empty part"
 unfoldable pub slackPart : List ℕ → List ℕ
-slackPart t = onAccepted (verdict t) (drop (slackAt t) t) []
+slackPart t = unlessRefused (verdict t) (drop (slackAt t) t) []
 
 -- "24. The buffer lent to the writer … is too short, tested after 3 to 13."
 unfoldable pub writeTest : Plan → ℕ → Answer
@@ -68,6 +51,6 @@ written p room = writtenAs (writeTest p room) (length (bytesOf (contentOf p)))
 -- "The writer … returns the bytes written, and later bytes of its buffer stay." "Nothing lent is written" on a refusal.
 unfoldable pub writtenTo : Plan → List ℕ → List ℕ
 writtenTo p out =
-    onAccepted (writeTest p (length out))
+    unlessRefused (writeTest p (length out))
     (bytesOf (contentOf p) ++ drop (length (bytesOf (contentOf p))) out)
     out

@@ -11,11 +11,11 @@ use Rattle.tasks.specs.declared.Plan.{Plan}
 use Rattle.tasks.specs.declared.Answer.{Answer}
 use Rattle.tasks.specs.declared.Answer.the-variants.{Accepted, Refused}
 use Rattle.tasks.specs.Content.{contentOf}
-use Rattle.tasks.specs.Tests.{firstMet, testPlan}
+use Rattle.tasks.specs.Tests.{firstMet, testPlan, unlessRefused}
 use Rattle.tasks.specs.TestsLaws.{tests-limits}
 use Rattle.table.specs.declared.Written.the-variants.{Length, Refused as NotWritten}
 use Rattle.codec.specs.Table.{bytesOf}
-use Rattle.table.specs.Judged.{onAccepted, writtenAs, answerOfWritten, lengthOfWritten, writeTest, written, writtenTo}
+use Rattle.table.specs.Judged.{writtenAs, answerOfWritten, lengthOfWritten, writeTest, written, writtenTo}
 
 module _ (p : Plan) (out : List ℕ) where
   pub write-refused :
@@ -48,10 +48,10 @@ module _ (p : Plan) (room : ℕ) where
       go Accepted = refl
       go (Refused k i) = refl
 
-  pub written-length : lengthOfWritten (written p room) ≡ onAccepted (writeTest p room) (length (bytesOf (contentOf p))) 0
+  pub written-length : lengthOfWritten (written p room) ≡ unlessRefused (writeTest p room) (length (bytesOf (contentOf p))) 0
   unfolding lengthOfWritten written
   written-length = go (writeTest p room)
     where
-      go : (a : Answer) → lengthOfWritten (writtenAs a (length (bytesOf (contentOf p)))) ≡ onAccepted a (length (bytesOf (contentOf p))) 0
+      go : (a : Answer) → lengthOfWritten (writtenAs a (length (bytesOf (contentOf p)))) ≡ unlessRefused a (length (bytesOf (contentOf p))) 0
       go Accepted = refl
       go (Refused k i) = refl

@@ -3,12 +3,13 @@
 --     contentOf    what a plan says
 --     planOf       the plan that keeps a content, zeros in its unused places
 --     tidy         a plan with zeros in its unused places
+--     noTask, zeroPlan    a task and a plan of zeros
 --     Same         "two plans are the same if their used entries and that mark agree"
 use Prim.Native.Nat.{ℕ}
 use mathlib.Core.Path.{_≡_}
-use mathlib.Core.Bool.{cond, not}
+use mathlib.Core.Bool.{false, cond, not}
 use mathlib.Core.List.{List}
-use lib.ListN.{getD}
+use lib.ListN.{getD, replicate}
 use lib.Dec.{eqb}
 use Rattle.laws.specs.Tab.{tab, cut}
 use Rattle.tasks.specs.declared.Task.{Task}
@@ -24,6 +25,17 @@ pub record Content : Type 0 where
 
 unfoldable pub noTask : Task
 noTask = record { separation = 0; budget = 0; offset = 0 }
+
+unfoldable pub zeroPlan : Plan
+zeroPlan =
+    record {
+      offered = false;
+      cores = 0;
+      tasks = 0;
+      labels = replicate 8 0;
+      task = replicate 16 noTask;
+      slack = replicate 16 0;
+    }
 
 unfoldable pub taskOf : List Task → ℕ → Task
 taskOf l i = getD l i noTask

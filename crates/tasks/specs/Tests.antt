@@ -2,6 +2,8 @@
 --     refuse k b      k at 0 where b holds
 --     lowest k p n    k at the lowest index below n where p holds
 --     firstMet        the first refusal of a list of tests
+--     numberOf, indexOf    number and index of a refused answer, 0 of another
+--     unlessRefused   one value where the answer is no refusal, another where it is
 --     test3 … test13, tests, testPlan
 use Prim.Native.Nat.{ℕ, _+_, _-_, _*_}
 use mathlib.Core.Bool.{Bool, true, false, cond, not, _&&_, _||_}
@@ -34,6 +36,20 @@ orNext (Refused k i) b = Refused k i
 unfoldable pub firstMet : List Answer → Answer
 firstMet [] = Accepted
 firstMet (a ∷ l) = orNext a (firstMet l)
+
+-- "A refused call returns its number and an index"
+abbrev pub numberOf : Answer → ℕ
+numberOf Accepted = 0
+numberOf (Refused k i) = k
+
+abbrev pub indexOf : Answer → ℕ
+indexOf Accepted = 0
+indexOf (Refused k i) = i
+
+-- x where the answer is no refusal, else y
+abbrev pub unlessRefused : {A : Type 0} → Answer → A → A → A
+unlessRefused Accepted x y = x
+unlessRefused (Refused k i) x y = y
 
 -- whether x is not `low` to `high`
 unfoldable pub outside : ℕ → ℕ → ℕ → Bool

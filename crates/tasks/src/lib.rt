@@ -1,5 +1,7 @@
 // The records that every layer shares: a task, a plan, and the answer of a test. What document 01 says of them is in specs/.
 pub mod refusal;
+ghost use mathlib.Core.Path.{_≡_};
+ghost use Rattle.tasks.specs.Content.{noTask, zeroPlan};
 
 // Document 01's loop: separation T, budget C, priority offset Y, in ticks.
 pub struct Task {
@@ -22,4 +24,29 @@ pub struct Plan {
 pub enum Answer {
     Accepted,
     Refused { number: u8, index: u16 },
+}
+
+// A task of zeros: an unused place.
+pub fn no_task() -> Task
+    ensures { λ r. ⌜ r ≡ noTask ⌝ }
+{
+    Task {
+        separation: 0,
+        budget: 0,
+        offset: 0,
+    }
+}
+
+// A plan of zeros, which a refused judgement hands back.
+pub fn no_plan() -> Plan
+    ensures { λ r. ⌜ r ≡ zeroPlan ⌝ }
+{
+    Plan {
+        offered: false,
+        cores: 0,
+        tasks: 0,
+        labels: [0; 8],
+        task: [no_task(); 16],
+        slack: [0; 16],
+    }
 }

@@ -16,13 +16,13 @@ use lib.ListN.{replicate}
 use borrow.Author.Tests.{eq-eqb, ne-eqb}
 use Rattle.tasks.specs.declared.Answer.{Answer}
 use Rattle.tasks.specs.declared.Answer.the-variants.{Accepted, Refused}
-use Rattle.tasks.specs.Tests.{firstMet}
+use Rattle.tasks.specs.Tests.{firstMet, unlessRefused}
 use Rattle.state.specs.declared.State.{State}
 use Rattle.state.specs.declared.Released.{Released}
 use Rattle.state.specs.declared.Stepped.{Stepped}
 use Rattle.state.specs.State.{machineOf}
 use Rattle.state.specs.SoundState.{soundOf}
-use Rattle.state.specs.Calls.{unlessRefused, tasksOf, stepTests, tickedOf, notStepped, stepOf}
+use Rattle.state.specs.Calls.{tasksOf, stepTests, tickedOf, notStepped, stepOf}
 use Rattle.state.specs.CallLaws.{step-passed, step-refused, step-taken}
 use Rattle.state.specs.Fit.{Shaped}
 use Rattle.state.specs.FitLaws.{sound-fit, fit-sound, shaped}

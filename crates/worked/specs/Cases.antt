@@ -21,13 +21,12 @@ use Rattle.tasks.specs.declared.Answer.{Answer}
 use Rattle.tasks.specs.declared.Answer.the-variants.{Accepted, Refused}
 use Rattle.tasks.specs.TaskSet.{hyperperiod, share, weight, surplus, counted, amount, cover, covers, needed, row, raise, same, settle, found, bound}
 use Rattle.tasks.specs.Content.{noTask}
-use Rattle.tasks.specs.Tests.{lowest, firstMet, outside, badLabel, test3, test4, test5, test6, test7, test8, test9, test10, test11, test12, test13, tests}
+use Rattle.tasks.specs.Tests.{lowest, firstMet, outside, badLabel, test3, test4, test5, test6, test7, test8, test9, test10, test11, test12, test13, tests, unlessRefused}
 use Rattle.machine.specs.Machine.{opened, tooSoon, full, joined, admitted, waiting, point, before, chosen, runs, served, advanced, tick}
 use Rattle.history.specs.Engine.{Engine, verdict as asked, demanded, named}
 use Rattle.history.specs.Log.{Entry, largest as largestTick, back, until, calls, outcome, owed, allOwed, rest, whole}
 use Rattle.history.specs.OnMachine.{answerOf, handedOf, quietOf, machineEngine}
 use Rattle.history.specs.Report.{Report, finished, refusal, finishTick, report}
-use Rattle.table.specs.Judged.{onAccepted}
 use Rattle.demand.specs.Demand3.{runOn, demand-machine}
 use Rattle.logs.specs.LogBytes.{entryCount, entryIn, entriesIn, test14, test15, logTest}
 use Rattle.laws.specs.Member.{member}
@@ -150,7 +149,7 @@ worked = tt
 
 -- where the table is accepted, a run of the log on the engine opened on its plan writes the reports
 pub runAgrees : Case → Bool
-runAgrees c = onAccepted (c .answer) (sameReports (runOn (tableOf c)) (entriesIn (logOf c)) 0 (c .reports)) true
+runAgrees c = unlessRefused (c .answer) (sameReports (runOn (tableOf c)) (entriesIn (logOf c)) 0 (c .reports)) true
 
 pub runAll : List Case → Bool
 runAll [] = true
@@ -195,7 +194,7 @@ delivered c t = go (c .answer) (all .0)
 
     go :
         (a : Answer) → T (sameAnswer (verdict (tableOf c)) a)
-        → T (onAccepted a (sameReports (runOn (tableOf c)) (entriesIn (logOf c)) 0 (c .reports)) true)
+        → T (unlessRefused a (sameReports (runOn (tableOf c)) (entriesIn (logOf c)) 0 (c .reports)) true)
     go Accepted q =
         subst (λ (f : ℕ → Report). T (sameBy f (length (entriesIn (logOf c))) 0 (c .reports)))
         (sym (demand-machine (tableOf c) (accepts _ q) (logOf c) (accepts _ (all .1)))) (all .2)

@@ -1,7 +1,6 @@
 -- `engine::tidy::zeros` meets its contract.
-use Rattle.tasks.specs.Content.{noTask}
+use Rattle.tasks.specs.Content.{noTask, zeroPlan}
 use Rattle.state.specs.CallLaws.{zero-empty}
-use Rattle.state.specs.State.{zeroPlan}
 use mathlib.Core.Path.{sym, _∙_}
 use borrow.Author.Needs.{needs}
 use Rattle.engine.proofs.tidy.zeros.Statement.{statement}

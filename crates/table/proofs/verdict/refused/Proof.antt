@@ -1,5 +1,5 @@
-use Rattle.tasks.specs.Content.{noTask}
-use Rattle.table.specs.Judged.{refusedWith, zeroPlan}
+use Rattle.tasks.specs.Content.{noTask, zeroPlan}
+use Rattle.table.specs.Judged.{refusedWith}
 use mathlib.Core.Path.{refl}
 use Rattle.table.proofs.verdict.refused.Statement.{statement}
 use Rattle.table.proofs.verdict.refused.Tie as tie
