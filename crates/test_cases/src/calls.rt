@@ -1,0 +1,100 @@
+// Lines that make a call, print its case under the name at the line's end and, of a release or a step, take the state that it hands back.
+use crate::world::World;
+use state::State;
+use tasks::Plan;
+use test_engine::calls;
+use test_engine::lent::lent;
+use test_logs::run;
+use test_script::line::front;
+use test_script::line::number;
+use test_script::line::rest;
+use test_script::say;
+use test_tables::draft::Draft;
+use test_tables::judged;
+use test_tables::written;
+
+fn judge(table: Draft, words: &[u8]) {
+    let bytes = table.bytes;
+    judged::bytes(words, front(&bytes, table.length));
+}
+
+// `write ROOM NAME`: the table in the making is what should come out.
+fn write(plan: Plan, table: Draft, words: &[u8]) {
+    let room = number(words, 0);
+    let bytes = table.bytes;
+    say::case(b"plan ", rest(words, room.next));
+    written::outcome(plan, room.value as usize, front(&bytes, table.length));
+}
+
+// `run ROOM NAME`.
+fn run_log(table: Draft, log: Draft, words: &[u8]) {
+    let room = number(words, 0);
+    let bytes = table.bytes;
+    let entries = log.bytes;
+    run::bytes(
+        rest(words, room.next),
+        front(&bytes, table.length),
+        front(&entries, log.length),
+        room.value as usize,
+    );
+}
+
+// `release I DEMAND NAME`.
+fn release(state: State, words: &[u8]) -> State {
+    let task = number(words, 0);
+    let demand = number(words, task.next);
+    calls::release(
+        rest(words, demand.next),
+        state,
+        task.value as usize,
+        (demand.value % 4294967296) as u32,
+    )
+}
+
+fn stateless(world: World, what: &[u8], words: &[u8]) {
+    let table = world.table;
+    let log = world.log;
+    let plan = world.plan;
+    let state = world.state;
+    if check::same(what, b"judge") {
+        judge(table, words);
+        return;
+    }
+    if check::same(what, b"write") {
+        write(plan, table, words);
+        return;
+    }
+    if check::same(what, b"run") {
+        run_log(table, log, words);
+        return;
+    }
+    if check::same(what, b"open") {
+        calls::open(words, plan);
+        return;
+    }
+    if check::same(what, b"unsound") {
+        calls::unsound(words, state);
+        return;
+    }
+    if check::same(what, b"lent") {
+        lent(words, state);
+        return;
+    }
+    say::text(b"not understood: a call's line\n");
+}
+
+pub fn act(mut world: World, what: &[u8], words: &[u8]) -> World {
+    let state = world.state;
+    if check::same(what, b"release") {
+        let next = release(state, words);
+        world.state = next;
+        return world;
+    }
+    if check::same(what, b"step") {
+        let next = calls::step(words, state);
+        world.state = next;
+        return world;
+    }
+    stateless(world, what, words);
+    world
+}

@@ -1,0 +1,3 @@
+// What the program that runs cases reads and prints: the words and numbers of a line, and the lines of a case.
+pub mod line;
+pub mod say;

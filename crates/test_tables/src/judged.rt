@@ -1,0 +1,62 @@
+// A table's case: what `judge` and `slack_part` answer to it, and what comes of writing the plan.
+use crate::same::all_zero;
+use crate::same::unused_zero;
+use crate::written;
+use tasks::Answer;
+use tasks::Plan;
+use test_script::say;
+
+// 64 bits hold the bound of any offered slack.
+fn bound(offset: u32, slack: u32, budget: u32) -> u64 {
+    offset as u64 + slack as u64 + budget as u64
+}
+
+fn say_task(i: usize, offset: u32, slack: u32, budget: u32) {
+    say::number(b"loop ", i as u64);
+    say::number(b" slack ", slack as u64);
+    say::number(b" bound ", bound(offset, slack, budget));
+    say::text(b"\n");
+}
+
+fn say_tasks(plan: Plan) {
+    let tasks = plan.tasks;
+    let mut i = 0;
+    while i < 16 {
+        if i < tasks {
+            let task = plan.task[i];
+            say_task(i, task.offset, plan.slack[i], task.budget);
+        }
+        i += 1;
+    }
+}
+
+fn say_plan(plan: Plan) {
+    say::number(b"judge accepted cores ", plan.cores as u64);
+    say::number(b" loops ", plan.tasks as u64);
+    if plan.offered {
+        say::text(b" slack offered\n");
+    } else {
+        say::text(b" slack found\n");
+    }
+    say_tasks(plan);
+    say::fact(b"unused places are zero", unused_zero(plan));
+}
+
+// A table of any bytes.
+pub fn bytes(name: &[u8], table: &[u8]) {
+    say::case(b"table ", name);
+    let judgement = table::judge(table);
+    let plan = judgement.plan;
+    let answer = judgement.answer;
+    match answer {
+        Answer::Accepted => {
+            say_plan(plan);
+            written::outcome(plan, 400, table);
+        }
+        Answer::Refused { number, index } => {
+            say::refusal(b"judge", number, index);
+            say::fact(b"the plan is of zeros", all_zero(plan));
+        }
+    }
+    say::bytes(b"slack part", table::slack_part(table));
+}
