@@ -7,7 +7,7 @@
 --     machine-takes                demand 3's first claim, of the machine
 --     met-not-23                   so no entry is refused 23
 use Prim.Native.Nat.{ℕ, zero, suc, _+_, _-_, _<_}
-use mathlib.Core.Bool.{Bool, true, false, cond, _&&_, _||_, true≢false, false≢true}
+use mathlib.Core.Bool.{Bool, true, false, cond, _&&_, _||_, true≢false}
 use mathlib.Core.Path.{_≡_, refl, sym, ap, subst, _∙_}
 use mathlib.Core.Logic.{_↔_, ⊎-elim}
 use mathlib.Core.Option.{Option, none, some}
@@ -23,14 +23,10 @@ use Rattle.machine.specs.Machine.{Machine, opened, within, tooSoon, full, joine
 use Rattle.machine.specs.Theorem.{never-full}
 use Rattle.history.specs.Engine.{Outcome, taken, refused, isTaken, firstOf, Engine, Call, ask, clock, state, verdict}
 use Rattle.history.specs.Log.{Entry, tickAt, loopAt, demandAt, back, wait, until, calls, outcome, Taken, Admissible}
-use Rattle.history.specs.LogLaws.{back-onward, onward-back, clock-entry, entry-cases}
+use Rattle.history.specs.LogLaws.{is-taken, back-onward, onward-back, clock-entry, entry-cases}
 use Rattle.history.specs.OnMachine.{answerOf, machineEngine}
 use Rattle.history.specs.Balance.{not-refused, other, handed-cases, reached, machine-clock}
 use Rattle.history.specs.Report.{lastTaken, met}
-
-pub is-taken : (o : Outcome) → isTaken o ≡ true → o ≡ taken
-is-taken taken e = refl
-is-taken (refused k) e = absurd (false≢true e)
 
 module _ (E : Engine) (l : List Entry) where
   last-split :
