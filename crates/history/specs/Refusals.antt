@@ -21,7 +21,7 @@ use Rattle.tasks.specs.Limits.{Limits, Bounded}
 use Rattle.tasks.specs.Tests.{outside}
 use Rattle.machine.specs.Machine.{Machine, opened, within, tooSoon, full, joined, admitted, advanced, tick}
 use Rattle.machine.specs.Theorem.{never-full}
-use Rattle.history.specs.Engine.{Outcome, taken, refused, isTaken, firstOf, Engine, Call, ask, clock, state, verdict}
+use Rattle.history.specs.Engine.{taken, refused, isTaken, firstOf, Engine, Call, ask, clock, state, verdict}
 use Rattle.history.specs.Log.{Entry, tickAt, loopAt, demandAt, back, wait, until, calls, outcome, Taken, Admissible}
 use Rattle.history.specs.LogLaws.{is-taken, back-onward, onward-back, clock-entry, entry-cases}
 use Rattle.history.specs.OnMachine.{answerOf, machineEngine}
