@@ -1,7 +1,8 @@
 -- The claims written out as sums of document 01's numbers, and from the other side: what a claim has to say at least. A claim that is
 -- weakened does not give them.
 --     in-time-sum       an entry is in time exactly if it finishes at most Y + x + C ticks after its tick
---     takes-conditions  it is taken exactly under the four conditions, with its distance to every taken one of its loop before it
+--     Conditions        the four conditions of an entry, with its distance to every taken one of its loop before it
+--     takes-conditions  it is taken exactly under them
 --     history-sum       a release that has ended in a history did so at most Y + x + C ticks later
 --     history-ends      and once so many ticks have passed it has ended
 --     history-log       so an entry of a log finishes within them if the claim of histories reaches as far as the log's run
@@ -16,7 +17,6 @@ use Rattle.history.specs.Engine.{taken, Engine, Call, ask, clock, verdic
 use Rattle.history.specs.Log.{Entry, tickAt, loopAt, demandAt, until, calls, Taken, owed, whole, Finishes, Admissible, InTime, Claim}
 use Rattle.history.specs.LogLaws.{clock-entry, taken-call, demanded-calls, taken-whole, taken-apart}
 
--- the four conditions of an entry of a log
 pub record Conditions (E : Engine) (s : TaskSet) (l : List Entry) (e : ℕ) : Type 0 where
   pub onward : (j : ℕ) → j < e → tickAt l j ≤ tickAt l e
   pub in-table : loopAt l e < s .count

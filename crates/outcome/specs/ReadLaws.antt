@@ -1,7 +1,7 @@
 -- What stands at the places that the statement names: the numbers of the plan, of the log and of the reports.
 --     same-loops, separation-at, budget-at, offset-at       what a table's bytes say of its loops
---     kind-of, finish-of, refusal-of                        the eight bytes of a report
---     kind-at, number-at                                    the eight bytes that a log run leaves of entry e
+--     finish-kind, finish-number                            the eight bytes that a log run leaves of an entry that is reported as finished
+--     refusal-kind, refusal-number                          and of one that is reported as refused
 --     sum-high                                              Y + x + C is at most 1,600,000 for a loop of an accepted table
 --     slack-at, bound-at                                    the eight bytes that the C judgement leaves of loop i
 use Prim.Native.Nat.{ℕ, _+_, _*_, _≤_, _<_}
