@@ -50,7 +50,7 @@ def rattle(file):
     for block in file.functions():
         if not block.exported:
             continue
-        text = " ".join(file.plain[block.line : block.contract[0]])
+        text = " ".join(file.plain[block.line : max(block.contract[0], block.line + 1)])
         inner, result = re.match(r".*?\((.*)\)\s*(?:->\s*(\w+))?", text).groups()
         parameters = []
         for name, kind in fields(inner):

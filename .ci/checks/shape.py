@@ -72,12 +72,28 @@ def dependencies(tree):
                 for other, line in crates_named(tree, file):
                     named.setdefault(other, (file.path, line))
         for other in listed:
-            if other not in named:
+            if other not in named and not reached(tree, crate, named, other):
                 faults.append(("crates.txt", tree.crate_line[crate], f"{crate} lists {other}, which no file of it names"))
         for other, (path, line) in sorted(named.items()):
             if other not in listed and other != crate:
                 faults.append((path, line, f"crates.txt does not list {other} for {crate}"))
     return faults
+
+
+def reached(tree, crate, named, other):
+    """Whether the crate's code may handle values of a type that the other declares, by functions and types of the crates that it names: such a
+    type's crate must be listed too."""
+    if not any(file.crate == crate and file.functions() for file in tree.code.values()):
+        return False
+    types = [b.name for f in tree.code.values() if f.crate == other for b in f.blocks if b.kind in ("struct", "enum")]
+    held = re.compile(r"(?<!\w)(" + "|".join(types) + r")(?!\w)")
+    for file in tree.code.values():
+        if types and file.crate in named and file.crate != other:
+            for block in file.blocks:
+                end = block.body if block.kind == "fn" else block.end
+                if held.search("\n".join(file.plain[block.line : end + 1])):
+                    return True
+    return False
 
 
 def crates_named(tree, file):
