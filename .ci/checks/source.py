@@ -179,18 +179,25 @@ class Spec(File):
             i += 1
 
     def _read_blocks(self):
-        inside = [-1]
+        """Declarations stand at the left margin, or at the margin of the modules that they are in."""
+        margins = [(-1, 0)]
+        header = None
         for i, line in enumerate(self.plain):
             if i in self.import_lines or not line.strip():
                 continue
             indent = len(line) - len(line.lstrip())
-            while inside and indent <= inside[-1]:
-                inside.pop()
-            if re.match(r"^\s*module\s", line):
-                inside.append(indent)
+            if header is None and margins[-1][1] is None:
+                margins[-1] = (margins[-1][0], indent)
+            while header is None and indent <= margins[-1][0]:
+                margins.pop()
+            if header is None and re.match(r"^\s*module\s", line):
+                header = indent
+            if header is not None:
+                if re.search(r"(^|\s)where$", line.rstrip()):
+                    margins.append((header, None))
+                    header = None
                 continue
-            level = 0 if not inside or inside[-1] < 0 else inside[-1] + 2
-            if indent == level:
+            if indent == margins[-1][1]:
                 self._declare(i, line)
         for block in self.blocks:
             self._extend(block)

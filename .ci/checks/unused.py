@@ -1,5 +1,5 @@
 """Names that nothing uses: declarations of specs, proofs and code that no other place names and no document cites; imports that their file
-does not need. A use in the declaration's own lines (a recursive clause) does not count, and an import counts where it is used."""
+does not need; names that a file's head lists and the file does not have. A use in the declaration's own lines (a recursive clause) does not count, and an import counts where it is used."""
 
 import re
 
@@ -10,7 +10,7 @@ def check(tree, citations):
     uses = Uses(tree)
     faults = []
     for file in tree.antt():
-        faults += imports(file)
+        faults += imports(file) if "/proofs/" in file.path else heads(file) + list(imports(file))
         faults += [f for f in declarations(file, uses, citations)]
         faults += helpers(file)
     for file in tree.code.values():
@@ -80,6 +80,23 @@ def part_used(file, block, part, line, uses):
         return word(part).search(rest) is not None or any(word(part).search(text) for text in others)
     read = re.compile(rf"\.{re.escape(part)}(?![^\s(){{}}\[\],;.\"⌜⌝])")
     return word(part).search(rest) is not None or any(read.search(text) for text in others)
+
+
+def heads(file):
+    """The list at the head of a file: `--     name, name    meaning`, where `-more` goes on from the name before it."""
+    faults, known = [], file.names() | {item.alias for item in file.imports}
+    for i, line in enumerate(file.lines):
+        if not line.startswith("--"):
+            break
+        listed = re.match(r"^--     (\S.*?)(?:\s{2,}|$)", line)
+        before = ""
+        for item in listed.group(1).split(",") if listed else []:
+            name = item.split()[0] if item.split() else ""
+            ends = [name] if not name.startswith("-") else [before[:k] + name for k, c in enumerate(before) if c == "-"]
+            if name and not name.endswith("…") and not any(end in known for end in ends):
+                faults.append((file.path, i + 1, f"the head lists {name}, which the file does not declare"))
+            before = name if not name.startswith("-") else before
+    return faults
 
 
 def imports(file):
