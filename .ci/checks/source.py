@@ -209,8 +209,9 @@ class Spec(File):
             return
         made = SIGNATURE.match(line)
         if made and made.group(3).split()[0] not in KEYWORDS:
-            kind = "definition" if re.search("unfoldable|abbrev", made.group(2)) else "law"
             for name in made.group(3).split():
+                written_so = "-" not in name and re.search("[a-z][A-Z]", name)
+                kind = "definition" if written_so or re.search("unfoldable|abbrev", made.group(2)) else "law"
                 self.blocks.append(Block(name, kind, i, len(made.group(1)), "pub" in made.group(2)))
 
     def _extend(self, block):
