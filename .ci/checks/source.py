@@ -323,7 +323,8 @@ def occurs(name, text):
     if word(name).search(text):
         return True
     parts = [part for part in name.split("_") if part]
-    return "_" in name and bool(parts) and all(part in text for part in parts)
+    between = name.startswith("_") and name.endswith("_")
+    return "_" in name and bool(parts) and all(word(part).search(text) if between else part in text for part in parts)
 
 
 def word(name):
