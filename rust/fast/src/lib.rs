@@ -16,7 +16,7 @@ pub use engine::{release, step, tick};
 pub use log::{run_log, run_log_by_ticks};
 
 use records::{Refusal, Tasks};
-use slack::Demand;
+use slack::Rates;
 use table::{Sections, TASKS, read_tasks};
 
 /// Judges a table and writes slack and bound of each task to `out`, as the C judgement does.
@@ -39,17 +39,17 @@ impl Judged {
         let sections = Sections::split(table)?;
         let cores = sections.cores()?;
         let tasks = read_tasks(sections.tasks, cores)?;
-        let demand = Demand::of(&tasks, cores)?;
-        let slack = slack(&demand, &tasks, sections.slack)?;
+        let rates = Rates::of(&tasks, cores)?;
+        let slack = slack(&rates, &tasks, sections.slack)?;
         let bound = bounds(&tasks, &slack)?;
         Ok(Judged { cores, tasks, slack, bound })
     }
 }
 
 /// The slack, found or offered: 11 and 12.
-fn slack(demand: &Demand, tasks: &Tasks, offer: &[[u8; 4]]) -> Result<[u32; TASKS], Refusal> {
+fn slack(rates: &Rates, tasks: &Tasks, offer: &[[u8; 4]]) -> Result<[u32; TASKS], Refusal> {
     if offer.is_empty() {
-        return Ok(demand.search());
+        return Ok(rates.search());
     }
     if offer.len() != tasks.count {
         return refuse(11, 0);
@@ -58,7 +58,7 @@ fn slack(demand: &Demand, tasks: &Tasks, offer: &[[u8; 4]]) -> Result<[u32; TASK
     for (x, entry) in slack.iter_mut().zip(offer) {
         *x = u32::from_le_bytes(*entry);
     }
-    match demand.lowest_failing(&slack) {
+    match rates.lowest_failing(&slack) {
         Some(k) => refuse(12, k),
         None => Ok(slack),
     }
