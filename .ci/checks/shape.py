@@ -1,7 +1,7 @@
 """Sizes, the map, the dependencies and the must-fail edits.
 
 No file over 400 lines, stored output (stdin, stdout), Cargo.lock, docs/CLAIMS.md and docs/DECISIONS.md excepted: the last two go through document
-01 sentence by sentence. No body of a function of Rattle over 40 lines. README.md's map has the crates of crates.txt under the same
+01 sentence by sentence. No body of a function of Rattle over 40 lines or with two loops. README.md's map has the crates of crates.txt under the same
 headings in the same order. A crate lists the crates that its files name, and no other. The text that an edit replaces stands in its file once."""
 
 import re
@@ -10,6 +10,7 @@ from source import CRATE_NAMED
 
 LONGEST_FILE, LONGEST_FUNCTION = 400, 40
 UNMEASURED = re.compile(r"(^|/)(stdin|stdout|Cargo\.lock)$|^docs/(CLAIMS|DECISIONS)\.md$")
+LOOP = re.compile(r"^\s*(?:'\w+: )?(?:let (?:mut )?\w+(?:: [^=]+)? = )?(?:while|for|loop)\b", re.M)
 KIT = {"check", "libc", "io", "os", "bytes"}
 
 
@@ -28,6 +29,9 @@ def sizes(tree):
             count = block.end - block.body - 1
             if count > LONGEST_FUNCTION:
                 faults.append((file.path, block.line + 1, f"the body of {block.name} has {count} lines, at most {LONGEST_FUNCTION}"))
+            loops = len(LOOP.findall("\n".join(file.plain[block.body : block.end + 1])))
+            if loops > 1:
+                faults.append((file.path, block.line + 1, f"{block.name} has {loops} loops, at most one"))
     return faults
 
 
