@@ -1,18 +1,20 @@
 -- The delivered engine mirrors the abstract machine as long as the clock is below 4,000,000,000, so what is claimed of the machine holds of it.
 --     same-answer          the first of 20 to 23 that a release meets, in both forms
 --     mirrored             the delivered engine mirrors the machine
+--     plan-steps           no step below that clock is refused
 --     plan-history         the claim of all histories, of the delivered engine
 --     plan-demand          demand 3 of a log, of the delivered engine
 --     plan-numbers         the numbers of the entries that it refuses
+--     plan-ends            a log's run ends below that clock; plan-quiet: and then nothing is pending
 --     plan-reports, plan-counts      what is written of the entries, and the two counts, are those of the machine
 use Prim.Native.Nat.{ℕ, suc, _≤_, _<_}
 use mathlib.Core.Bool.{Bool, true, false, not, _&&_, true≢false}
-use mathlib.Core.Path.{_≡_, refl, sym, ap, subst, fun-ext, _∙_}
+use mathlib.Core.Path.{_≡_, refl, sym, ap, fun-ext, _∙_}
 use mathlib.Core.List.{List, [], _∷_}
 use native.Mathlib.Omega.{arith}
 use lib.ListN.{length}
 use lib.Dec.{ltb, leb, eqb}
-use borrow.Author.Tests.{ltb-true, ltb-false, eqb-true, eqb-false, eq-eqb, ne-eqb}
+use borrow.Author.Tests.{ltb-true, ltb-false, eqb-true, eqb-false, eq-eqb}
 use Rattle.laws.specs.Tab.{tab}
 use Rattle.laws.specs.Member.{member}
 use Rattle.tasks.specs.declared.Plan.{Plan}
@@ -29,23 +31,23 @@ use Rattle.machine.specs.Sound.{reached-sound}
 use Rattle.state.specs.declared.State.{State}
 use Rattle.state.specs.State.{jobsIn, stateOf}
 use Rattle.state.specs.SoundState.{allOf}
-use Rattle.state.specs.Calls.{openOf, admitTests, releaseOf, tickedOf, stepOf}
+use Rattle.state.specs.Calls.{admitTests, releaseOf, tickedOf, stepOf}
 use Rattle.state.specs.Fit.{Fit}
-use Rattle.state.specs.FitLaws.{plan-limits, in-count, fit-tasks, idle-lane}
+use Rattle.state.specs.FitLaws.{plan-limits, in-count}
 use Rattle.state.specs.TidyLaws.{content-tidy, tidy-tidy, tidy-accepted}
 use Rattle.state.specs.KeptLaws.{step-state, release-state, reached-fit, open-state}
 use Rattle.state.specs.TakenLaws.{named-runs}
 use Rattle.state.specs.AllLaws.{all-at, of-all}
 use Rattle.state.specs.ViewLaws.{row-jobs}
-use Rattle.history.specs.Engine.{Outcome, taken, refused, firstOf, clock, HistoryClaim}
+use Rattle.history.specs.Engine.{taken, refused, firstOf, Call, clock, state, HistoryClaim}
 use Rattle.history.specs.Log.{Entry, tickAt, outcome, whole, Claim}
 use Rattle.history.specs.Report.{met, report, takenCount, refusedCount}
-use Rattle.history.specs.OnMachine.{answerOf, ifTaken, handedOf, quietOf, machineEngine}
-use Rattle.history.specs.Balance.{answer-allowed, handed-cases}
+use Rattle.history.specs.OnMachine.{answerOf, handedOf, quietOf, machineEngine}
+use Rattle.history.specs.Balance.{answer-allowed}
 use Rattle.history.specs.Life.{machine-history}
-use Rattle.history.specs.Drain.{quiet-idle, idle-quiet}
-use Rattle.history.specs.Mirror.{Mirrors, mirror-history}
-use Rattle.history.specs.MirrorLog.{same-report, same-counts}
+use Rattle.history.specs.Drain.{quiet-idle, idle-quiet, whole-quiet}
+use Rattle.history.specs.Mirror.{Mirrors, like, same-quiet, mirror-history}
+use Rattle.history.specs.MirrorLog.{same-whole, same-report, same-counts}
 use Rattle.history.specs.LogClock.{whole-clock, mirror-demand, mirror-numbers}
 use Rattle.demand.specs.Delivered.{outcomeOf, named, nothingPending, engineOf}
 
@@ -104,6 +106,10 @@ module _ (p : Plan) (a : testPlan p ≡ Accepted) where
         → releaseOf u i c
         ≡ record { answer = admitTests s M i c; state = unlessRefused (admitTests s M i c) (stateOf (tidy p) (admitted i c M)) (stateOf (tidy p) M) }
     released i c = rw (A .view, release-state (tidy p) M fits i c early, same-tasks)
+
+    step-taken : stepOf u .answer ≡ Accepted
+    unfolding tickedOf
+    step-taken = ap (λ r. r .answer) stepped
 
     steps : Alike (suc t) (stepOf u .state) (tick s M)
     unfolding tickedOf tick advanced
@@ -189,6 +195,11 @@ module _ (p : Plan) (a : testPlan p ≡ Accepted) where
         quiets = quiets;
       }
 
+  pub plan-steps : (h : List Call) → clock h < 4000000000 → stepOf (state (engineOf p) h) .answer ≡ Accepted
+  unfolding mirrored
+  plan-steps h low =
+      step-taken (clock h) (state (engineOf p) h) (state (machineEngine s) h) low (like (engineOf p) (machineEngine s) 4000000000 mirrored h low)
+
   pub plan-history : HistoryClaim (engineOf p) s (contentOf p .slack) 4000000000
   unfolding testPlan
   plan-history =
@@ -215,6 +226,17 @@ module _ (p : Plan) (a : testPlan p ≡ Accepted) where
           arith,
           whole-clock s (contentOf p .slack) (plan-limits p a) (tests-compliant (contentOf p) a) (tests-bounded (contentOf p) a) l 1000000000 ticks,
         )
+
+    same-calls : whole (engineOf p) l ≡ whole (machineEngine s) l
+    same-calls = same-whole (engineOf p) (machineEngine s) 4000000000 mirrored l run-ends
+
+    pub plan-ends : clock (whole (engineOf p) l) < 4000000000
+    plan-ends = rw same-calls run-ends
+
+    pub plan-quiet : nothingPending (state (engineOf p) (whole (engineOf p) l)) ≡ true
+    plan-quiet =
+        same-quiet (engineOf p) (machineEngine s) 4000000000 mirrored (whole (engineOf p) l) plan-ends
+        ∙ rw same-calls (whole-quiet s l (omega (arith, plan-limits p a .cores-low)))
 
     pub plan-reports : report (engineOf p) l ≡ report (machineEngine s) l
     plan-reports = fun-ext (same-report (engineOf p) (machineEngine s) 4000000000 mirrored l run-ends)

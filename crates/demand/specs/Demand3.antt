@@ -4,33 +4,37 @@
 --     Reports           what a log run writes of the entries is what *taken* and *finishes* say
 --     plan-passes       an accepted table's plan meets none of 3 to 13; log-early: no tick of a log past 15 is too late
 --     demand-3          the theorem: the three claims of every entry, one record over the whole log
+--     demand-ends       the run ends below the clock's end
+--     demand-quiet      after it nothing is pending; demand-steps: no step of it is refused
 --     demand-reports    what is written of each entry
 --     demand-machine    it is what the abstract machine's run says
 --     demand-numbers    a refused entry's number is the first of 17, 20, 21 and 22 that it meets; never-23: it is never 23
 --     demand-histories  the claim of every history of calls, whoever makes them, below the clock's end
 use Prim.Native.Nat.{ℕ, _≤_, _<_}
-use mathlib.Core.Path.{_≡_, refl, sym, ap, subst, _∙_}
+use mathlib.Core.Bool.{true}
+use mathlib.Core.Path.{_≡_, sym, ap, subst, _∙_}
 use mathlib.Core.Logic.{_↔_}
-use mathlib.Core.List.{List}
+use mathlib.Core.List.{List, _∷_, _++_}
+use native.Mathlib.Omega.{arith}
 use lib.ListN.{length}
-use Rattle.tasks.specs.declared.Plan.{Plan}
 use Rattle.tasks.specs.declared.Answer.the-variants.{Accepted}
-use Rattle.tasks.specs.TaskSet.{TaskSet}
-use Rattle.tasks.specs.Content.{Content, contentOf}
+use Rattle.tasks.specs.Content.{Content}
 use Rattle.tasks.specs.Tests.{tests, testPlan}
 use Rattle.codec.specs.Table.{contentIn, verdict}
 use Rattle.table.specs.Judged.{judged}
 use Rattle.roundtrip.specs.SectionLaws.{verdict-parts}
 use Rattle.roundtrip.specs.RoundTrip.{judged-kept}
-use Rattle.logs.specs.LogBytes.{entryCount, entryIn, entriesIn, logTest}
+use Rattle.logs.specs.LogBytes.{entryCount, entriesIn, logTest}
 use Rattle.logs.specs.LogLaws.{entries-length, entry-at, log-ticks}
-use Rattle.history.specs.Engine.{refused, Engine, HistoryClaim}
-use Rattle.history.specs.Log.{Entry, tickAt, outcome, Finishes, Claim}
-use Rattle.history.specs.Report.{Report, finished, refusal, met, report, report-finished, finished-report, report-refused, refused-report}
+use Rattle.state.specs.Calls.{stepOf}
+use Rattle.history.specs.Engine.{refused, Engine, Call, step, clock, state, HistoryClaim}
+use Rattle.history.specs.EngineLaws.{clock-later}
+use Rattle.history.specs.Log.{Entry, tickAt, outcome, whole, Finishes, Claim}
+use Rattle.history.specs.Report.{finished, refusal, met, report, report-finished, finished-report, report-refused, refused-report}
 use Rattle.history.specs.OnMachine.{machineEngine}
 use Rattle.history.specs.Refusals.{met-not-23}
-use Rattle.demand.specs.Delivered.{engineOf}
-use Rattle.demand.specs.DeliveredLaws.{plan-history, plan-demand, plan-numbers, plan-reports}
+use Rattle.demand.specs.Delivered.{nothingPending, engineOf}
+use Rattle.demand.specs.DeliveredLaws.{plan-steps, plan-history, plan-demand, plan-numbers, plan-ends, plan-quiet, plan-reports}
 
 -- "The engine is opened anew": on the plan that the judgement of the table hands back
 abbrev pub runOn : List ℕ → Engine
@@ -61,6 +65,19 @@ module _ (t : List ℕ) (a : verdict t ≡ Accepted) where
     demand-3 =
         subst (λ (c : Content). Claim (runOn t) (c .tasks) (c .slack) (entriesIn l)) (judged-kept t a)
         (plan-demand (judged t .plan) plan-passes (entriesIn l) (log-early l b))
+
+    pub demand-ends : clock (whole (runOn t) (entriesIn l)) < 4000000000
+    demand-ends = plan-ends (judged t .plan) plan-passes (entriesIn l) (log-early l b)
+
+    -- "After the last entry it steps until nothing is pending."
+    pub demand-quiet : nothingPending (state (runOn t) (whole (runOn t) (entriesIn l))) ≡ true
+    demand-quiet = plan-quiet (judged t .plan) plan-passes (entriesIn l) (log-early l b)
+
+    -- of a step of the run, with the calls h before it and g after it
+    pub demand-steps :
+        (g h : List Call) → whole (runOn t) (entriesIn l) ≡ g ++ step ∷ h → stepOf (state (runOn t) h) .answer ≡ Accepted
+    demand-steps g h e =
+        plan-steps (judged t .plan) plan-passes h (omega (arith, clock-later g (step ∷ h), ap clock e, demand-ends))
 
     -- what is written of the entries is what a run of the abstract machine of that table says
     pub demand-machine : report (runOn t) (entriesIn l) ≡ report (machineEngine (contentIn t .tasks)) (entriesIn l)

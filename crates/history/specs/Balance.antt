@@ -1,6 +1,6 @@
 -- Histories of the abstract machine: each of its states is reached from the opening, and what its steps named, what is left and what was
 -- demanded are in balance.
---     not-refused, other                  taken and refused differ, and so do two numbers
+--     not-refused, same-number, other     taken and refused differ, and so do two numbers
 --     answer-allowed, allowed-answer      a release is taken where it is allowed and a place is free
 --     handed-cases       what holds after a taken release, and where nothing changed, holds of the machine handed back
 --     reached            every state of a history is reached by taken releases and ticks
@@ -33,9 +33,12 @@ number taken = 0
 number (refused k) = k
 
 -- a refusal's number is one
-pub other : (k : ℕ) {n : ℕ} → refused k ≡ refused n → k ≢ n → ⊥
+pub same-number : {k n : ℕ} → refused k ≡ refused n → k ≡ n
 unfolding number
-other k e d = d (ap number e)
+same-number e = ap number e
+
+pub other : (k : ℕ) {n : ℕ} → refused k ≡ refused n → k ≢ n → ⊥
+other k e d = d (same-number e)
 
 module _ (s : TaskSet) (M : Machine) (i c : ℕ) where
   pub answer-allowed : answerOf s M i c ≡ taken → Allowed s M i c × (full M i ≡ false)

@@ -3,6 +3,7 @@ pub mod Log
 pub mod Report
 pub mod EngineLaws
 pub mod LogLaws
+pub mod ClaimLaws
 pub mod OnMachine
 pub mod Balance
 pub mod Life

@@ -6,24 +6,31 @@
 --     calls-later                    the calls of more entries come after those of fewer
 --     demanded-calls                 what the releases of the first entries demand of a loop
 --     taken-whole                    a taken entry's call is one of the whole run's
---     last-entry                     an entry of a loop has a last one before any later entry
+--     is-taken                       a release whose answer is no refusal is taken
+--     latest-of                      where an entry of a loop was taken, there is a last taken one before any later entry
+--     taken-apart                    an admissible entry is T or more ticks after every taken one of its loop before it
 --     claim-of                       demand 3's third claim follows from the other two
 use Prim.Native.Nat.{ℕ, zero, suc, _+_, _-_, _≤_, _<_, max}
-use mathlib.Core.Bool.{Bool, true, false, cond, _&&_}
-use mathlib.Core.Path.{_≡_, refl, sym, ap, subst, _∙_}
+use mathlib.Core.Bool.{Bool, true, false, cond, _&&_, true≢false, false≢true, and-eq-true-iff}
+use mathlib.Core.Path.{_≡_, refl, sym, ap, _∙_}
 use mathlib.Core.Logic.{_↔_, ⊎-elim}
 use mathlib.Core.List.{List, [], _∷_, _++_, append-assoc}
 use native.Mathlib.Nat.{le-refl, not-suc-le-zero, eq-or-lt-of-le, le-of-suc-le-suc}
 use native.Mathlib.Omega.{arith}
 use lib.ListN.{length}
 use lib.Dec.{ltb, eqb}
-use borrow.Author.Tests.{ltb-true, ltb-false, le-ltb, eqb-true, eqb-false}
+use borrow.Author.Tests.{ltb-true, ltb-false, le-ltb, eqb-true, eq-eqb}
+use Rattle.laws.specs.FirstLaws.{last-true}
 use Rattle.laws.specs.Sum.{sum}
 use Rattle.tasks.specs.TaskSet.{TaskSet}
 use Rattle.history.specs.Engine.{Outcome, taken, refused, isTaken, Engine, Call, ask, clock, verdict, demanded}
-use Rattle.history.specs.Log.{Entry, tickAt, loopAt, demandAt, largest, back, wait, until, calls, outcome, Taken, owed, rest, whole, Admissible, InTime, Claim}
+use Rattle.history.specs.Log.{Entry, tickAt, loopAt, demandAt, largest, back, wait, until, calls, outcome, Taken, owed, rest, whole, Latest, Admissible, InTime, Claim}
 use Rattle.history.specs.EngineLaws.{demanded-until, until-clock, wait-later}
 use Rattle.history.specs.Balance.{not-refused}
+
+pub is-taken : (o : Outcome) → isTaken o ≡ true → o ≡ taken
+is-taken taken e = refl
+is-taken (refused k) e = absurd (false≢true e)
 
 module _ (l : List Entry) where
   pub largest-le : (e j : ℕ) → j < e → tickAt l j ≤ largest l e
@@ -150,35 +157,40 @@ module _ (l : List Entry) where
             ∙ ap (λ z. (w .0 ++ r .0) ++ z) (taken-call E e t .2),
       )
 
-  pub last-entry :
-      (e i j : ℕ) → j < e → loopAt l j ≡ i
-      → (k : ℕ) × (j ≤ k) × (k < e) × (loopAt l k ≡ i) × ((n : ℕ) → k < n → n < e → loopAt l n ≡ i → ⊥)
-  last-entry zero i j h q = absurd (not-suc-le-zero h)
-  last-entry (suc e) i j h q = go (eqb (loopAt l e) i) refl (λ p. last-entry e i j p q)
+  pub latest-of : (E : Engine) (e j : ℕ) → j < e → Taken E l j → loopAt l j ≡ loopAt l e → (k : ℕ) × (j ≤ k) × Latest E l e k
+  latest-of E e j less t same =
+      let r = last-true taken-here e j less (here j t same) in (
+        r .0,
+        r .1,
+        record {
+          earlier = r .2;
+          was-taken = is-taken (outcome E l (r .0)) (parts (r .0) (r .3) .1);
+          same-loop = eqb-true (loopAt l (r .0)) (loopAt l e) (parts (r .0) (r .3) .0);
+          none-between = λ k a b t' same'. true≢false (sym (here k t' same') ∙ r .4 k a b);
+        },
+      )
     where
-      go :
-          (b : Bool) → eqb (loopAt l e) i ≡ b
-          → (j < e → (k : ℕ) × (j ≤ k) × (k < e) × (loopAt l k ≡ i) × ((n : ℕ) → k < n → n < e → loopAt l n ≡ i → ⊥))
-          → (k : ℕ) × (j ≤ k) × (k < suc e) × (loopAt l k ≡ i) × ((n : ℕ) → k < n → n < suc e → loopAt l n ≡ i → ⊥)
-      go true p ih = (e, omega arith, le-refl _, eqb-true (loopAt l e) i p, λ n a b c. omega arith)
-      go false p ih =
-          let r = ih before in (
-            r .0,
-            r .1,
-            omega arith,
-            r .3,
-            λ n a b c. ⊎-elim
-                (λ (m : n ≡ e). eqb-false (loopAt l e) i p (subst (λ z. loopAt l z ≡ i) m c))
-                (λ (m : n < e). r .4 n a m c)
-                (eq-or-lt-of-le (le-of-suc-le-suc b)),
-          )
-        where
-          before : j < e
-          before =
-              ⊎-elim
-              (λ (m : j ≡ e). absurd (eqb-false (loopAt l e) i p (subst (λ z. loopAt l z ≡ i) m q)))
-              (λ (m : j < e). m)
-              (eq-or-lt-of-le (le-of-suc-le-suc h))
+      taken-here : ℕ → Bool
+      taken-here k = eqb (loopAt l k) (loopAt l e) && isTaken (outcome E l k)
+
+      parts : (k : ℕ) → taken-here k ≡ true → (eqb (loopAt l k) (loopAt l e) ≡ true) × (isTaken (outcome E l k) ≡ true)
+      parts k q = and-eq-true-iff (eqb (loopAt l k) (loopAt l e)) (isTaken (outcome E l k)) .0 q
+
+      here : (k : ℕ) → Taken E l k → loopAt l k ≡ loopAt l e → taken-here k ≡ true
+      here k t' same' = and-eq-true-iff _ _ .1 (eq-eqb (loopAt l k) (loopAt l e) same', ap isTaken t')
+
+  -- an entry that is measured from the last taken one of its loop is as far from every taken one before that
+  pub taken-apart :
+      (E : Engine) (s : TaskSet) → ((e : ℕ) → e < length l → Taken E l e ↔ Admissible E s l e) → (j e : ℕ) → j < e → e < length l
+      → Admissible E s l e → Taken E l j → loopAt l j ≡ loopAt l e → tickAt l j + s .task (loopAt l e) .separation ≤ tickAt l e
+  taken-apart E s takes j e less h A t same =
+      let k = latest-of E e j less t same in
+      let last = k .2 .earlier in
+      ⊎-elim
+      (λ (q : j ≡ k .0). rw q (A .apart (k .0) (k .2)))
+      (λ (q : j < k .0).
+      omega (arith, A .apart (k .0) (k .2), takes (k .0) (omega (arith, last)) .0 (k .2 .was-taken) .onward j q))
+      (eq-or-lt-of-le (k .1))
 
   pub claim-of :
       (E : Engine) (s : TaskSet) (x : ℕ → ℕ) → ((e : ℕ) → e < length l → Taken E l e ↔ Admissible E s l e)
@@ -210,20 +222,7 @@ module _ (l : List Entry) where
       fit : ((e : ℕ) → e < length l → InTime E s x l e) → (e : ℕ) → e < length l → Admissible E s l e
       fit all e h = takes e h .0 (all e h .1 .0)
 
-      -- of two entries of one loop, the later one is measured from the last before it, which is no earlier than the other
       spread :
           ((e : ℕ) → e < length l → InTime E s x l e) → (j e : ℕ) → j < e → e < length l → loopAt l j ≡ loopAt l e
           → tickAt l j + s .task (loopAt l e) .separation ≤ tickAt l e
-      spread all j e less h same =
-          let k = last-entry e (loopAt l e) j less same in
-          let late : tickAt l (k .0) + s .task (loopAt l e) .separation ≤ tickAt l e = fit all e h .apart (k .0)
-          (record {
-            earlier = k .2;
-            was-taken = all (k .0) (omega (arith, k .2)) .1 .0;
-            same-loop = k .3;
-            none-between = λ n a b t c. k .4 n a b c;
-          }) in
-          ⊎-elim
-          (λ (q : j ≡ k .0). rw q late)
-          (λ (q : j < k .0). omega (arith, late, fit all (k .0) (omega (arith, k .2)) .onward j q))
-          (eq-or-lt-of-le (k .1))
+      spread all j e less h same = taken-apart E s takes j e less h (fit all e h) (all j (omega arith) .1 .0) same

@@ -5,9 +5,9 @@
 --     machine-last                 the machine's last release of a loop is the last taken entry's
 --     machine-met                  the machine refuses an entry by the first number that it meets
 --     machine-takes                demand 3's first claim, of the machine
---     met-not-23                   so no entry is refused 23
-use Prim.Native.Nat.{ℕ, zero, suc, _+_, _-_, _<_}
-use mathlib.Core.Bool.{Bool, true, false, cond, _&&_, _||_, true≢false, false≢true}
+--     met-high                     so no entry is refused by a number above 22; met-not-23: none by 23
+use Prim.Native.Nat.{ℕ, zero, suc, _+_, _-_, _≤_, _<_}
+use mathlib.Core.Bool.{Bool, true, false, cond, _&&_, _||_, true≢false}
 use mathlib.Core.Path.{_≡_, refl, sym, ap, subst, _∙_}
 use mathlib.Core.Logic.{_↔_, ⊎-elim}
 use mathlib.Core.Option.{Option, none, some}
@@ -21,16 +21,12 @@ use Rattle.tasks.specs.Limits.{Limits, Bounded}
 use Rattle.tasks.specs.Tests.{outside}
 use Rattle.machine.specs.Machine.{Machine, opened, within, tooSoon, full, joined, admitted, advanced, tick}
 use Rattle.machine.specs.Theorem.{never-full}
-use Rattle.history.specs.Engine.{Outcome, taken, refused, isTaken, firstOf, Engine, Call, ask, clock, state, verdict}
+use Rattle.history.specs.Engine.{taken, refused, isTaken, firstOf, Engine, Call, ask, clock, state, verdict}
 use Rattle.history.specs.Log.{Entry, tickAt, loopAt, demandAt, back, wait, until, calls, outcome, Taken, Admissible}
-use Rattle.history.specs.LogLaws.{back-onward, onward-back, clock-entry, entry-cases}
+use Rattle.history.specs.LogLaws.{is-taken, back-onward, onward-back, clock-entry, entry-cases}
 use Rattle.history.specs.OnMachine.{answerOf, machineEngine}
-use Rattle.history.specs.Balance.{not-refused, other, handed-cases, reached, machine-clock}
+use Rattle.history.specs.Balance.{not-refused, same-number, handed-cases, reached, machine-clock}
 use Rattle.history.specs.Report.{lastTaken, met}
-
-pub is-taken : (o : Outcome) → isTaken o ≡ true → o ≡ taken
-is-taken taken e = refl
-is-taken (refused k) e = absurd (false≢true e)
 
 module _ (E : Engine) (l : List Entry) where
   last-split :
@@ -223,16 +219,19 @@ module _ (s : TaskSet) (x : ℕ → ℕ) (L : Limits s) (C : Compliant s x) (B :
   pub machine-takes : (e : ℕ) → Taken (machineEngine s) l e ↔ Admissible (machineEngine s) s l e
   machine-takes e = takes-of (machineEngine s) l s e (machine-met e)
 
--- of every engine whose entries get the first number that they meet: none gets 23
-pub met-not-23 : (E : Engine) (s : TaskSet) (l : List Entry) (e : ℕ) → met E s l e ≡ refused 23 → ⊥
+-- of every engine whose entries get the first number that they meet: none gets a number above 22
+pub met-high : (E : Engine) (s : TaskSet) (l : List Entry) (e k : ℕ) → met E s l e ≡ refused k → k ≤ 22
 unfolding met
-met-not-23 E s l e m =
+met-high E s l e k m =
     go (back l e) (leb (s .count) (loopAt l e)) (outside 1 (s .task (loopAt l e) .budget) (demandAt l e))
     (within (s .task (loopAt l e) .separation) (tickAt l e) (lastTaken E l (loopAt l e) e)) m
   where
-    go : (a b c d : Bool) → firstOf ((17, a) ∷ (20, b) ∷ (21, c) ∷ (22, d) ∷ []) ≡ refused 23 → ⊥
-    go true b c d m = other 17 m (omega arith)
-    go false true c d m = other 20 m (omega arith)
-    go false false true d m = other 21 m (omega arith)
-    go false false false true m = other 22 m (omega arith)
-    go false false false false m = not-refused (sym m)
+    go : (a b c d : Bool) → firstOf ((17, a) ∷ (20, b) ∷ (21, c) ∷ (22, d) ∷ []) ≡ refused k → k ≤ 22
+    go true b c d m = omega (arith, same-number m)
+    go false true c d m = omega (arith, same-number m)
+    go false false true d m = omega (arith, same-number m)
+    go false false false true m = omega (arith, same-number m)
+    go false false false false m = absurd (not-refused (sym m))
+
+pub met-not-23 : (E : Engine) (s : TaskSet) (l : List Entry) (e : ℕ) → met E s l e ≡ refused 23 → ⊥
+met-not-23 E s l e m = omega (arith, met-high E s l e 23 m)

@@ -12,6 +12,7 @@
 --     none-first         it fails at every index below n: none below n
 --     first-unique       an index at which it holds, with none before, is the first
 --     first-ext          tests that agree below n have the same first
+--     last-true          where it holds at some index below n there is a last one
 --     onward-cases       what holds of each outcome of one turn holds of the turn
 use Prim.Native.Nat.{ℕ, zero, suc, _+_, _≤_, _<_}
 use mathlib.Core.Bool.{Bool, true, false, true≢false}
@@ -108,3 +109,25 @@ pub first-ext : (p q : ℕ → Bool) (n : ℕ) → ((i : ℕ) → i < n → p i 
 unfolding first
 first-ext p q zero same = refl
 first-ext p q (suc n) same = rw (first-ext p q n (λ i h. same i (omega arith)), same n (omega arith))
+
+pub last-true :
+    (p : ℕ → Bool) (n j : ℕ) → j < n → p j ≡ true
+    → (k : ℕ) × (j ≤ k) × (k < n) × (p k ≡ true) × ((i : ℕ) → k < i → i < n → p i ≡ false)
+last-true p zero j h e = absurd (not-suc-le-zero h)
+last-true p (suc n) j h e = go (p n) refl (λ less. last-true p n j less e)
+  where
+    go :
+        (b : Bool) → p n ≡ b
+        → (j < n → (k : ℕ) × (j ≤ k) × (k < n) × (p k ≡ true) × ((i : ℕ) → k < i → i < n → p i ≡ false))
+        → (k : ℕ) × (j ≤ k) × (k < suc n) × (p k ≡ true) × ((i : ℕ) → k < i → i < suc n → p i ≡ false)
+    go true q ih = (n, omega arith, omega arith, q, λ i a b. absurd (omega arith))
+    go false q ih =
+        let less : j < n =
+        ⊎-elim (λ (m : j ≡ n). absurd (true≢false (sym e ∙ rw m q))) (λ (m : j < n). m) (eq-or-lt-of-le (le-of-suc-le-suc h)) in
+        let r = ih less in (
+          r .0,
+          r .1,
+          omega (arith, r .2),
+          r .3,
+          λ i a b. ⊎-elim (λ (m : i ≡ n). rw m q) (λ (m : i < n). r .4 i a m) (eq-or-lt-of-le (le-of-suc-le-suc b)),
+        )

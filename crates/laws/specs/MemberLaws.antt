@@ -6,13 +6,16 @@
 --     member-append                 members of the two parts
 --     member-take                   a member of a beginning is a member; not-member-take: what is no member is none of a beginning
 --     distinct-take                 a beginning of a list that names none twice names none twice
-use Prim.Native.Nat.{ℕ, zero, suc}
+--     member-at                     what stands at a place of the list is a member; member-stands: every member stands at one
+use Prim.Native.Nat.{ℕ, zero, suc, _<_}
 use mathlib.Core.Bool.{Bool, true, false, _||_, true≢false}
 use mathlib.Core.Path.{_≡_, refl, sym, _∙_}
 use mathlib.Core.Logic.{_≢_, _⊎_, inl, inr, ⊎-elim}
 use mathlib.Core.List.{List, [], _∷_, _++_}
+use native.Mathlib.Nat.{not-suc-le-zero}
+use native.Mathlib.Omega.{arith}
 use lib.Dec.{eqb}
-use lib.ListN.{take}
+use lib.ListN.{length, getD, take}
 use borrow.Author.Tests.{eqb-true, eq-eqb, ne-eqb}
 use Rattle.laws.specs.Member.{member, Distinct}
 
@@ -82,3 +85,16 @@ unfolding Distinct
 distinct-take zero l d = tt
 distinct-take (suc k) [] d = tt
 distinct-take (suc k) (j ∷ l) d = (not-member-take k j l (d .0), distinct-take k l (d .1))
+
+pub member-at : (l : List ℕ) (a d : ℕ) → a < length l → member (getD l a d) l ≡ true
+member-at [] a d h = absurd (not-suc-le-zero h)
+member-at (j ∷ l) zero d h = member-here j l
+member-at (j ∷ l) (suc a) d h = member-there (getD l a d) j l (member-at l a d (omega arith))
+
+pub member-stands : (l : List ℕ) (i d : ℕ) → member i l ≡ true → (a : ℕ) × (a < length l) × (getD l a d ≡ i)
+member-stands [] i d m = absurd (true≢false (sym m ∙ not-member-nil i))
+member-stands (j ∷ l) i d m =
+    ⊎-elim
+    (λ (q : i ≡ j). (0, omega arith, sym q))
+    (λ (q : member i l ≡ true). let r = member-stands l i d q in (suc (r .0), omega (arith, r .1), r .2))
+    (member-cases i j l m)

@@ -45,11 +45,11 @@ module _ (s : TaskSet) (M : Machine) where
 
   pub early-point : (y i : ℕ) → earlyAt y i ≡ true → point s M i ≤ y
   unfolding earlyAt point
-  early-point y i e = early-release (s .task i .offset) y (M .lane i .queue) e
+  early-point y i e = omega (arith, early-release (s .task i .offset) y (M .lane i .queue) e)
 
   pub point-early : (y i : ℕ) → waiting M i ≡ true → point s M i ≤ y → earlyAt y i ≡ true
   unfolding earlyAt point waiting
-  point-early y i e h = release-early (s .task i .offset) y (M .lane i .queue) e h
+  point-early y i e h = release-early (s .task i .offset) y (M .lane i .queue) e (omega arith)
 
   module _ (run : ℕ → Bool) (E : EarliestFirst s M run) where
     pub left-out : (j : ℕ) → j < s .count → waiting M j ≡ true → run j ≡ false → count run (s .count) ≡ s .cores

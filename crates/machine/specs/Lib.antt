@@ -3,6 +3,7 @@ pub mod Reached
 pub mod Queue
 pub mod Owed
 pub mod Choice
+pub mod Cores
 pub mod Invariant
 pub mod Release
 pub mod Due

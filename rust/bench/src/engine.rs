@@ -6,7 +6,6 @@
 
 use std::hint::black_box;
 
-use comparison::{to_fast, to_proved};
 use reference::{Plan, State, Table, judge};
 use samples::{Random, Shape, brisk, busy, tight};
 
@@ -53,10 +52,8 @@ pub fn run() {
 
 fn time(kind: &str, make: fn(&mut Random) -> Table) {
     let states = busy_states(make);
-    let (proved_states, plain_states): (Vec<_>, Vec<_>) =
-        states.iter().map(|state| (to_proved(state), to_fast(state))).unzip();
     let (proved, plain) =
-        take_turns(TURNS, || turn(&proved_states, proved_row), || turn(&plain_states, plain_row));
+        take_turns(TURNS, || turn(&states, proved_row), || turn(&states, plain_row));
     let (proved, plain) = (Times::of(proved), Times::of(plain));
     println!("{kind}:");
     let step = |by: fn(&[f64]) -> f64| (by(&proved.step), by(&plain.step));
@@ -67,7 +64,7 @@ fn time(kind: &str, make: fn(&mut Random) -> Table) {
 
 /// The seconds of a step and of a row of steps, in a form that takes a state and makes so many more
 /// steps after the first.
-fn turn<S>(states: &[S], form: impl Fn(&S, usize)) -> (f64, f64) {
+fn turn(states: &[State], form: fn(&State, usize)) -> (f64, f64) {
     let timed = |more| {
         let pass = || states.iter().for_each(|state| form(black_box(state), more));
         seconds(1, pass) / states.len() as f64
@@ -97,19 +94,19 @@ fn busy_states(make: fn(&mut Random) -> Table) -> Vec<State> {
     states
 }
 
-fn proved_row(state: &trial::State, more: usize) {
+fn proved_row(state: &State, more: usize) {
     let mut state = state.clone();
     let (answer, report) = trial::steps(&mut state, more);
     assert!(answer.is_ok());
     black_box((&state, &report));
 }
 
-fn plain_row(state: &fast::State, more: usize) {
+fn plain_row(state: &State, more: usize) {
     let mut state = state.clone();
-    let report = state.step();
+    let report = fast::step(&mut state);
     assert!(black_box(report).is_ok());
     for _ in 0..more {
-        black_box(state.tick());
+        black_box(fast::tick(&mut state));
     }
     black_box(&state);
 }

@@ -4,6 +4,7 @@
 
 use std::hint::black_box;
 
+use reference::Refusal;
 use samples::{Random, Shape, tight};
 
 use crate::turns::{best, median_ratio, seconds, take_turns};
@@ -20,17 +21,7 @@ const PASSES: usize = 8;
 const SHAPES: [Shape; 3] =
     [Shape { cores: 2, tasks: 3 }, Shape { cores: 4, tasks: 8 }, Shape { cores: 8, tasks: 16 }];
 
-/// A judgement's n, or the number and index of its refusal.
-type Answer = Result<usize, (u32, u32)>;
-type Form = fn(&[u8], &mut [u8]) -> Answer;
-
-fn proved(table: &[u8], out: &mut [u8]) -> Answer {
-    dahomike::judge(table, out).map_err(|refusal| (refusal.number, refusal.index))
-}
-
-fn plain(table: &[u8], out: &mut [u8]) -> Answer {
-    fast::judge(table, out).map_err(|refusal| (refusal.number, refusal.index))
-}
+type Form = fn(&[u8], &mut [u8]) -> Result<usize, Refusal>;
 
 pub fn run() {
     println!("tight tables without slack, {TABLES} of each size, {TURNS} turns of {PASSES} passes");
@@ -39,8 +30,8 @@ pub fn run() {
         check(&tables);
         let (proved_turns, plain_turns) = take_turns(
             TURNS,
-            || seconds_a_table(proved, &tables),
-            || seconds_a_table(plain, &tables),
+            || seconds_a_table(dahomike::judge, &tables),
+            || seconds_a_table(fast::judge, &tables),
         );
         let (proved, plain) = (best(&proved_turns), best(&plain_turns));
         println!(
@@ -69,7 +60,8 @@ fn accepted_tables(shape: Shape) -> Vec<Vec<u8>> {
 fn check(tables: &[Vec<u8>]) {
     for table in tables {
         let (mut by_proved, mut by_plain) = ([0; 128], [0; 128]);
-        assert_eq!(proved(table, &mut by_proved), plain(table, &mut by_plain), "{table:?}");
+        let proved = dahomike::judge(table, &mut by_proved);
+        assert_eq!(proved, fast::judge(table, &mut by_plain), "{table:?}");
         assert_eq!(by_proved, by_plain, "{table:?}");
     }
 }

@@ -4,9 +4,9 @@
 
 #![forbid(unsafe_code)]
 
+mod counts;
 mod engine;
 mod engine_tally;
-mod forms;
 mod in_time;
 mod lent;
 mod log_families;
@@ -17,7 +17,6 @@ mod tables;
 
 pub use engine::{compare_release, compare_step, compare_steps};
 pub use engine_tally::EngineTally;
-pub use forms::{to_fast, to_proved};
 pub use log_families::{FAR, Family, NEAR, compare_logs};
 pub use log_tally::LogTally;
 pub use logs::{LogAnswer, LogForm, Logs};

@@ -3,7 +3,8 @@
 use crate::{LogForm, LogTally, Logs};
 use reference::Table;
 use samples::{
-    LogKind, Random, any_accepted, damaged, damaged_log, faulty, log, noise_log, short_accepted,
+    LogKind, Random, any_accepted, damaged_log, damaged_table, faulty_table, log, noise_log,
+    short_accepted,
 };
 
 /// Parts that are run side by side, each with numbers of its own.
@@ -77,14 +78,15 @@ fn accepted_any(random: &mut Random) -> (Vec<u8>, Table) {
 /// A table that is refused, mostly, beside an accepted one.
 fn refused_short(random: &mut Random) -> (Vec<u8>, Table) {
     let table = short_accepted(random);
-    let bytes = if random.once_in(2) { refused(random) } else { damaged(random, table.bytes()) };
+    let bytes =
+        if random.once_in(2) { refused(random) } else { damaged_table(random, table.bytes()) };
     (bytes, table)
 }
 
 /// A faulty table that is refused. One that is accepted could have jobs too long for the reference.
 fn refused(random: &mut Random) -> Vec<u8> {
     loop {
-        let bytes = faulty(random).bytes();
+        let bytes = faulty_table(random).bytes();
         if reference::judge(&bytes).is_err() {
             return bytes;
         }

@@ -1,17 +1,16 @@
 //! What the compared logs met, so that a run can show that it was not empty.
 
-use std::collections::BTreeMap;
-
-use reference::{Entry, Log, Outcome, Plan};
+use crate::counts::Counts;
+use reference::{Entry, Log, Outcome, Plan, Refusal};
 
 /// How many calls met each refusal number, how many entries did, and how many of either lay at an
 /// edge, by a name that says which.
 #[derive(Default)]
 pub struct LogTally {
     logs: u64,
-    calls: BTreeMap<u32, u64>,
-    entries: BTreeMap<u32, u64>,
-    named: BTreeMap<&'static str, u64>,
+    calls: Counts<u32>,
+    entries: Counts<u32>,
+    named: Counts<&'static str>,
 }
 
 impl LogTally {
@@ -22,91 +21,82 @@ impl LogTally {
 
     /// Calls that met this refusal number.
     pub fn calls(&self, number: u32) -> u64 {
-        self.calls.get(&number).copied().unwrap_or(0)
+        self.calls.of(&number)
     }
 
     /// Entries that met this refusal number.
     pub fn entries(&self, number: u32) -> u64 {
-        self.entries.get(&number).copied().unwrap_or(0)
+        self.entries.of(&number)
     }
 
     /// Calls or entries of this name.
-    pub fn named(&self, name: &str) -> u64 {
-        self.named.get(name).copied().unwrap_or(0)
+    pub fn named(&self, name: &'static str) -> u64 {
+        self.named.of(&name)
     }
 
     /// Adds what another part of the run has counted.
     pub fn add(&mut self, other: LogTally) {
         self.logs += other.logs;
-        for (counts, others) in [(&mut self.calls, other.calls), (&mut self.entries, other.entries)]
-        {
-            for (number, count) in others {
-                *counts.entry(number).or_default() += count;
-            }
-        }
-        for (name, count) in other.named {
-            *self.named.entry(name).or_default() += count;
-        }
+        self.calls.add(other.calls);
+        self.entries.add(other.entries);
+        self.named.add(other.named);
     }
 
     pub fn print(&self) {
         println!("{} logs", self.logs);
-        for (number, count) in &self.calls {
-            println!("{count:9} calls refused {number}");
-        }
-        for (number, count) in &self.entries {
-            println!("{count:9} entries refused {number}");
-        }
-        for (name, count) in &self.named {
-            println!("{count:9} {name}");
-        }
+        self.calls.print("calls refused ");
+        self.entries.print("entries refused ");
+        self.named.print("");
     }
 
-    pub(crate) fn count_refused(&mut self, number: u32, index: u32, log: &[u8], lent: usize) {
+    pub(crate) fn count_refused(&mut self, refusal: Refusal, log: &[u8], lent: usize) {
+        let Refusal { number, index } = refusal;
         self.logs += 1;
-        *self.calls.entry(number).or_default() += 1;
+        self.calls.count(number);
         let needed = 8 * (log.len().saturating_sub(2) / 9);
         match number {
-            1..=13 => self.count_if(Log::read(log).is_err(), "table refused, and the log too"),
-            14 => self.count_if(log.len() < 2, "refused 14, count absent"),
+            1..=13 => {
+                self.named.count_if(Log::read(log).is_err(), "table refused, and the log too")
+            }
+            14 => self.named.count_if(log.len() < 2, "refused 14, count absent"),
             15 => {
-                self.count_if(index > 0, "refused 15, index above 0");
-                self.count_if(lent < needed, "refused 15, and the answer too short");
+                self.named.count_if(index > 0, "refused 15, index above 0");
+                self.named.count_if(lent < needed, "refused 15, and the answer too short");
             }
             _ => {
-                self.count_if(lent == 0, "refused 16, answer empty");
-                self.count_if(lent + 1 == needed, "refused 16, answer one byte short");
+                self.named.count_if(lent == 0, "refused 16, answer empty");
+                self.named.count_if(lent + 1 == needed, "refused 16, answer one byte short");
             }
         }
     }
 
     pub(crate) fn count_buffer(&mut self, length: usize, needed: usize) {
-        self.count_if(length == needed, "run, answer exactly long enough");
-        self.count_if(length > needed, "run, answer longer");
+        self.named.count_if(length == needed, "run, answer exactly long enough");
+        self.named.count_if(length > needed, "run, answer longer");
     }
 
     pub(crate) fn count_run(&mut self, plan: &Plan, log: &Log, outcomes: &[Outcome], keeps: bool) {
         self.logs += 1;
         let entries = &log.entries;
-        self.count_if(keeps, "run, log keeps the table");
-        self.count_if(!keeps, "run, log does not keep the table");
-        self.count_if(plan.offered, "run, slack offered");
-        self.count_if(entries.is_empty(), "run, log empty");
+        self.named.count_if(keeps, "run, log keeps the table");
+        self.named.count_if(!keeps, "run, log does not keep the table");
+        self.named.count_if(plan.offered, "run, slack offered");
+        self.named.count_if(entries.is_empty(), "run, log empty");
         let largest = entries.iter().map(|entry| entry.tick).max();
-        self.count_if(largest == Some(1_000_000_000), "run, largest tick 1,000,000,000");
-        self.count_if(largest >= Some(5_000), "run, largest tick from 5,000");
-        self.count_if(entries.len() > 1_000, "run, more than 1,000 entries");
+        self.named.count_if(largest == Some(1_000_000_000), "run, largest tick 1,000,000,000");
+        self.named.count_if(largest >= Some(5_000), "run, largest tick from 5,000");
+        self.named.count_if(entries.len() > 1_000, "run, more than 1,000 entries");
         let mut past = vec![Past::default(); plan.tasks.len()];
         let (mut before, mut end) = (None, 0);
         for (entry, outcome) in entries.iter().zip(outcomes) {
             let same = before == Some(entry.tick);
-            self.count_if(same, "entry, at the tick of the one before");
+            self.named.count_if(same, "entry, at the tick of the one before");
             before = Some(entry.tick);
             match *outcome {
                 Outcome::Refused(number) => self.count_refused_entry(plan, &past, entry, number),
                 Outcome::Finished(finish) => {
                     let idle = u64::from(entry.tick) > end + 100_000;
-                    self.count_if(idle, "taken, after 100,000 idle ticks");
+                    self.named.count_if(idle, "taken, after 100,000 idle ticks");
                     end = end.max(finish);
                     self.count_taken(plan, &mut past, entry, finish);
                 }
@@ -115,20 +105,21 @@ impl LogTally {
     }
 
     fn count_refused_entry(&mut self, plan: &Plan, past: &[Past], entry: &Entry, number: u32) {
-        *self.entries.entry(number).or_default() += 1;
+        self.entries.count(number);
         let task = usize::from(entry.task);
         match number {
-            20 => self.count_if(task == plan.tasks.len(), "refused 20, first loop outside"),
+            20 => self.named.count_if(task == plan.tasks.len(), "refused 20, first loop outside"),
             21 => {
                 let budget = plan.tasks[task].budget;
-                self.count_if(entry.demand == 0, "refused 21, demand 0");
-                self.count_if(entry.demand == budget + 1, "refused 21, demand C + 1");
+                self.named.count_if(entry.demand == 0, "refused 21, demand 0");
+                self.named.count_if(entry.demand == budget + 1, "refused 21, demand C + 1");
             }
             22 => {
                 let last = past[task].last.expect("22 has a last taken release");
                 let soon = entry.tick + 1 == last + plan.tasks[task].separation;
-                self.count_if(soon, "refused 22, one tick too soon");
-                self.count_if(entry.tick == last, "refused 22, at the tick of the last taken");
+                self.named.count_if(soon, "refused 22, one tick too soon");
+                self.named
+                    .count_if(entry.tick == last, "refused 22, at the tick of the last taken");
             }
             _ => {}
         }
@@ -137,26 +128,23 @@ impl LogTally {
     fn count_taken(&mut self, plan: &Plan, past: &mut [Past], entry: &Entry, finish: u64) {
         let place = usize::from(entry.task);
         let (task, past) = (&plan.tasks[place], &mut past[place]);
-        self.count_if(true, "taken");
+        self.named.count_if(true, "taken");
         let exactly = past.last.is_some_and(|last| entry.tick == last + task.separation);
-        self.count_if(exactly, "taken, exactly T after the last taken");
-        self.count_if(entry.demand == task.budget, "taken, demand C");
-        self.count_if(entry.demand > 65_535, "taken, demand above 65,535");
+        self.named.count_if(exactly, "taken, exactly T after the last taken");
+        self.named.count_if(entry.demand == task.budget, "taken, demand C");
+        self.named.count_if(entry.demand > 65_535, "taken, demand above 65,535");
         let took = u128::from(finish) - u128::from(entry.tick);
-        self.count_if(took > u128::from(entry.demand), "taken, waits for a core or its own loop");
+        self.named
+            .count_if(took > u128::from(entry.demand), "taken, waits for a core or its own loop");
         let near = took + 2 >= plan.bound(place);
-        self.count_if(near, "taken, finishes within 2 ticks of its bound");
+        self.named.count_if(near, "taken, finishes within 2 ticks of its bound");
         past.last = Some(entry.tick);
         past.unfinished.retain(|&finish| finish > u64::from(entry.tick));
         past.unfinished.push(finish);
-        self.count_if(past.unfinished.len() >= 2, "taken, its loop then holds 2 jobs or more");
-        self.count_if(past.unfinished.len() >= 8, "taken, its loop then holds 8 jobs or more");
-    }
-
-    fn count_if(&mut self, met: bool, name: &'static str) {
-        if met {
-            *self.named.entry(name).or_default() += 1;
-        }
+        self.named
+            .count_if(past.unfinished.len() >= 2, "taken, its loop then holds 2 jobs or more");
+        self.named
+            .count_if(past.unfinished.len() >= 8, "taken, its loop then holds 8 jobs or more");
     }
 }
 

@@ -6,8 +6,8 @@ use crate::log_tally::LogTally;
 use reference::{Log, Plan, Refusal};
 use samples::Random;
 
-/// How many were taken and how many refused, or the number and index of the call's refusal.
-pub type LogAnswer = Result<(usize, usize), (u32, u32)>;
+/// How many were taken and how many refused, or the call's refusal.
+pub type LogAnswer = Result<(usize, usize), Refusal>;
 
 /// A form of the log run, and its name.
 pub type LogForm = (&'static str, fn(&[u8], &[u8], &mut [u8]) -> LogAnswer);
@@ -66,12 +66,12 @@ impl Logs<'_> {
         after: &mut Lent,
         tally: &mut LogTally,
     ) {
-        if let Err((number, index)) = answer {
+        if let Err(refusal) = answer {
             same_bytes("a refused call", after, lent, &[self.table, log]);
-            if let Err(refusal) = self.judged {
-                assert_eq!((number, index), (refusal.number, refusal.index));
+            if let Err(judged) = self.judged {
+                assert_eq!(refusal, judged);
             }
-            tally.count_refused(number, index, log, after.buffer().len());
+            tally.count_refused(refusal, log, after.buffer().len());
             return;
         }
         let plan = self.judged.as_ref().expect("the table of a run is accepted");

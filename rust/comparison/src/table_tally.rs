@@ -1,17 +1,16 @@
 //! What the compared tables met, so that a run can show that it was not empty.
 
-use std::collections::BTreeMap;
-
+use crate::counts::Counts;
 use crate::tables::Answer;
-use reference::{Analysis, Table};
+use reference::{Analysis, Refusal, Table};
 
 /// How many tables met each refusal number, how many were accepted, and how many of either lay at
 /// an edge, by a name that says which.
 #[derive(Default)]
 pub struct TableTally {
     tables: u64,
-    refused: BTreeMap<u32, u64>,
-    named: BTreeMap<&'static str, u64>,
+    refused: Counts<u32>,
+    named: Counts<&'static str>,
 }
 
 impl TableTally {
@@ -22,40 +21,36 @@ impl TableTally {
 
     /// Those that met this refusal number.
     pub fn refused(&self, number: u32) -> u64 {
-        self.refused.get(&number).copied().unwrap_or(0)
+        self.refused.of(&number)
     }
 
     /// Those of this name.
-    pub fn named(&self, name: &str) -> u64 {
-        self.named.get(name).copied().unwrap_or(0)
+    pub fn named(&self, name: &'static str) -> u64 {
+        self.named.of(&name)
     }
 
     pub fn print(&self) {
         println!("{} tables", self.tables);
-        for (number, count) in &self.refused {
-            println!("{count:8} refused {number}");
-        }
-        for (name, count) in &self.named {
-            println!("{count:8} {name}");
-        }
+        self.refused.print("refused ");
+        self.named.print("");
     }
 
     /// Counts a table's bytes by its answer and the buffer after the call.
     pub(crate) fn count(&mut self, bytes: &[u8], answer: Answer, buffer: &[u8]) {
         self.tables += 1;
-        if let Err((number, _)) = answer {
-            *self.refused.entry(number).or_default() += 1;
+        if let Err(Refusal { number, .. }) = answer {
+            self.refused.count(number);
         }
-        if matches!(answer, Err((1..=8, _))) {
+        if matches!(answer, Err(Refusal { number: 1..=8, .. })) {
             return;
         }
         let table = Table::read(bytes).expect("1 and 2 are passed");
-        if answer == Err((9, 0)) {
+        if answer == Err(Refusal::whole(9)) {
             let multiple =
                 |h: u32| table.tasks.iter().all(|task| h.is_multiple_of(task.separation));
             let barely = (1_000_001..=1_001_000).any(multiple);
-            self.count_if(barely, "refused 9, H up to 1,001,000");
-            self.count_if(multiple(1_000_001), "refused 9, H 1,000,001");
+            self.named.count_if(barely, "refused 9, H up to 1,001,000");
+            self.named.count_if(multiple(1_000_001), "refused 9, H 1,000,001");
             return;
         }
         let analysis = Analysis::new(table.labels.len(), &table.tasks).expect("9 is passed");
@@ -64,45 +59,39 @@ impl TableTally {
         self.count_slack(&table, &analysis, answer);
     }
 
-    fn count_if(&mut self, met: bool, name: &'static str) {
-        if met {
-            *self.named.entry(name).or_default() += 1;
-        }
-    }
-
     fn count_load(&mut self, analysis: &Analysis, answer: Answer) {
         let (load, capacity) = analysis.load_and_capacity();
         let (full, hyperperiod) = (load == capacity, analysis.hyperperiod());
         let long = hyperperiod >= 990_000;
         if answer.is_ok() {
-            self.count_if(hyperperiod == 1_000_000, "accepted, H 1,000,000");
-            self.count_if(full, "accepted, shares exactly m × H");
-            self.count_if(long, "accepted, H from 990,000");
-            self.count_if(full && long, "accepted, shares exactly m × H, H from 990,000");
+            self.named.count_if(hyperperiod == 1_000_000, "accepted, H 1,000,000");
+            self.named.count_if(full, "accepted, shares exactly m × H");
+            self.named.count_if(long, "accepted, H from 990,000");
+            self.named.count_if(full && long, "accepted, shares exactly m × H, H from 990,000");
         }
-        if answer == Err((10, 0)) {
-            self.count_if(load == capacity + 1, "refused 10, shares m × H + 1");
+        if answer == Err(Refusal::whole(10)) {
+            self.named.count_if(load == capacity + 1, "refused 10, shares m × H + 1");
         }
     }
 
     fn count_buffer(&mut self, table: &Table, answer: Answer, buffer: &[u8]) {
         let (length, needed) = (buffer.len(), 8 * table.tasks.len());
-        let short = answer == Err((24, 0));
-        self.count_if(short && length == 0, "refused 24, buffer empty");
-        self.count_if(short && length + 1 == needed, "refused 24, buffer one byte short");
+        let short = answer == Err(Refusal::whole(24));
+        self.named.count_if(short && length == 0, "refused 24, buffer empty");
+        self.named.count_if(short && length + 1 == needed, "refused 24, buffer one byte short");
         if answer.is_ok() {
-            self.count_if(length == needed, "accepted, buffer exactly long enough");
-            self.count_if(length > needed, "accepted, buffer longer");
+            self.named.count_if(length == needed, "accepted, buffer exactly long enough");
+            self.named.count_if(length > needed, "accepted, buffer longer");
             let entries = buffer.chunks(8).zip(&table.tasks);
             let longest = entries.map(|(entry, task)| (bound(entry), 16 * task.separation));
             let at_limit = longest.filter(|(bound, limit)| bound == limit).count() > 0;
-            self.count_if(at_limit, "accepted, a bound of exactly 16 × T");
+            self.named.count_if(at_limit, "accepted, a bound of exactly 16 × T");
         }
     }
 
     fn count_slack(&mut self, table: &Table, analysis: &Analysis, answer: Answer) {
         if table.slack.is_empty() {
-            self.count_if(answer.is_ok(), "accepted, found");
+            self.named.count_if(answer.is_ok(), "accepted, found");
             return;
         }
         let slack: Vec<u128> = table.slack.iter().map(|&x| u128::from(x)).collect();
@@ -110,22 +99,22 @@ impl TableTally {
         let largest = table.slack.contains(&u32::MAX);
         match answer {
             Ok(_) => {
-                self.count_if(true, "accepted, offered");
-                self.count_if(zeros, "accepted, offered zeros");
+                self.named.count_if(true, "accepted, offered");
+                self.named.count_if(zeros, "accepted, offered zeros");
                 let fails = |k| slack[k] > 0 && !complies(analysis, &slack, k, -1);
                 let edge = (0..slack.len()).any(fails);
-                self.count_if(edge, "accepted, offered, fails with an entry one lower");
+                self.named.count_if(edge, "accepted, offered, fails with an entry one lower");
             }
-            Err((12, index)) => {
-                self.count_if(zeros, "refused 12, offered zeros");
-                self.count_if(largest, "refused 12, an entry of 2^32 − 1");
-                self.count_if(index > 0, "refused 12, index above 0");
+            Err(Refusal { number: 12, index }) => {
+                self.named.count_if(zeros, "refused 12, offered zeros");
+                self.named.count_if(largest, "refused 12, an entry of 2^32 − 1");
+                self.named.count_if(index > 0, "refused 12, index above 0");
                 let edge = complies(analysis, &slack, index as usize, 1);
-                self.count_if(edge, "refused 12, complies with the entry one higher");
+                self.named.count_if(edge, "refused 12, complies with the entry one higher");
             }
-            Err((13, index)) => {
-                self.count_if(largest, "refused 13, an entry of 2^32 − 1");
-                self.count_if(index > 0, "refused 13, index above 0");
+            Err(Refusal { number: 13, index }) => {
+                self.named.count_if(largest, "refused 13, an entry of 2^32 − 1");
+                self.named.count_if(index > 0, "refused 13, index above 0");
             }
             Err(_) => {}
         }

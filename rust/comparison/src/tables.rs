@@ -2,11 +2,11 @@
 
 use crate::TableTally;
 use crate::lent::{Held, Lent, same_bytes};
-use reference::Table;
+use reference::{Refusal, Table};
 use samples::Random;
 
-/// A judgement's n, or the number and index of its refusal.
-pub type Answer = Result<usize, (u32, u32)>;
+/// A judgement's n, or its refusal.
+pub type Answer = Result<usize, Refusal>;
 
 /// How many bytes a lent buffer has at most.
 const LONGEST: usize = 300;
@@ -20,11 +20,8 @@ pub fn compare_table(random: &mut Random, table: &[u8], tally: &mut TableTally) 
     let held = Held::new(random, table);
 
     let answer = reference::judge_into(held.part(), expected.buffer());
-    let answer = answer.map_err(|refusal| (refusal.number, refusal.index));
     let proved = dahomike::judge(held.part(), by_proved.buffer());
-    let proved = proved.map_err(|refusal| (refusal.number, refusal.index));
     let fast = fast::judge(held.part(), by_fast.buffer());
-    let fast = fast.map_err(|refusal| (refusal.number, refusal.index));
 
     let length = expected.buffer().len();
     assert_eq!(proved, answer, "proved, buffer of {length} bytes, table {table:?}");

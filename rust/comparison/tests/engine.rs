@@ -3,7 +3,7 @@
 
 use comparison::{EngineTally, compare_release, compare_step, compare_steps};
 use reference::{Clause, Plan, State, open};
-use samples::{Random, accepted_plan, busy, harmed, sound, tied};
+use samples::{Random, accepted_plan, busy, damaged_state, sound, tied};
 
 /// How many plans, sound states of each, runs from an opening, and calls of each run.
 const PLANS: u64 = 8_000;
@@ -51,10 +51,10 @@ const AT_LEAST: [(u64, &str); 27] = [
 /// A release to try: of a task of the table mostly, with a demand around 1 to C.
 fn any_release(random: &mut Random, state: &State) -> (usize, u32) {
     let task = match random.index(12) {
-        0 => random.pick(&[state.tasks, 15, 16, 255, usize::MAX]),
-        _ => random.index(state.tasks.clamp(1, 16)),
+        0 => random.pick(&[state.tasks.count, 15, 16, 255, usize::MAX]),
+        _ => random.index(state.tasks.count.clamp(1, 16)),
     };
-    let budget = state.task.get(task).map_or(0, |task| task.budget);
+    let budget = state.tasks.budget.get(task).copied().unwrap_or(0);
     let demand = match random.index(16) {
         0 => 0,
         1 => budget.saturating_add(1),
@@ -100,7 +100,7 @@ fn many_states() {
         for _ in 0..STATES {
             let state = sound(&mut random, &plan);
             both_calls(&mut random, &state, &mut tally);
-            let state = harmed(&mut random, state);
+            let state = damaged_state(&mut random, state);
             both_calls(&mut random, &state, &mut tally);
         }
         for make in [tied, busy] {

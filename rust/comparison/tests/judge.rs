@@ -3,7 +3,8 @@
 
 use comparison::{TableTally, compare_table};
 use samples::{
-    Random, Shape, any_tight, damaged, faulty, long, mixed, noise, offered, overfull, steep,
+    Random, Shape, any_tight, damaged_table, faulty_table, long, mixed, noise_table, offered,
+    overfull, steep,
 };
 
 /// A way to make tables, and how many of them are compared.
@@ -16,9 +17,9 @@ const FAMILIES: [Family; 9] = [
     (60_000, |random| any_tight(random).bytes()),
     (20_000, any_overfull),
     (120_000, |random| offered(random).bytes()),
-    (70_000, |random| faulty(random).bytes()),
+    (70_000, |random| faulty_table(random).bytes()),
     (80_000, any_damaged),
-    (20_000, noise),
+    (20_000, noise_table),
 ];
 
 /// How often each refusal number is met, at least.
@@ -60,7 +61,7 @@ fn any_damaged(random: &mut Random) -> Vec<u8> {
         1 => steep(random),
         _ => offered(random),
     };
-    damaged(random, table.bytes())
+    damaged_table(random, table.bytes())
 }
 
 #[test]

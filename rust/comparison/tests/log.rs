@@ -1,13 +1,13 @@
 //! The proved log run against the reference, tick by tick, on hundreds of thousands of logs, and
 //! against the fast form on logs with ticks up to 1,000,000,000; the same ones on every run.
 
-use comparison::{FAR, LogAnswer, LogForm, LogTally, Logs, NEAR, compare_logs};
+use comparison::{FAR, LogForm, LogTally, Logs, NEAR, compare_logs};
 use reference::{Entry, Log, Table, Task};
 use samples::Random;
 
-const REFERENCE: LogForm = ("reference", reference_run);
-const PROVED: LogForm = ("proved", proved_run);
-const FAST: LogForm = ("fast", fast_run);
+const REFERENCE: LogForm = ("reference", reference::run_log);
+const PROVED: LogForm = ("proved", dahomike::run_log);
+const FAST: LogForm = ("fast", fast::run_log);
 
 /// How often each of these is met, at least, by near logs and by far ones.
 const AT_LEAST: [(u64, u64, &str); 27] = [
@@ -40,18 +40,6 @@ const AT_LEAST: [(u64, u64, &str); 27] = [
     (0, 500, "taken, demand above 65,535"),
 ];
 
-fn reference_run(table: &[u8], log: &[u8], out: &mut [u8]) -> LogAnswer {
-    reference::run_log(table, log, out).map_err(|refusal| (refusal.number, refusal.index))
-}
-
-fn proved_run(table: &[u8], log: &[u8], out: &mut [u8]) -> LogAnswer {
-    dahomike::run_log(table, log, out).map_err(|refusal| (refusal.number, refusal.index))
-}
-
-fn fast_run(table: &[u8], log: &[u8], out: &mut [u8]) -> LogAnswer {
-    fast::run_log(table, log, out).map_err(|refusal| (refusal.number, refusal.index))
-}
-
 /// Prints a tally and holds it to how often each refusal number is to be met.
 fn check_numbers(tally: &LogTally) {
     tally.print();
@@ -67,7 +55,7 @@ fn check_numbers(tally: &LogTally) {
     assert_eq!(tally.entries(23), 0);
 }
 
-fn check_named(tally: &LogTally, least: u64, name: &str) {
+fn check_named(tally: &LogTally, least: u64, name: &'static str) {
     let met = tally.named(name);
     assert!(met >= least, "{name}: {met}");
 }
@@ -101,6 +89,32 @@ fn p3() -> Vec<u8> {
     let task = |separation, budget, offset| Task { separation, budget, offset };
     let tasks = vec![task(2, 1, 2), task(2, 1, 2), task(3, 3, 0)];
     Table { labels: vec![0, 1], tasks, slack: vec![] }.bytes()
+}
+
+/// Kind and value of each of three entries, the same in every form.
+fn three_entries(table: &[u8], entries: [Entry; 3]) -> [(u32, u32); 3] {
+    let log = Log { entries: entries.to_vec() }.bytes();
+    let runs = [REFERENCE, PROVED, FAST].map(|(_, run)| {
+        let mut out = [0; 24];
+        run(table, &log, &mut out).expect("the run is not refused");
+        [0, 8, 16].map(|at| {
+            let number = |at| u32::from_le_bytes(*out[at..].first_chunk().expect("4 bytes"));
+            (number(at), number(at + 4))
+        })
+    });
+    assert!(runs[1] == runs[0] && runs[2] == runs[0], "{runs:?}");
+    runs[0]
+}
+
+#[test]
+fn p10_and_p11_in_every_form() {
+    let all = [(0, 1), (1, 1), (2, 3)].map(|(task, demand)| Entry { tick: 0, task, demand });
+    assert_eq!(three_entries(&p3(), all), [(1, 1), (1, 2), (1, 3)]);
+    let mut later = p3();
+    later[5 + 24 + 8] = 3;
+    assert_eq!(three_entries(&later, all), [(1, 1), (1, 1), (1, 4)]);
+    let soon = [0, 1, 2].map(|tick| Entry { tick, task: 0, demand: 1 });
+    assert_eq!(three_entries(&p3(), soon), [(1, 1), (2, 22), (1, 3)]);
 }
 
 /// So many entries, each taken.

@@ -1,18 +1,11 @@
 //! The plain forms of the log run with each other, without the proved one: the reference, tick by
 //! tick, and the fast one, by events and tick by tick, on a part of the logs of the whole test.
 
-use comparison::{FAR, LogAnswer, LogForm, NEAR, compare_logs};
+use comparison::{FAR, LogForm, NEAR, compare_logs};
 
-const REFERENCE: LogForm = ("reference", |table, log, out| {
-    reference::run_log(table, log, out).map_err(|refusal| (refusal.number, refusal.index))
-});
-const FAST: LogForm = ("fast", |table, log, out| answer(fast::run_log(table, log, out)));
-const FAST_BY_TICKS: LogForm =
-    ("fast by ticks", |table, log, out| answer(fast::run_log_by_ticks(table, log, out)));
-
-fn answer(answer: Result<(usize, usize), fast::Refusal>) -> LogAnswer {
-    answer.map_err(|refusal| (refusal.number, refusal.index))
-}
+const REFERENCE: LogForm = ("reference", reference::run_log);
+const FAST: LogForm = ("fast", fast::run_log);
+const FAST_BY_TICKS: LogForm = ("fast by ticks", fast::run_log_by_ticks);
 
 #[test]
 fn near_logs() {

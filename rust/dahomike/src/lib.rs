@@ -1,16 +1,13 @@
 //! The safe Rust side of the proved library: each C function that the desktop planner calls, as a
 //! function over slices that answers a `Result`.
 
-/// Why a call was refused: the number of document 01 and the index that it gives with it.
-#[derive(Clone, Copy, Debug, PartialEq, Eq)]
-pub struct Refusal {
-    pub number: u32,
-    pub index: u32,
-}
+pub use records::Refusal;
+
+use records::decode;
 
 mod ffi {
-    // A `&[u8]` of the proved code passes as a pointer and then a length. Nothing checks these
-    // declarations against its source, so they are kept to byte slices and numbers.
+    // A `&[u8]` of the proved code passes as a pointer and then a length. `.ci/documents` compares
+    // these declarations with its source as text, so they are kept to byte slices and numbers.
     unsafe extern "C" {
         pub fn dahomike_judge(
             table: *const u8,
@@ -67,26 +64,9 @@ fn counts(value: u32) -> (usize, usize) {
     ((value & 0xffff) as usize, (value >> 16) as usize)
 }
 
-/// The 64-bit answer of a C function taken apart: the value of an accepted call, or
-/// 4,294,967,296 × refusal number + index.
-fn decode(answer: u64) -> Result<u32, Refusal> {
-    let number = (answer >> 32) as u32;
-    let low = answer as u32;
-    if number == 0 { Ok(low) } else { Err(Refusal { number, index: low }) }
-}
-
 #[cfg(test)]
 mod tests {
-    use super::{Refusal, counts, decode};
-
-    #[test]
-    fn an_answer_is_a_value_or_a_number_and_an_index() {
-        assert_eq!(decode(0), Ok(0));
-        assert_eq!(decode(16), Ok(16));
-        assert_eq!(decode(u64::from(u32::MAX)), Ok(u32::MAX));
-        assert_eq!(decode(4_294_967_296), Err(Refusal { number: 1, index: 0 }));
-        assert_eq!(decode(7 * 4_294_967_296 + 15), Err(Refusal { number: 7, index: 15 }));
-    }
+    use super::counts;
 
     #[test]
     fn a_run_has_two_counts() {

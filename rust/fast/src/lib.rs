@@ -12,51 +12,44 @@ mod log;
 mod slack;
 mod table;
 
-pub use engine::{Report, State};
+pub use engine::{release, step, tick};
 pub use log::{run_log, run_log_by_ticks};
-pub use table::Tasks;
 
-use slack::Demand;
-use table::{Sections, TASKS};
-
-/// Why a table was refused: the number of document 01 and the index that it gives with it.
-#[derive(Clone, Copy, Debug, PartialEq, Eq)]
-pub struct Refusal {
-    pub number: u32,
-    pub index: u32,
-}
+use records::{Refusal, Tasks};
+use slack::Rates;
+use table::{Sections, TASKS, read_tasks};
 
 /// Judges a table and writes slack and bound of each task to `out`, as the C judgement does.
 pub fn judge(table: &[u8], out: &mut [u8]) -> Result<usize, Refusal> {
-    let plan = Plan::of(table)?;
-    write(&plan, out)
+    let judged = Judged::of(table)?;
+    write(&judged, out)
 }
 
-/// An accepted table.
-struct Plan {
+/// An accepted table, with its slack and bounds worked out.
+struct Judged {
     cores: usize,
     tasks: Tasks,
     slack: [u32; TASKS],
     bound: [u64; TASKS],
 }
 
-impl Plan {
+impl Judged {
     /// 1 to 13.
-    fn of(table: &[u8]) -> Result<Plan, Refusal> {
+    fn of(table: &[u8]) -> Result<Judged, Refusal> {
         let sections = Sections::split(table)?;
         let cores = sections.cores()?;
-        let tasks = Tasks::read(sections.tasks, cores)?;
-        let demand = Demand::of(&tasks, cores)?;
-        let slack = slack(&demand, &tasks, sections.slack)?;
+        let tasks = read_tasks(sections.tasks, cores)?;
+        let rates = Rates::of(&tasks, cores)?;
+        let slack = slack(&rates, &tasks, sections.slack)?;
         let bound = bounds(&tasks, &slack)?;
-        Ok(Plan { cores, tasks, slack, bound })
+        Ok(Judged { cores, tasks, slack, bound })
     }
 }
 
 /// The slack, found or offered: 11 and 12.
-fn slack(demand: &Demand, tasks: &Tasks, offer: &[[u8; 4]]) -> Result<[u32; TASKS], Refusal> {
+fn slack(rates: &Rates, tasks: &Tasks, offer: &[[u8; 4]]) -> Result<[u32; TASKS], Refusal> {
     if offer.is_empty() {
-        return Ok(demand.search());
+        return Ok(rates.search());
     }
     if offer.len() != tasks.count {
         return refuse(11, 0);
@@ -65,7 +58,7 @@ fn slack(demand: &Demand, tasks: &Tasks, offer: &[[u8; 4]]) -> Result<[u32; TASK
     for (x, entry) in slack.iter_mut().zip(offer) {
         *x = u32::from_le_bytes(*entry);
     }
-    match demand.lowest_failing(&slack) {
+    match rates.lowest_failing(&slack) {
         Some(k) => refuse(12, k),
         None => Ok(slack),
     }
@@ -84,13 +77,13 @@ fn bounds(tasks: &Tasks, slack: &[u32; TASKS]) -> Result<[u64; TASKS], Refusal> 
 }
 
 /// 24, and the answer's bytes.
-fn write(plan: &Plan, out: &mut [u8]) -> Result<usize, Refusal> {
-    let count = plan.tasks.count;
+fn write(judged: &Judged, out: &mut [u8]) -> Result<usize, Refusal> {
+    let count = judged.tasks.count;
     let Some(out) = out.get_mut(..8 * count) else {
         return refuse(24, 0);
     };
     for (k, entry) in out.as_chunks_mut().0.iter_mut().enumerate() {
-        *entry = (plan.bound[k] << 32 | u64::from(plan.slack[k])).to_le_bytes();
+        *entry = (judged.bound[k] << 32 | u64::from(judged.slack[k])).to_le_bytes();
     }
     Ok(count)
 }

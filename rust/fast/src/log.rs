@@ -3,7 +3,8 @@
 
 use crate::heads::{Heads, JOBS, Job, Queue};
 use crate::table::TASKS;
-use crate::{Plan, Refusal, refuse};
+use crate::{Judged, refuse};
+use records::Refusal;
 
 const LARGEST_TICK: u32 = 1_000_000_000;
 
@@ -29,12 +30,12 @@ fn run<const LEAP: u32>(
     log: &[u8],
     out: &mut [u8],
 ) -> Result<(usize, usize), Refusal> {
-    let plan = Plan::of(table)?;
+    let judged = Judged::of(table)?;
     let entries = entries(log)?;
     let Some(out) = out.as_chunks_mut().0.get_mut(..entries.len()) else {
         return refuse(16, 0);
     };
-    let mut run = Run::<LEAP>::open(&plan, out);
+    let mut run = Run::<LEAP>::open(&judged, out);
     let mut refused = 0;
     for (index, entry) in entries.iter().enumerate() {
         let number = run.hand(index, entry);
@@ -75,7 +76,7 @@ fn answer(kind: u32, value: u32) -> [u8; 8] {
 
 /// A run that leaps over at most `LEAP` ticks at once while anything is pending.
 struct Run<'a, const LEAP: u32> {
-    plan: &'a Plan,
+    judged: &'a Judged,
     out: &'a mut [[u8; 8]],
     clock: u32,
     /// The tick from which each task may release again.
@@ -85,9 +86,9 @@ struct Run<'a, const LEAP: u32> {
 }
 
 impl<'a, const LEAP: u32> Run<'a, LEAP> {
-    fn open(plan: &'a Plan, out: &'a mut [[u8; 8]]) -> Run<'a, LEAP> {
+    fn open(judged: &'a Judged, out: &'a mut [[u8; 8]]) -> Run<'a, LEAP> {
         let queues = [Queue::default(); TASKS];
-        Run { plan, out, clock: 0, open_from: [0; TASKS], queues, heads: Heads::new() }
+        Run { judged, out, clock: 0, open_from: [0; TASKS], queues, heads: Heads::new() }
     }
 
     /// The refusal number of an entry, or 0 where its release is taken.
@@ -98,7 +99,7 @@ impl<'a, const LEAP: u32> Run<'a, LEAP> {
             return 17;
         }
         self.advance(tick);
-        let tasks = &self.plan.tasks;
+        let tasks = &self.judged.tasks;
         if task >= tasks.count {
             return 20;
         }
@@ -125,7 +126,7 @@ impl<'a, const LEAP: u32> Run<'a, LEAP> {
     /// The clock goes to `tick`, or with the largest number there to the end of the last job.
     fn advance(&mut self, tick: u32) {
         while self.clock < tick && self.heads.count > 0 {
-            let running = self.heads.count.min(self.plan.cores);
+            let running = self.heads.count.min(self.judged.cores);
             let ticks = self.heads.leap(running, LEAP.min(tick - self.clock));
             self.clock += ticks;
             if self.heads.run(running, ticks) {

@@ -1,6 +1,7 @@
 //! The table's bytes taken apart and its own fields tested: 1 to 8.
 
-use crate::{Refusal, refuse};
+use crate::refuse;
+use records::{Refusal, Tasks};
 
 pub const TASKS: usize = 16;
 
@@ -58,59 +59,47 @@ pub fn cores_of(labels: &[u8]) -> Result<usize, Refusal> {
     Ok(labels.len())
 }
 
-/// The tasks, field by field, with zeros past `count`.
-#[derive(Clone, Debug, PartialEq, Eq)]
-pub struct Tasks {
-    pub count: usize,
-    pub separation: [u32; TASKS],
-    pub budget: [u32; TASKS],
-    pub offset: [u32; TASKS],
+/// 5 to 8. One pass reads the fields and keeps a bit for each task that fails 6, 7 or 8.
+pub fn read_tasks(entries: &[[u8; 12]], cores: usize) -> Result<Tasks, Refusal> {
+    let count = entries.len();
+    if count <= cores || count > TASKS {
+        return refuse(5, 0);
+    }
+    let mut tasks = Tasks { count, separation: [0; TASKS], budget: [0; TASKS], offset: [0; TASKS] };
+    let mut failing = [0u32; 3];
+    for (i, entry) in entries.iter().enumerate() {
+        let [separation, budget, offset] = fields(entry);
+        tasks.separation[i] = separation;
+        tasks.budget[i] = budget;
+        tasks.offset[i] = offset;
+        // A 0 less 1 wraps to the largest number, so one comparison tests both ends.
+        failing[0] |= u32::from(separation.wrapping_sub(1) >= LONGEST_SEPARATION) << i;
+        failing[1] |= u32::from(budget.wrapping_sub(1) >= separation) << i;
+        failing[2] |= u32::from(offset > separation) << i;
+    }
+    for (number, tasks) in (6..).zip(failing) {
+        if tasks != 0 {
+            return refuse(number, tasks.trailing_zeros() as usize);
+        }
+    }
+    Ok(tasks)
 }
 
-impl Tasks {
-    /// 5 to 8. One pass reads the fields and keeps a bit for each task that fails 6, 7 or 8.
-    pub fn read(entries: &[[u8; 12]], cores: usize) -> Result<Tasks, Refusal> {
-        let count = entries.len();
-        if count <= cores || count > TASKS {
-            return refuse(5, 0);
-        }
-        let mut tasks =
-            Tasks { count, separation: [0; TASKS], budget: [0; TASKS], offset: [0; TASKS] };
-        let mut failing = [0u32; 3];
-        for (i, entry) in entries.iter().enumerate() {
-            let [separation, budget, offset] = fields(entry);
-            tasks.separation[i] = separation;
-            tasks.budget[i] = budget;
-            tasks.offset[i] = offset;
-            // A 0 less 1 wraps to the largest number, so one comparison tests both ends.
-            failing[0] |= u32::from(separation.wrapping_sub(1) >= LONGEST_SEPARATION) << i;
-            failing[1] |= u32::from(budget.wrapping_sub(1) >= separation) << i;
-            failing[2] |= u32::from(offset > separation) << i;
-        }
-        for (number, tasks) in (6..).zip(failing) {
-            if tasks != 0 {
-                return refuse(number, tasks.trailing_zeros() as usize);
-            }
-        }
-        Ok(tasks)
+/// Whether tasks that are not read from bytes pass 5 to 8, with zeros past `count`.
+pub fn tasks_pass(tasks: &Tasks, cores: usize) -> bool {
+    let count = tasks.count;
+    if count <= cores || count > TASKS {
+        return false;
     }
-
-    /// Whether tasks that are not read from bytes pass 5 to 8, with zeros past `count`.
-    pub fn pass(&self, cores: usize) -> bool {
-        let count = self.count;
-        if count <= cores || count > TASKS {
-            return false;
+    let fields = tasks.separation.iter().zip(&tasks.budget).zip(&tasks.offset);
+    fields.enumerate().all(|(i, ((&separation, &budget), &offset))| {
+        if i >= count {
+            return separation == 0 && budget == 0 && offset == 0;
         }
-        let fields = self.separation.iter().zip(&self.budget).zip(&self.offset);
-        fields.enumerate().all(|(i, ((&separation, &budget), &offset))| {
-            if i >= count {
-                return separation == 0 && budget == 0 && offset == 0;
-            }
-            separation.wrapping_sub(1) < LONGEST_SEPARATION
-                && budget.wrapping_sub(1) < separation
-                && offset <= separation
-        })
-    }
+        separation.wrapping_sub(1) < LONGEST_SEPARATION
+            && budget.wrapping_sub(1) < separation
+            && offset <= separation
+    })
 }
 
 /// Separation, budget and offset of an entry.

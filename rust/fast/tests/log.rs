@@ -1,4 +1,5 @@
-//! The log run by events, and tick by tick, on P10 and P11 of document 01 and over a long gap.
+//! The log run by events, and tick by tick, over a gap that is too long for the reference. On
+//! shorter logs it is compared with the reference, in `comparison`.
 
 use reference::{Entry, Log, Table, Task};
 
@@ -19,20 +20,6 @@ fn run(tasks: &[(u32, u32, u32)], entries: &[(u32, u8, u32)]) -> Vec<(u32, u32)>
     assert_eq!(by_ticks, out);
     let number = |bytes: &[u8]| u32::from_le_bytes(bytes.try_into().unwrap());
     out.chunks(8).map(|entry| (number(&entry[..4]), number(&entry[4..]))).collect()
-}
-
-#[test]
-fn p10_all_at_tick_0_with_full_budgets() {
-    let all = [(0, 0, 1), (0, 1, 1), (0, 2, 3)];
-    assert_eq!(run(&P3, &all), [(1, 1), (1, 2), (1, 3)]);
-    let later = [P3[0], P3[1], (3, 3, 3)];
-    assert_eq!(run(&later, &all), [(1, 1), (1, 1), (1, 4)]);
-}
-
-#[test]
-fn p11_a_release_too_soon() {
-    let entries = [(0, 0, 1), (1, 0, 1), (2, 0, 1)];
-    assert_eq!(run(&P3, &entries), [(1, 1), (2, 22), (1, 3)]);
 }
 
 #[test]

@@ -1,10 +1,7 @@
 //! Document 01's part "The engine": a release and a step, with refusals 18 to 23.
 
-use crate::Refusal;
-use crate::state::{Job, LAST_TICK, MOST_JOBS, State, broken};
-
-/// "the core was idle", as a number.
-pub const IDLE: u8 = 255;
+use crate::state::{Job, LAST_TICK, MOST_JOBS, broken, known, queue, set_queue};
+use records::{Refusal, Report, State};
 
 /// What a release answers, and the state that it hands back.
 #[derive(Clone, Debug, PartialEq, Eq)]
@@ -18,10 +15,9 @@ pub struct Released {
 pub struct Stepped {
     pub answer: Result<(), Refusal>,
     pub state: State,
-    /// "for each core which loop ran or that it was idle"
-    pub runs: [u8; 8],
-    /// "which loops finished, with finish tick minus release tick (0 for a loop that didn't)"
-    pub responses: [u32; 16],
+    /// "for each core which loop ran or that it was idle, and which loops finished, with finish
+    /// tick minus release tick (0 for a loop that didn't)"
+    pub report: Report,
 }
 
 /// Hands the engine a release. On a refusal "the state returned is the one handed in".
@@ -30,9 +26,9 @@ pub fn release(state: &State, task: usize, demand: u32) -> Released {
     let answer = test_release(&state, task, demand);
     if answer.is_ok() {
         // "A taken release adds one job, released at the clock, with its demand as remaining work"
-        let mut jobs = state.queue(task);
+        let mut jobs = queue(&state, task);
         jobs.push(Job { release: state.clock, remaining: demand });
-        state.set_queue(task, &jobs);
+        set_queue(&mut state, task, &jobs);
         state.released[task] = true;
         state.last[task] = state.clock;
     }
@@ -43,18 +39,18 @@ pub fn release(state: &State, task: usize, demand: u32) -> Released {
 pub fn step(state: &State) -> Stepped {
     let mut state = state.clone();
     let answer = test_step(&state);
-    let (mut runs, mut responses) = ([IDLE; 8], [0; 16]);
+    let mut report = Report::IDLE;
     if answer.is_ok() {
         let running = chosen(&state);
         // "Then the clock rises by 1. A job finishes at the clock value after its last tick."
         state.clock += 1;
         for (core, &task) in running.iter().enumerate() {
             // "They take the cores in that order, the earliest on the lowest label."
-            runs[core] = task as u8;
-            responses[task] = run(&mut state, task);
+            report.runs[core] = task as u8;
+            report.responses[task] = run(&mut state, task);
         }
     }
-    Stepped { answer, state, runs, responses }
+    Stepped { answer, state, report }
 }
 
 /// 18 and 19.
@@ -74,15 +70,15 @@ fn test_step(state: &State) -> Result<(), Refusal> {
 fn test_release(state: &State, task: usize, demand: u32) -> Result<(), Refusal> {
     test_step(state)?;
     // 20: "The loop isn't in the table."
-    if task >= state.tasks {
+    if task >= state.tasks.count {
         return Err(Refusal::whole(20));
     }
     // 21: "The demand is not 1 to C."
-    if !(1..=state.task[task].budget).contains(&demand) {
+    if !(1..=state.tasks.budget[task]).contains(&demand) {
         return Err(Refusal::whole(21));
     }
     // 22: "The loop's last taken release is less than T ticks ago."
-    if state.released[task] && state.clock - state.last[task] < state.task[task].separation {
+    if state.released[task] && state.clock - state.last[task] < state.tasks.separation[task] {
         return Err(Refusal::whole(22));
     }
     // 23: "The loop already holds 16 jobs".
@@ -104,22 +100,22 @@ pub fn chosen(state: &State) -> Vec<usize> {
 /// "A job's priority point is its release tick + Y": of each task's oldest job, with the task.
 pub fn points(state: &State) -> Vec<(u64, usize)> {
     let point = |task: usize| {
-        let oldest = *state.queue(task).first()?;
-        Some((u64::from(oldest.release) + u64::from(state.task[task].offset), task))
+        let oldest = *queue(state, task).first()?;
+        Some((u64::from(oldest.release) + u64::from(state.tasks.offset[task]), task))
     };
-    state.known().filter_map(point).collect()
+    known(state).filter_map(point).collect()
 }
 
 /// "each tick it runs takes 1 off, and at 0 it is finished." The response of a job that finishes at
 /// the clock, or 0.
 fn run(state: &mut State, task: usize) -> u32 {
-    let mut jobs = state.queue(task);
+    let mut jobs = queue(state, task);
     jobs[0].remaining -= 1;
     let mut response = 0;
     if jobs[0].remaining == 0 {
         response = state.clock - jobs[0].release;
         jobs.remove(0);
     }
-    state.set_queue(task, &jobs);
+    set_queue(state, task, &jobs);
     response
 }

@@ -14,30 +14,12 @@ mod slack;
 mod state;
 mod table;
 
-pub use engine::{IDLE, Released, Stepped, chosen, points, release, step};
+pub use records::{IDLE, Refusal, Report, State, Task, Tasks};
+
+pub use engine::{Released, Stepped, chosen, points, release, step};
 pub use log::{Entry, Log};
 pub use log_run::{Outcome, outcomes, run_log};
 pub use plan::{Plan, judge, judge_into, write};
 pub use slack::Analysis;
-pub use state::{Clause, Job, LAST_TICK, MOST_JOBS, State, broken, open};
-pub use table::{Table, Task};
-
-/// A refused call "returns its number and an index".
-#[derive(Clone, Copy, Debug, PartialEq, Eq)]
-pub struct Refusal {
-    pub number: u32,
-    pub index: u32,
-}
-
-impl Refusal {
-    /// A refusal that names the entry at `index`.
-    pub fn at(number: u32, index: usize) -> Refusal {
-        let index = u32::try_from(index).expect("an index is below 65,536");
-        Refusal { number, index }
-    }
-
-    /// A refusal that names no entry: its index is 0.
-    pub fn whole(number: u32) -> Refusal {
-        Refusal { number, index: 0 }
-    }
-}
+pub use state::{Clause, Job, LAST_TICK, MOST_JOBS, broken, known, open, queue, set_queue};
+pub use table::Table;

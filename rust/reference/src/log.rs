@@ -1,6 +1,6 @@
 //! The bytes of a release log: read (refusals 14 and 15) and written.
 
-use crate::Refusal;
+use records::Refusal;
 
 /// "A log tick is above 1,000,000,000" is refusal 15.
 const LARGEST_TICK: u32 = 1_000_000_000;

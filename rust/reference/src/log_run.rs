@@ -5,7 +5,8 @@
 
 use std::collections::VecDeque;
 
-use crate::{Entry, Log, MOST_JOBS, Plan, Refusal, judge};
+use crate::{Entry, Log, MOST_JOBS, Plan, judge};
+use records::Refusal;
 
 /// What the 8 bytes of an entry say.
 #[derive(Clone, Copy, Debug, PartialEq, Eq)]

@@ -2,7 +2,8 @@
 //! table gives: a plan, its bytes, and the slack and bound that the C judgement writes.
 
 use crate::slack::wide;
-use crate::{Analysis, Refusal, Table, Task};
+use crate::{Analysis, Table};
+use records::{Refusal, Task};
 
 /// "The plan keeps the table's entries, the slack, and whether it was offered or found; bounds are
 /// always worked out from these."

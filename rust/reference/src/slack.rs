@@ -1,6 +1,6 @@
 //! Document 01's part "Compliant slack".
 
-use crate::Task;
+use records::Task;
 
 /// "H is above 1,000,000" is refusal 9.
 const LARGEST_HYPERPERIOD: u128 = 1_000_000;

@@ -1,35 +1,13 @@
 //! The engine's state, and document 01's "A state is *sound* if …", clause by clause.
 
-use crate::{Plan, Table, Task, judge};
+use crate::{Plan, Table, judge};
+use records::{State, Task, Tasks};
 
 /// "its clock is at most 4,000,000,000"
 pub const LAST_TICK: u32 = 4_000_000_000;
 
 /// "A loop holds at most 16 unfinished jobs".
 pub const MOST_JOBS: usize = 16;
-
-/// The state with every place of it, used or not: "the state keeps all 256 job places in one flat
-/// record", sixteen a task.
-#[derive(Clone, Debug, PartialEq, Eq)]
-pub struct State {
-    /// Whether slack was offered.
-    pub offered: bool,
-    /// m.
-    pub cores: usize,
-    /// n.
-    pub tasks: usize,
-    pub labels: [u8; 8],
-    pub task: [Task; 16],
-    pub slack: [u32; 16],
-    pub clock: u32,
-    /// How many unfinished jobs each task holds.
-    pub jobs: [usize; 16],
-    /// Whether a release of the task was taken, and the last taken one's tick.
-    pub released: [bool; 16],
-    pub last: [u32; 16],
-    pub remaining: [u32; 256],
-    pub release: [u32; 256],
-}
 
 /// An unfinished job.
 #[derive(Clone, Copy, Debug, PartialEq, Eq)]
@@ -38,28 +16,27 @@ pub struct Job {
     pub remaining: u32,
 }
 
-impl State {
-    /// The jobs of a task, oldest first; at most its sixteen places.
-    pub fn queue(&self, task: usize) -> Vec<Job> {
-        let used = self.jobs[task].min(MOST_JOBS);
-        let job = |place| Job { release: self.release[place], remaining: self.remaining[place] };
-        (0..used).map(|place| job(MOST_JOBS * task + place)).collect()
-    }
+/// The jobs of a task, oldest first; at most its sixteen places: "the state keeps all 256 job places
+/// in one flat record".
+pub fn queue(state: &State, task: usize) -> Vec<Job> {
+    let used = state.jobs[task].min(MOST_JOBS);
+    let job = |place| Job { release: state.release[place], remaining: state.remaining[place] };
+    (0..used).map(|place| job(MOST_JOBS * task + place)).collect()
+}
 
-    /// The jobs of a task replaced, with zeros in the places that they do not use.
-    pub fn set_queue(&mut self, task: usize, jobs: &[Job]) {
-        self.jobs[task] = jobs.len();
-        for place in 0..MOST_JOBS {
-            let job = jobs.get(place).copied().unwrap_or(Job { release: 0, remaining: 0 });
-            self.release[MOST_JOBS * task + place] = job.release;
-            self.remaining[MOST_JOBS * task + place] = job.remaining;
-        }
+/// The jobs of a task replaced, with zeros in the places that they do not use.
+pub fn set_queue(state: &mut State, task: usize, jobs: &[Job]) {
+    state.jobs[task] = jobs.len();
+    for place in 0..MOST_JOBS {
+        let job = jobs.get(place).copied().unwrap_or(Job { release: 0, remaining: 0 });
+        state.release[MOST_JOBS * task + place] = job.release;
+        state.remaining[MOST_JOBS * task + place] = job.remaining;
     }
+}
 
-    /// The tasks that are in the table.
-    pub fn known(&self) -> std::ops::Range<usize> {
-        0..self.tasks.min(16)
-    }
+/// The tasks that are in the table.
+pub fn known(state: &State) -> std::ops::Range<usize> {
+    0..state.tasks.count.min(16)
 }
 
 /// The clauses of the sentence, in its order.
@@ -90,7 +67,7 @@ const CLAUSES: [(Clause, Holds); 11] = [
     (Clause::Apart, releases_are_apart),
     (Clause::ReleaseAfterClock, |state| every_job(state, |_, job| job.release <= state.clock)),
     (Clause::Work, |state| {
-        every_job(state, |i, job| (1..=state.task[i].budget).contains(&job.remaining))
+        every_job(state, |i, job| (1..=state.tasks.budget[i]).contains(&job.remaining))
     }),
     (Clause::LastAfterClock, |state| every(|i| state.last[i] <= state.clock)),
     (Clause::Newest, last_is_newest),
@@ -106,14 +83,14 @@ fn every(holds: impl Fn(usize) -> bool) -> bool {
 }
 
 fn every_job(state: &State, holds: impl Fn(usize, Job) -> bool) -> bool {
-    every(|i| state.queue(i).into_iter().all(|job| holds(i, job)))
+    every(|i| queue(state, i).into_iter().all(|job| holds(i, job)))
 }
 
 /// "its table part passes 3 to 13"; "A plan marked as found meets 12 where its slack differs from
 /// the found one […]; a state's table part fails likewise".
 fn table_passes(state: &State) -> bool {
     match table_part(state).map(|table| judge(&table.bytes())) {
-        Some(Ok(plan)) => plan.slack == state.slack[..state.tasks],
+        Some(Ok(plan)) => plan.slack == state.slack[..state.tasks.count],
         _ => false,
     }
 }
@@ -121,8 +98,9 @@ fn table_passes(state: &State) -> bool {
 /// The used entries of the table part, where there are places for so many.
 fn table_part(state: &State) -> Option<Table> {
     let labels = state.labels.get(..state.cores)?.to_vec();
-    let tasks = state.task.get(..state.tasks)?.to_vec();
-    let slack = if state.offered { state.slack[..state.tasks].to_vec() } else { Vec::new() };
+    let offer = state.slack.get(..state.tasks.count)?;
+    let tasks = (0..state.tasks.count).map(|i| state.tasks.at(i)).collect();
+    let slack = if state.offered { offer.to_vec() } else { Vec::new() };
     Some(Table { labels, tasks, slack })
 }
 
@@ -130,15 +108,16 @@ fn table_part(state: &State) -> Option<Table> {
 fn table_is_tidy(state: &State) -> bool {
     let zero = Task { separation: 0, budget: 0, offset: 0 };
     let labels = state.labels.iter().skip(state.cores).all(|&label| label == 0);
-    let tasks = state.task.iter().skip(state.tasks).all(|&task| task == zero);
-    labels && tasks && state.slack.iter().skip(state.tasks).all(|&x| x == 0)
+    let unused =
+        |i: usize| i < state.tasks.count || state.tasks.at(i) == zero && state.slack[i] == 0;
+    labels && every(unused)
 }
 
 /// The other unused places: those without a job, and all that a task outside the table has.
 fn places_are_tidy(state: &State) -> bool {
     every(|i| {
         let places = MOST_JOBS * i + state.jobs[i].min(MOST_JOBS)..MOST_JOBS * (i + 1);
-        let known = state.known().contains(&i);
+        let known = known(state).contains(&i);
         let empty = places.into_iter().all(|k| state.release[k] == 0 && state.remaining[k] == 0);
         empty && (known || (state.jobs[i] == 0 && !state.released[i]))
     })
@@ -147,17 +126,17 @@ fn places_are_tidy(state: &State) -> bool {
 /// "each loop's pending releases rise by at least T", so that they stand "oldest first".
 fn releases_are_apart(state: &State) -> bool {
     every(|i| {
-        let separation = u64::from(state.task[i].separation);
+        let separation = u64::from(state.tasks.separation[i]);
         let apart =
             |pair: &[Job]| u64::from(pair[0].release) + separation <= u64::from(pair[1].release);
-        state.queue(i).windows(2).all(apart)
+        queue(state, i).windows(2).all(apart)
     })
 }
 
 /// "the last taken release (a flag says if there is one) […] is the newest pending one where any is
 /// pending".
 fn last_is_newest(state: &State) -> bool {
-    every(|i| match state.queue(i).last() {
+    every(|i| match queue(state, i).last() {
         Some(newest) => state.released[i] && state.last[i] == newest.release,
         None => true,
     })
@@ -168,9 +147,8 @@ pub fn open(plan: &Plan) -> State {
     let mut state = State {
         offered: plan.offered,
         cores: plan.labels.len(),
-        tasks: plan.tasks.len(),
         labels: [0; 8],
-        task: [Task { separation: 0, budget: 0, offset: 0 }; 16],
+        tasks: Tasks::new(&plan.tasks),
         slack: [0; 16],
         clock: 0,
         jobs: [0; 16],
@@ -180,7 +158,6 @@ pub fn open(plan: &Plan) -> State {
         release: [0; 256],
     };
     state.labels[..plan.labels.len()].copy_from_slice(&plan.labels);
-    state.task[..plan.tasks.len()].copy_from_slice(&plan.tasks);
     state.slack[..plan.tasks.len()].copy_from_slice(&plan.slack);
     state
 }

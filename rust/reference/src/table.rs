@@ -1,17 +1,6 @@
 //! The bytes of a show table: its three sections read (refusals 1 and 2) and written.
 
-use crate::Refusal;
-
-/// An entry of the second section. Document 01 calls a task a *loop*.
-#[derive(Clone, Copy, Debug, PartialEq, Eq)]
-pub struct Task {
-    /// T.
-    pub separation: u32,
-    /// C.
-    pub budget: u32,
-    /// Y, the priority offset.
-    pub offset: u32,
-}
+use records::{Refusal, Task};
 
 /// The entries of the three sections as they stand in the bytes, before any of 3 to 13 is tested.
 #[derive(Clone, Debug, PartialEq, Eq)]

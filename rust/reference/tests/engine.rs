@@ -1,7 +1,7 @@
 //! P10 and P11 of document 01, and the order of a release's refusals.
 
 use reference::{
-    IDLE, Job, LAST_TICK, Plan, Refusal, State, Table, Task, judge, open, release, step,
+    IDLE, Job, LAST_TICK, Plan, Refusal, State, Table, Task, judge, open, release, set_queue, step,
 };
 
 /// The plan of P3 with this offset as its third, on the cores 0 and 1.
@@ -36,7 +36,7 @@ fn finish_ticks(third_offset: u32) -> [u32; 3] {
         assert_eq!(stepped.answer, Ok(()));
         state = stepped.state;
         for (task, tick) in finish.iter_mut().enumerate() {
-            if stepped.responses[task] > 0 {
+            if stepped.report.responses[task] > 0 {
                 *tick = state.clock;
             }
         }
@@ -57,10 +57,10 @@ fn p10_names_the_tasks_in_the_order_of_their_points() {
         state = taken(&state, task, demand);
     }
     let first = step(&state);
-    assert_eq!(first.runs[..3], [2, 0, IDLE]);
+    assert_eq!(first.report.runs[..3], [2, 0, IDLE]);
     let second = step(&first.state);
-    assert_eq!(second.runs[..3], [2, 1, IDLE]);
-    assert_eq!(step(&second.state).runs[..3], [2, IDLE, IDLE]);
+    assert_eq!(second.report.runs[..3], [2, 1, IDLE]);
+    assert_eq!(step(&second.state).report.runs[..3], [2, IDLE, IDLE]);
 }
 
 #[test]
@@ -76,7 +76,7 @@ fn a_release_meets_the_first_number() {
     let mut state = open(&p3(0));
     state.clock = 100;
     let jobs: Vec<Job> = (0..16).map(|k| Job { release: 69 + 2 * k, remaining: 1 }).collect();
-    state.set_queue(0, &jobs);
+    set_queue(&mut state, 0, &jobs);
     (state.released[0], state.last[0]) = (true, 99);
     assert_eq!(number(&state, 3, 0), 20);
     assert_eq!(number(&state, 0, 0), 21);

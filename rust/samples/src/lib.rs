@@ -7,26 +7,26 @@
 
 #![forbid(unsafe_code)]
 
-mod damage;
-mod faults;
-mod harm;
-mod log_damage;
+mod damaged_logs;
+mod damaged_states;
+mod damaged_tables;
+mod faulty_tables;
 mod log_tables;
 mod logs;
-mod offers;
+mod offering_tables;
+mod plain_tables;
 mod random;
-mod shapes;
-mod states;
-mod tight;
+mod sound_states;
+mod tight_tables;
 
-pub use damage::{damaged, noise};
-pub use faults::faulty;
-pub use harm::harmed;
-pub use log_damage::{damaged_log, noise_log};
+pub use damaged_logs::{damaged_log, noise_log};
+pub use damaged_states::damaged_state;
+pub use damaged_tables::{damaged_table, noise_table};
+pub use faulty_tables::faulty_table;
 pub use log_tables::{any_accepted, short_accepted};
 pub use logs::{LogKind, log};
-pub use offers::offered;
+pub use offering_tables::offered;
+pub use plain_tables::{Shape, long, mixed, steep};
 pub use random::Random;
-pub use shapes::{Shape, long, mixed, steep};
-pub use states::{accepted_plan, brisk, busy, sound, tied};
-pub use tight::{any_tight, overfull, tight};
+pub use sound_states::{accepted_plan, brisk, busy, sound, tied};
+pub use tight_tables::{any_tight, overfull, tight};

@@ -1,8 +1,8 @@
 //! Tables to run logs on.
 
-use crate::offers::with_offer;
-use crate::shapes::{labels, loaded, offset};
-use crate::tight::tight_with;
+use crate::offering_tables::with_offer;
+use crate::plain_tables::{labels, loaded, offset};
+use crate::tight_tables::tight_with;
 use crate::{Random, Shape, any_tight, long, mixed, offered, steep};
 use reference::{Table, Task};
 

@@ -5,7 +5,7 @@ use reference::{Table, Task};
 
 /// A table with some faults, each met by one of 3 to 12; which of them comes first is for the
 /// judgement to say.
-pub fn faulty(random: &mut Random) -> Table {
+pub fn faulty_table(random: &mut Random) -> Table {
     let mut table = match random.index(3) {
         0 => mixed(random),
         1 => offered(random),

@@ -1,6 +1,6 @@
 //! Tables whose shares add up to exactly m × H, and to a little more.
 
-use crate::shapes::{composite, divisor, labels, offset};
+use crate::plain_tables::{composite, divisor, labels, offset};
 use crate::{Random, Shape};
 use reference::{Table, Task};
 

@@ -3,9 +3,9 @@
 use crate::Random;
 use reference::{LAST_TICK, MOST_JOBS, State, Task};
 
-type Harm = fn(&mut Random, &mut State);
+type Damage = fn(&mut Random, &mut State);
 
-const HARMS: [Harm; 20] = [
+const DAMAGES: [Damage; 20] = [
     |random, state| state.slack[in_table(random, state)] ^= 1,
     |_, state| state.offered ^= true,
     |random, state| {
@@ -13,7 +13,7 @@ const HARMS: [Harm; 20] = [
         state.labels[core] = random.pick(&[0, 63, 64, 255]);
     },
     |random, state| state.cores = random.pick(&[0, 1, 2, 8, 9, usize::MAX]),
-    |random, state| state.tasks = random.pick(&[0, 2, state.cores, 15, 16, 17, usize::MAX]),
+    |random, state| state.tasks.count = random.pick(&[0, 2, state.cores, 15, 16, 17, usize::MAX]),
     entry,
     unused_label,
     unused_task,
@@ -34,19 +34,19 @@ const HARMS: [Harm; 20] = [
 ];
 
 /// The state with one thing in it changed.
-pub fn harmed(random: &mut Random, mut state: State) -> State {
-    let harm = random.pick(&HARMS);
-    harm(random, &mut state);
+pub fn damaged_state(random: &mut Random, mut state: State) -> State {
+    let damage = random.pick(&DAMAGES);
+    damage(random, &mut state);
     state
 }
 
 fn in_table(random: &mut Random, state: &State) -> usize {
-    random.index(state.tasks.clamp(1, 16))
+    random.index(state.tasks.count.clamp(1, 16))
 }
 
 /// A task that is not in the table, or the last one where all are.
 fn outside(random: &mut Random, state: &State) -> usize {
-    let first = state.tasks.min(15);
+    let first = state.tasks.count.min(15);
     first + random.index(16 - first)
 }
 
@@ -58,12 +58,19 @@ fn with_jobs(random: &mut Random, state: &State, jobs: usize) -> Option<usize> {
 
 /// A number of an entry at, just above or far above what it may be.
 fn entry(random: &mut Random, state: &mut State) {
-    let task = &mut state.task[random.index(16)];
-    let Task { separation, budget, offset } = *task;
+    let place = random.index(16);
+    let Task { separation, budget, offset } = state.tasks.at(place);
+    let tasks = &mut state.tasks;
     match random.index(3) {
-        0 => task.separation = random.pick(&[0, budget, 100_001, separation.saturating_add(1)]),
-        1 => task.budget = random.pick(&[0, separation.saturating_add(1), u32::MAX]),
-        _ => task.offset = random.pick(&[separation.saturating_add(1), offset ^ 1, u32::MAX]),
+        0 => {
+            tasks.separation[place] =
+                random.pick(&[0, budget, 100_001, separation.saturating_add(1)]);
+        }
+        1 => tasks.budget[place] = random.pick(&[0, separation.saturating_add(1), u32::MAX]),
+        _ => {
+            tasks.offset[place] =
+                random.pick(&[separation.saturating_add(1), offset ^ 1, u32::MAX]);
+        }
     }
 }
 
@@ -75,9 +82,9 @@ fn unused_label(random: &mut Random, state: &mut State) {
 fn unused_task(random: &mut Random, state: &mut State) {
     let task = outside(random, state);
     match random.index(4) {
-        0 => state.task[task].separation = 1,
-        1 => state.task[task].budget = 1,
-        2 => state.task[task].offset = 1,
+        0 => state.tasks.separation[task] = 1,
+        1 => state.tasks.budget[task] = 1,
+        2 => state.tasks.offset[task] = 1,
         _ => state.slack[task] = 1,
     }
 }
@@ -105,14 +112,14 @@ fn tick_without_release(random: &mut Random, state: &mut State) {
 fn too_close(random: &mut Random, state: &mut State) {
     if let Some(task) = with_jobs(random, state, 2) {
         let second = MOST_JOBS * task + 1;
-        state.release[second - 1] = state.release[second] + 1 - state.task[task].separation;
+        state.release[second - 1] = state.release[second] + 1 - state.tasks.separation[task];
     }
 }
 
 fn work(random: &mut Random, state: &mut State) {
     if let Some(task) = with_jobs(random, state, 1) {
         let place = MOST_JOBS * task + random.index(state.jobs[task]);
-        state.remaining[place] = random.pick(&[0, state.task[task].budget + 1, u32::MAX]);
+        state.remaining[place] = random.pick(&[0, state.tasks.budget[task] + 1, u32::MAX]);
     }
 }
 

@@ -1,6 +1,6 @@
 //! Tables that offer slack: at compliance, one below and one above it, zeros, and 2^32 − 1.
 
-use crate::shapes::labels;
+use crate::plain_tables::labels;
 use crate::{Random, Shape, long, mixed, steep, tight};
 use reference::{Analysis, Table, Task};
 

@@ -1,9 +1,9 @@
 //! Engine states that are sound: busy ones, ones with equal priority points, and ones near the
 //! clock's end. Not all of them can be reached from an opening.
 
-use crate::shapes::{labels, offset};
+use crate::plain_tables::{labels, offset};
 use crate::{Random, Shape, any_tight, mixed, offered, steep};
-use reference::{Job, LAST_TICK, MOST_JOBS, Plan, State, Table, Task, judge, open};
+use reference::{Job, LAST_TICK, MOST_JOBS, Plan, State, Table, Task, judge, open, set_queue};
 
 /// Separations whose least common multiple is 120.
 const BRISK: [u32; 10] = [2, 3, 4, 5, 6, 8, 10, 12, 15, 20];
@@ -111,7 +111,7 @@ fn newest(random: &mut Random, clock: u32, separation: u32) -> Option<u32> {
 /// The task's last taken release, with up to so many pending jobs before and at it, their releases
 /// exactly or more than T apart.
 fn pend(random: &mut Random, state: &mut State, task: usize, newest: Option<u32>, jobs: usize) {
-    let Task { separation, budget, .. } = state.task[task];
+    let Task { separation, budget, .. } = state.tasks.at(task);
     state.released[task] = newest.is_some();
     state.last[task] = newest.unwrap_or(0);
     let mut queue = Vec::new();
@@ -127,5 +127,5 @@ fn pend(random: &mut Random, state: &mut State, task: usize, newest: Option<u32>
         next = release.checked_sub(gap);
     }
     queue.reverse();
-    state.set_queue(task, &queue);
+    set_queue(state, task, &queue);
 }

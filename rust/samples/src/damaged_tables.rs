@@ -3,7 +3,7 @@
 use crate::Random;
 
 /// The bytes of a table cut, lengthened, or with some bits, bytes or numbers changed.
-pub fn damaged(random: &mut Random, mut bytes: Vec<u8>) -> Vec<u8> {
+pub fn damaged_table(random: &mut Random, mut bytes: Vec<u8>) -> Vec<u8> {
     match random.index(6) {
         0 => bytes.truncate(random.index(bytes.len())),
         1 => lengthen(random, &mut bytes),
@@ -16,7 +16,7 @@ pub fn damaged(random: &mut Random, mut bytes: Vec<u8>) -> Vec<u8> {
 }
 
 /// Random bytes, most of them with edition 1, some with counts that agree with their length.
-pub fn noise(random: &mut Random) -> Vec<u8> {
+pub fn noise_table(random: &mut Random) -> Vec<u8> {
     let mut bytes = vec![0; random.index(220)];
     random.fill(&mut bytes);
     match random.index(4) {

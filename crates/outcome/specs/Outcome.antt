@@ -1,0 +1,95 @@
+-- Demand 3 said a second time, of bytes alone: of a table, of a log, of what a log run leaves in a lent answer and of what the C judgement leaves
+-- in a lent buffer. No engine, history or claim stands in it, and no definition of a plan, a log or a bound: each number is read at the place
+-- that document 01 gives it.
+--     loopsOf, separationOf, budgetOf, offsetOf     of a table t: its number of loops, and loop i's T, C and Y
+--     entriesOf, tickOf, loopOf, demandOf           of a log l: its number of entries, and entry e's three numbers
+--     kindOf, numberOf                              of a log run's answer w: entry e's kind, and the finish tick or refusal number behind it
+--     slackOf, boundOf                              of a judgement's answer b: loop i's slack and bound
+--     Fits                                          the four conditions of an entry
+--     Kept                                          the log keeps the table
+--     Outcome                                       the statement
+use Prim.Native.Nat.{ℕ, _+_, _*_, _≤_, _<_}
+use mathlib.Core.Path.{_≡_}
+use mathlib.Core.Logic.{_↔_, _⊎_}
+use mathlib.Core.List.{List}
+use Rattle.codec.specs.Bytes.{byte, number}
+
+-- "The first byte is the edition, 1. Three sections follow in this order, each after a one-byte count": m at 1, m labels, n, the loops
+abbrev pub loopsOf : List ℕ → ℕ
+loopsOf t = byte t (2 + byte t 1)
+
+-- "n entries of 12 bytes: separation T, budget C, priority offset Y, 4 bytes each"
+abbrev pub separationOf : List ℕ → ℕ → ℕ
+separationOf t i = number 4 t (3 + byte t 1 + 12 * i)
+
+abbrev pub budgetOf : List ℕ → ℕ → ℕ
+budgetOf t i = number 4 t (3 + byte t 1 + 12 * i + 4)
+
+abbrev pub offsetOf : List ℕ → ℕ → ℕ
+offsetOf t i = number 4 t (3 + byte t 1 + 12 * i + 8)
+
+-- "A 2-byte count, then 9 bytes an entry: tick (4), loop (1), demand (4)."
+abbrev pub entriesOf : List ℕ → ℕ
+entriesOf l = number 2 l 0
+
+abbrev pub tickOf : List ℕ → ℕ → ℕ
+tickOf l e = number 4 l (2 + 9 * e)
+
+abbrev pub loopOf : List ℕ → ℕ → ℕ
+loopOf l e = byte l (2 + 9 * e + 4)
+
+abbrev pub demandOf : List ℕ → ℕ → ℕ
+demandOf l e = number 4 l (2 + 9 * e + 5)
+
+-- "For each entry 8 bytes are written: kind 1 and finish tick, or kind 2 and refusal number, 4 bytes each."
+abbrev pub kindOf : List ℕ → ℕ → ℕ
+kindOf w e = number 4 w (8 * e)
+
+abbrev pub numberOf : List ℕ → ℕ → ℕ
+numberOf w e = number 4 w (8 * e + 4)
+
+-- "The C judgement writes slack and bound for each loop, 4 bytes each"
+abbrev pub slackOf : List ℕ → ℕ → ℕ
+slackOf b i = number 4 b (8 * i)
+
+abbrev pub boundOf : List ℕ → ℕ → ℕ
+boundOf b i = number 4 b (8 * i + 4)
+
+pub record Fits (t l w : List ℕ) (e : ℕ) : Type 0 where
+  -- 17: the tick is below no earlier entry's
+  pub onward : (j : ℕ) → j < e → tickOf l j ≤ tickOf l e
+  -- 20: the loop is in the table
+  pub in-table : loopOf l e < loopsOf t
+  -- 21: the demand is 1 to C
+  pub demand-low : 1 ≤ demandOf l e
+  pub demand-high : demandOf l e ≤ budgetOf t (loopOf l e)
+  -- 22: it is T or more ticks after every earlier entry of its loop that was taken, and so after the last of them
+  pub apart :
+      (j : ℕ) → j < e → loopOf l j ≡ loopOf l e → kindOf w j ≡ 1 → tickOf l j + separationOf t (loopOf l e) ≤ tickOf l e
+
+-- ticks never go back, every loop is in the table, every demand is 1 to C, and any two entries of one loop are T or more apart
+pub record Kept (t l : List ℕ) : Type 0 where
+  pub onward : (j e : ℕ) → j < e → e < entriesOf l → tickOf l j ≤ tickOf l e
+  pub in-table : (e : ℕ) → e < entriesOf l → loopOf l e < loopsOf t
+  pub demand-low : (e : ℕ) → e < entriesOf l → 1 ≤ demandOf l e
+  pub demand-high : (e : ℕ) → e < entriesOf l → demandOf l e ≤ budgetOf t (loopOf l e)
+  pub apart :
+      (j e : ℕ) → j < e → e < entriesOf l → loopOf l j ≡ loopOf l e → tickOf l j + separationOf t (loopOf l e) ≤ tickOf l e
+
+pub record Outcome (t l w b : List ℕ) : Type 0 where
+  -- "kind 1 and finish tick, or kind 2 and refusal number"; "23 is never met in such a run"
+  pub kinds : (e : ℕ) → e < entriesOf l → (kindOf w e ≡ 1) ⊎ ((kindOf w e ≡ 2) × (numberOf w e ≤ 22))
+  -- "a release is taken exactly when document 01's four conditions hold"
+  pub taken : (e : ℕ) → e < entriesOf l → (kindOf w e ≡ 1) ↔ Fits t l w e
+  -- "and every taken release finishes within offset + slack + budget"
+  pub in-time :
+      (e : ℕ) → e < entriesOf l → kindOf w e ≡ 1
+      → numberOf w e ≤ tickOf l e + (offsetOf t (loopOf l e) + slackOf b (loopOf l e) + budgetOf t (loopOf l e))
+  -- "all do exactly if the log keeps the table"
+  pub all-in-time :
+      ((e : ℕ) → e < entriesOf l
+      → (kindOf w e ≡ 1)
+      × (numberOf w e ≤ tickOf l e + (offsetOf t (loopOf l e) + slackOf b (loopOf l e) + budgetOf t (loopOf l e))))
+      ↔ Kept t l
+  -- "The bound of a loop is Y + x + C"
+  pub bounds : (i : ℕ) → i < loopsOf t → boundOf b i ≡ offsetOf t i + slackOf b i + budgetOf t i

@@ -1,0 +1,82 @@
+/*
+ * Judgement and log run of Dahomike as C functions. `rt staticlib dahomike` writes the library that has them,
+ * target/staticlib/libdahomike.a. The proved source is crates/dahomike/src/lib.rt; .ci/documents holds the declarations here to it.
+ *
+ * Numbers in tables, logs and answers are unsigned, low byte first. Loops and entries are counted from 0.
+ *
+ * What a caller owes: no pointer is null, also where its length is 0; each points to at least as many bytes as its length says; and `out`
+ * overlaps neither `table` nor `log`. These two are only read, and may overlap each other. Any bytes may stand in them, and `out` may have
+ * any length: what is wrong with them is refused. The functions keep no pointer and allocate nothing.
+ *
+ * What a refused call answers: 4,294,967,296 x number + index. So answer >> 32 is the refusal number, 0 for a call that is not refused,
+ * and the low 32 bits are the index: the lowest failing core for 4, loop for 6, 7, 8, 12 and 13, log entry for 15, and 0 for every other
+ * number. A refused call writes nothing.
+ *
+ *      1  The edition byte is absent or not 1.
+ *      2  The length isn't exactly what the counts give, or a count is absent.
+ *      3  Cores are not 2 to 8.
+ *      4  A core label is above 63 or not above the one before.
+ *      5  Loops are fewer than cores + 1 or more than 16.
+ *      6  A separation is not 1 to 100,000.
+ *      7  A budget is not 1 to its separation.
+ *      8  An offset is above its separation.
+ *      9  H, the least common multiple of all separations, is above 1,000,000.
+ *     10  The shares add up to more than m x H.
+ *     11  The slack count is neither 0 nor n.
+ *     12  Offered slack isn't compliant.
+ *     13  A bound is above 16 x T.
+ *     14  A log's length isn't 2 + 9 x count, or its count is absent.
+ *     15  A log tick is above 1,000,000,000.
+ *     16  The lent answer is shorter than 8 x count.
+ *     24  The buffer lent to the judgement is too short.
+ *
+ * Each number is tested over all entries before the next, and the first that is met is answered: 1 to 13 of the table, then 24 for
+ * dahomike_judge; 1 to 13 of the table, then 14 to 16 for dahomike_run_log.
+ */
+#ifndef DAHOMIKE_H
+#define DAHOMIKE_H
+
+#include <stddef.h>
+#include <stdint.h>
+
+#ifdef __cplusplus
+extern "C" {
+#endif
+
+/*
+ * Judges a show table.
+ *
+ *     table   the bytes of a show table: edition 1; a count m and m core labels, one byte each; a count n and n loops of 12 bytes,
+ *             separation T, budget C and priority offset Y; a count, n or 0, and as many entries of slack, 4 bytes each
+ *     out     where the table is accepted, for each loop its slack x and its bound Y + x + C, 4 bytes each: slack 0, bound 0, slack 1,
+ *             bound 1 and so on, 8 x n bytes; bytes beyond these stay. 128 bytes are enough for every table
+ *
+ * Answers n, which is 3 to 16, or the refusal: one of 1 to 13 and 24. With a slack count of 0 the slack is found: the least that is
+ * compliant. Otherwise it is the slack offered, tested by 12.
+ */
+uint64_t dahomike_judge(const uint8_t *table, size_t table_len, uint8_t *out, size_t out_len);
+
+/*
+ * Runs a release log on a show table: the engine is opened on the table's plan, stepped up to each entry's tick and handed its release,
+ * and after the last entry stepped until nothing is pending.
+ *
+ *     table   as above
+ *     log     the bytes of a release log: a 2-byte count, then 9 bytes an entry, its tick (4), loop (1) and demand (4)
+ *     out     where the call is not refused, 8 bytes for each entry: kind 1 and its finish tick, or kind 2 and its refusal number, 4
+ *             bytes each; bytes beyond these stay. 524,280 bytes are enough for every log
+ *
+ * Answers taken + 65,536 x refused, how many entries were of kind 1 and of kind 2, or the refusal: one of 1 to 16. An entry of kind 2
+ * refuses itself only, by the first that it meets of
+ *     17  Its tick is below the largest tick before it.
+ *     20  The loop isn't in the table.
+ *     21  The demand is not 1 to C.
+ *     22  The loop's last taken release is less than T ticks ago.
+ * An entry of kind 1 finishes at most Y + x + C ticks after its tick.
+ */
+uint64_t dahomike_run_log(const uint8_t *table, size_t table_len, const uint8_t *log, size_t log_len, uint8_t *out, size_t out_len);
+
+#ifdef __cplusplus
+}
+#endif
+
+#endif

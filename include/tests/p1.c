@@ -1,0 +1,89 @@
+/*
+ * The header and the static library from C: P1 and P4 judged, P11 run. .ci/run compiles and runs it where there is a C compiler.
+ */
+#include "../dahomike.h"
+
+#include <stdio.h>
+#include <string.h>
+
+#define REFUSED(number, index) ((uint64_t)(number) << 32 | (index))
+
+/* P1 offering slack: its last 13 bytes are the slack section. */
+static const uint8_t p4[] = {
+    1, 2, 0, 1, 3,
+    10, 0, 0, 0, 9, 0, 0, 0, 10, 0, 0, 0,
+    10, 0, 0, 0, 9, 0, 0, 0, 10, 0, 0, 0,
+    100, 0, 0, 0, 20, 0, 0, 0, 90, 0, 0, 0,
+    3, 5, 0, 0, 0, 6, 0, 0, 0, 0, 0, 0, 0,
+};
+
+static const uint8_t p3[] = {
+    1, 2, 0, 1, 3,
+    2, 0, 0, 0, 1, 0, 0, 0, 2, 0, 0, 0,
+    2, 0, 0, 0, 1, 0, 0, 0, 2, 0, 0, 0,
+    3, 0, 0, 0, 3, 0, 0, 0, 0, 0, 0, 0,
+    0,
+};
+
+/* P11: loop 0 at ticks 0, 1 and 2, demand 1. */
+static const uint8_t p11[] = {
+    3, 0,
+    0, 0, 0, 0, 0, 1, 0, 0, 0,
+    1, 0, 0, 0, 0, 1, 0, 0, 0,
+    2, 0, 0, 0, 0, 1, 0, 0, 0,
+};
+
+static int failures = 0;
+
+static void expect_answer(const char *name, uint64_t answer, uint64_t expected) {
+    if (answer != expected) {
+        printf("%s: answered %llu, not %llu\n", name, (unsigned long long)answer, (unsigned long long)expected);
+        failures++;
+    }
+}
+
+/* The buffer has these bytes, and bytes of 0xee from there on. */
+static void expect_bytes(const char *name, const uint8_t *out, size_t out_len, const uint8_t *expected, size_t expected_len) {
+    int same = memcmp(out, expected, expected_len) == 0;
+    for (size_t i = expected_len; i < out_len; i++) {
+        same = same && out[i] == 0xee;
+    }
+    if (!same) {
+        printf("%s: the buffer is another\n", name);
+        failures++;
+    }
+}
+
+static void judge_p1(void) {
+    static const uint8_t slack_and_bound[] = {6, 0, 0, 0, 25, 0, 0, 0, 6, 0, 0, 0, 25, 0, 0, 0, 0, 0, 0, 0, 110, 0, 0, 0};
+    uint8_t p1[sizeof p4 - 12], out[128];
+    memcpy(p1, p4, sizeof p1);
+    p1[sizeof p1 - 1] = 0;
+    memset(out, 0xee, sizeof out);
+    expect_answer("P1", dahomike_judge(p1, sizeof p1, out, sizeof out), 3);
+    expect_bytes("P1", out, sizeof out, slack_and_bound, sizeof slack_and_bound);
+    memset(out, 0xee, sizeof out);
+    expect_answer("P1, a short buffer", dahomike_judge(p1, sizeof p1, out, 23), REFUSED(24, 0));
+    expect_answer("P4", dahomike_judge(p4, sizeof p4, out, sizeof out), REFUSED(12, 0));
+    expect_answer("no table", dahomike_judge(p1, 0, out, sizeof out), REFUSED(1, 0));
+    expect_bytes("refused", out, sizeof out, out, 0);
+}
+
+static void run_p11(void) {
+    static const uint8_t entries[] = {1, 0, 0, 0, 1, 0, 0, 0, 2, 0, 0, 0, 22, 0, 0, 0, 1, 0, 0, 0, 3, 0, 0, 0};
+    uint8_t out[40];
+    memset(out, 0xee, sizeof out);
+    expect_answer("P11, a short answer", dahomike_run_log(p3, sizeof p3, p11, sizeof p11, out, 23), REFUSED(16, 0));
+    expect_bytes("P11, a short answer", out, sizeof out, out, 0);
+    expect_answer("P11", dahomike_run_log(p3, sizeof p3, p11, sizeof p11, out, sizeof out), 2 + 65536 * 1);
+    expect_bytes("P11", out, sizeof out, entries, sizeof entries);
+}
+
+int main(void) {
+    judge_p1();
+    run_p11();
+    if (failures == 0) {
+        puts("the C functions from C: ok");
+    }
+    return failures != 0;
+}
