@@ -13,6 +13,7 @@ mod plan;
 mod slack;
 mod state;
 mod table;
+mod text;
 
 pub use engine::{IDLE, Released, Stepped, chosen, points, release, step};
 pub use log::{Entry, Log};
@@ -21,6 +22,7 @@ pub use plan::{Plan, judge, judge_into, write};
 pub use slack::Analysis;
 pub use state::{Clause, Job, LAST_TICK, MOST_JOBS, State, broken, open};
 pub use table::{Table, Task};
+pub use text::text;
 
 /// A refused call "returns its number and an index".
 #[derive(Clone, Copy, Debug, PartialEq, Eq)]
