@@ -82,6 +82,46 @@ fn multiples() {
         b"accepted: H is 1000000",
         [64, 1, 64, 15625, 1, 15625, 1, 1, 1],
     );
+    judged::found(
+        b"accepted: H is 12, for separations 4 and 6",
+        [4, 3, 2, 6, 4, 6, 6, 2, 3],
+    );
+    judged::found(
+        b"accepted: H is 600000, far below the product of the separations",
+        [
+            40000,
+            30000,
+            20000,
+            60000,
+            40000,
+            60000,
+            100000,
+            50000,
+            30000,
+        ],
+    );
+    judged::found(
+        b"9: H is 1200000",
+        [
+            60000,
+            30000,
+            20000,
+            80000,
+            40000,
+            60000,
+            100000,
+            50000,
+            30000,
+        ],
+    );
+}
+
+// "raised until nothing changes": here the sixth time changes one loop only.
+fn rounds() {
+    judged::found(
+        b"accepted: slack raised six times",
+        [20, 15, 2, 10, 2, 1, 15, 15, 11],
+    );
 }
 
 // Zeros offered are numbers and are tested. 4294967295 makes a bound that 32 bits don't hold.
@@ -139,6 +179,7 @@ pub fn cases() {
     tasks();
     fields();
     multiples();
+    rounds();
     offers();
     bounds();
 }

@@ -44,6 +44,18 @@ fn gaps() {
     );
 }
 
+// Loop 2 has Y = 90 and T = 100.
+fn offsets() {
+    on_p1(
+        b"22: Y ticks ago or more, less than T",
+        counting(4)
+            .entry(0, 2, 20)
+            .entry(90, 2, 20)
+            .entry(99, 2, 20)
+            .entry(100, 2, 20),
+    );
+}
+
 // "later releases are measured from the last one taken, never from a refused one".
 fn measured() {
     on_p1(
@@ -133,6 +145,7 @@ pub fn cases() {
     known();
     demands();
     gaps();
+    offsets();
     measured();
     back();
     stays();

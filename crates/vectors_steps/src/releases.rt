@@ -55,6 +55,12 @@ fn gaps() {
     release(b"22: T - 1 ticks ago", at(busy(), 49), 0, 9);
     release(b"22: a job pending", busy(), 1, 9);
     release(b"22: no job pending", busy(), 2, 20);
+    release(
+        b"22: Y ticks ago, where Y is less than T",
+        at(busy(), 110),
+        2,
+        20,
+    );
     release(b"22: at the tick of the last one", at(busy(), 45), 1, 9);
     release(
         b"taken: T ticks ago, no job pending",
