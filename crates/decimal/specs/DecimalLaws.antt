@@ -8,7 +8,7 @@
 --     decimal-lead        the first is 0 only for 0: no leading zeros
 --     value-decimal       they stand for the number
 --     decimal-injective   so two numbers with the same digits are the same
---     decimal-length      a number below 10 ^ k has at most k digits, for k at least 1
+--     decimal-length      a number below 10 ^ k has at most k digits, for k at least 1; decimal-64: one of 64 bits at most 20
 --     length-said         how long words with a number are
 use Prim.Native.Nat.{ℕ, zero, suc, _+_, _-_, _*_, _/_, _%_, _^_, _≤_, _<_}
 use native.Mathlib.Nat.{pow-suc, not-suc-le-zero, eq-or-lt-of-le, div-lt-iff-lt-mul}
