@@ -1,4 +1,4 @@
--- What document 01 says of H, of the counted loops and of found slack, for every table or plan that passes 3 to 10.
+-- What document 01 says of H, of the counted loops and of found slack, for every table or plan that passes 3 to 10, and of late.
 --     Common          a number that is at least 1 and that every separation divides
 --     H-is-least      H is one, and none is smaller
 --     Choice          m − 1 loops of the table
@@ -6,17 +6,19 @@
 --     Least           compliant slack that is no larger at any loop than any other
 --     found-exists    found slack is that, with one entry for each loop
 --     found-is-only   and is the only one
-use Prim.Native.Nat.{ℕ, _-_, _%_, _≤_, _<_}
+--     late-from-point     the bound is Y and then late
+use Prim.Native.Nat.{ℕ, _+_, _-_, _%_, _≤_, _<_}
 use mathlib.Core.Path.{_≡_}
 use mathlib.Core.Bool.{true}
 use mathlib.Core.List.{List}
 use native.Mathlib.Nat.{le-of-eq}
+use native.Mathlib.Omega.{arith}
 use lib.ListN.{length}
 use Rattle.laws.specs.Sum.{sumOver}
 use Rattle.laws.specs.SumLaws.{sumOver-members, count-members}
 use Rattle.laws.specs.Member.{member, Distinct}
 use Rattle.tasks.specs.declared.Answer.the-variants.{Accepted}
-use Rattle.tasks.specs.TaskSet.{TaskSet, hyperperiod, weight, counted, Compliant, found, row}
+use Rattle.tasks.specs.TaskSet.{TaskSet, hyperperiod, weight, counted, Compliant, found, bound, late, row}
 use Rattle.tasks.specs.Content.{Content}
 use Rattle.tasks.specs.LimitsLaws.{limitTests, limits-passed}
 use Rattle.tasks.specs.ShareLaws.{timed, hyperperiod-low, hyperperiod-divided, hyperperiod-least}
@@ -70,3 +72,8 @@ module _ (c : Content) (passed : limitTests c ≡ Accepted) where
 
   pub found-is-only : (x : List ℕ) → length x ≡ c .tasks .count → Least (c .tasks) (row x) → x ≡ found (c .tasks)
   found-is-only x l m = found-unique (c .tasks) (limits-passed c passed .0) x l (m .compliant) (m .least)
+
+-- The bound is "counted from release", late "from the priority point", which is Y ticks after the release.
+pub late-from-point : (s : TaskSet) (x : ℕ → ℕ) (i : ℕ) → bound s x i ≡ s .task i .offset + late s x i
+unfolding bound late
+late-from-point s x i = omega arith

@@ -1,11 +1,14 @@
--- Document 01, "Worked tables": P1 to P11 as theorems of the definitions, from a table's and a log's bytes to the verdict, slack and bounds, and
--- to what a run of the log writes.
+-- Document 01, "Worked tables": P1 to P11 as theorems of the definitions, from a table's and a log's bytes to the verdict, slack and bounds,
+-- to what a run of the log writes, and to what `plan` prints.
 --     Case         a table's loops and offered slack, a log, and what document 01 says of them
 --     cases        P1 to P11, P8, P9 and P10 in both forms; where document 01 gives no budgets or offsets they are ours
+--     rows         these are its 14 rows
 --     agrees       whether the definitions say the same of a case
---     worked       they do of every case, with the log run on the abstract machine
+--     Shown, texts, prints    a table's loops and the text that `plan` prints for them
+--     worked       the definitions agree in every case, with the log run on the abstract machine, and in every text
 --     worked-runs  and so does the delivered engine's run
 use Prim.Native.Nat.{ℕ, suc}
+use Prim.Native.String.{String}
 use mathlib.Core.Bool.{Bool, true, false, _&&_}
 use mathlib.Core.Path.{_≡_, refl, sym, subst}
 use mathlib.Core.List.{List, [], _∷_, _++_, map}
@@ -19,7 +22,7 @@ use Rattle.laws.specs.Multiple.{lcm, lcmBelow}
 use Rattle.tasks.specs.declared.Task.{Task}
 use Rattle.tasks.specs.declared.Answer.{Answer}
 use Rattle.tasks.specs.declared.Answer.the-variants.{Accepted, Refused}
-use Rattle.tasks.specs.TaskSet.{hyperperiod, share, weight, surplus, counted, amount, cover, covers, needed, row, raise, same, settle, found, bound}
+use Rattle.tasks.specs.TaskSet.{hyperperiod, share, weight, surplus, counted, amount, cover, covers, needed, row, raise, same, settle, found, bound, late}
 use Rattle.tasks.specs.Content.{noTask}
 use Rattle.tasks.specs.Tests.{lowest, firstMet, outside, badLabel, test3, test4, test5, test6, test7, test8, test9, test10, test11, test12, test13, tests, unlessRefused}
 use Rattle.machine.specs.Machine.{opened, tooSoon, full, joined, admitted, waiting, point, before, chosen, runs, served, advanced, tick}
@@ -30,7 +33,9 @@ use Rattle.history.specs.Report.{Report, finished, refusal, finishTick, report}
 use Rattle.demand.specs.Demand3.{runOn, demand-machine}
 use Rattle.logs.specs.LogBytes.{entryCount, entryIn, entriesIn, test14, test15, logTest}
 use Rattle.laws.specs.Member.{member}
-use Rattle.table.specs.Bytes.{byte, number, digits}
+use Rattle.table.specs.Bytes.{byte, number, digits, entries}
+use Rattle.decimal.specs.Decimal.{words, digitsIn, decimal, said}
+use Rattle.text.specs.Printed.{pairLine, countsLine, taskLine, refusalLine, lineOf, planText, printed}
 use Rattle.table.specs.Table.{coreCount, taskCount, tasksAt, slackCount, slackAt, taskIn, taskSetIn, contentIn, test1, test2, verdict, taskBytes}
 
 -- a loop (T, C, Y)
@@ -38,6 +43,8 @@ abbrev loop : ℕ → ℕ → ℕ → Task
 loop t c y = record { separation = t; budget = c; offset = y }
 
 pub record Case : Type 0 where
+  -- document 01's number: 1 for P1
+  pub p : ℕ
   pub loops : List Task
   pub offered : List ℕ
   pub answer : Answer
@@ -47,17 +54,17 @@ pub record Case : Type 0 where
   pub reports : List Report
 
 -- a table that is accepted with this slack and these bounds
-abbrev accepted : List Task → List ℕ → List ℕ → List ℕ → Case
-accepted loops offered slack bounds =
-    record { loops = loops; offered = offered; answer = Accepted; slack = slack; bounds = bounds; log = []; reports = [] }
+abbrev accepted : ℕ → List Task → List ℕ → List ℕ → List ℕ → Case
+accepted p loops offered slack bounds =
+    record { p = p; loops = loops; offered = offered; answer = Accepted; slack = slack; bounds = bounds; log = []; reports = [] }
 
-abbrev refused : List Task → List ℕ → ℕ → ℕ → Case
-refused loops offered k i =
-    record { loops = loops; offered = offered; answer = Refused k i; slack = []; bounds = []; log = []; reports = [] }
+abbrev refused : ℕ → List Task → List ℕ → ℕ → ℕ → Case
+refused p loops offered k i =
+    record { p = p; loops = loops; offered = offered; answer = Refused k i; slack = []; bounds = []; log = []; reports = [] }
 
 -- an accepted table that a log is run on, with what is written of its entries
-abbrev run : List Task → List Entry → List Report → Case
-run loops log reports = record { loops = loops; offered = []; answer = Accepted; slack = []; bounds = []; log = log; reports = reports }
+abbrev run : ℕ → List Task → List Entry → List Report → Case
+run p loops log reports = record { p = p; loops = loops; offered = []; answer = Accepted; slack = []; bounds = []; log = log; reports = reports }
 
 -- an entry of loop i at tick t with demand c
 abbrev entry : ℕ → ℕ → ℕ → Entry
@@ -71,31 +78,38 @@ p1 = loop 10 9 10 ∷ loop 10 9 10 ∷ loop 100 20 90 ∷ []
 
 pub cases : List Case
 cases =
-    accepted p1 [] (6 ∷ 6 ∷ 0 ∷ []) (25 ∷ 25 ∷ 110 ∷ [])
-    ∷ accepted (loop 10 9 5 ∷ loop 10 9 10 ∷ loop 100 20 90 ∷ []) [] (9 ∷ 9 ∷ 3 ∷ []) (23 ∷ 28 ∷ 113 ∷ [])
-    ∷ accepted (p3 0) [] (2 ∷ 2 ∷ 1 ∷ []) (5 ∷ 5 ∷ 4 ∷ [])
-    ∷ refused p1 (5 ∷ 6 ∷ 0 ∷ []) 12 0
-    ∷ accepted p1 (6 ∷ 6 ∷ 1 ∷ []) (6 ∷ 6 ∷ 1 ∷ []) (25 ∷ 25 ∷ 111 ∷ [])
-    ∷ refused p1 (6 ∷ 6 ∷ 11 ∷ []) 12 0
-    ∷ refused (loop 10 9 10 ∷ loop 10 9 10 ∷ loop 100 21 90 ∷ []) [] 10 0
-    ∷ accepted (loop 1 1 1 ∷ loop 100 29 100 ∷ loop 100 29 100 ∷ []) [] (14 ∷ 0 ∷ 0 ∷ []) (16 ∷ 129 ∷ 129 ∷ [])
-    ∷ refused (loop 1 1 1 ∷ loop 100 30 100 ∷ loop 100 30 100 ∷ []) [] 13 0
-    ∷ accepted (loop 1000 1 0 ∷ loop 999 1 0 ∷ loop 1 1 1 ∷ []) [] (2 ∷ 2 ∷ 2 ∷ []) (3 ∷ 3 ∷ 4 ∷ [])
-    ∷ refused (loop 1000 1 0 ∷ loop 1001 1 0 ∷ loop 1 1 1 ∷ []) [] 9 0
-    ∷ run (p3 0) (entry 0 0 1 ∷ entry 0 1 1 ∷ entry 0 2 3 ∷ []) (finished 1 ∷ finished 2 ∷ finished 3 ∷ [])
-    ∷ run (p3 3) (entry 0 0 1 ∷ entry 0 1 1 ∷ entry 0 2 3 ∷ []) (finished 1 ∷ finished 1 ∷ finished 4 ∷ [])
-    ∷ run (p3 0) (entry 0 0 1 ∷ entry 1 0 1 ∷ entry 2 0 1 ∷ []) (finished 1 ∷ refusal 22 ∷ finished 3 ∷ [])
+    accepted 1 p1 [] (6 ∷ 6 ∷ 0 ∷ []) (25 ∷ 25 ∷ 110 ∷ [])
+    ∷ accepted 2 (loop 10 9 5 ∷ loop 10 9 10 ∷ loop 100 20 90 ∷ []) [] (9 ∷ 9 ∷ 3 ∷ []) (23 ∷ 28 ∷ 113 ∷ [])
+    ∷ accepted 3 (p3 0) [] (2 ∷ 2 ∷ 1 ∷ []) (5 ∷ 5 ∷ 4 ∷ [])
+    ∷ refused 4 p1 (5 ∷ 6 ∷ 0 ∷ []) 12 0
+    ∷ accepted 5 p1 (6 ∷ 6 ∷ 1 ∷ []) (6 ∷ 6 ∷ 1 ∷ []) (25 ∷ 25 ∷ 111 ∷ [])
+    ∷ refused 6 p1 (6 ∷ 6 ∷ 11 ∷ []) 12 0
+    ∷ refused 7 (loop 10 9 10 ∷ loop 10 9 10 ∷ loop 100 21 90 ∷ []) [] 10 0
+    ∷ accepted 8 (loop 1 1 1 ∷ loop 100 29 100 ∷ loop 100 29 100 ∷ []) [] (14 ∷ 0 ∷ 0 ∷ []) (16 ∷ 129 ∷ 129 ∷ [])
+    ∷ refused 8 (loop 1 1 1 ∷ loop 100 30 100 ∷ loop 100 30 100 ∷ []) [] 13 0
+    ∷ accepted 9 (loop 1000 1 0 ∷ loop 999 1 0 ∷ loop 1 1 1 ∷ []) [] (2 ∷ 2 ∷ 2 ∷ []) (3 ∷ 3 ∷ 4 ∷ [])
+    ∷ refused 9 (loop 1000 1 0 ∷ loop 1001 1 0 ∷ loop 1 1 1 ∷ []) [] 9 0
+    ∷ run 10 (p3 0) (entry 0 0 1 ∷ entry 0 1 1 ∷ entry 0 2 3 ∷ []) (finished 1 ∷ finished 2 ∷ finished 3 ∷ [])
+    ∷ run 10 (p3 3) (entry 0 0 1 ∷ entry 0 1 1 ∷ entry 0 2 3 ∷ []) (finished 1 ∷ finished 1 ∷ finished 4 ∷ [])
+    ∷ run 11 (p3 0) (entry 0 0 1 ∷ entry 1 0 1 ∷ entry 2 0 1 ∷ []) (finished 1 ∷ refusal 22 ∷ finished 3 ∷ [])
     ∷ []
+
+pub rows : map (λ (c : Case). c .p) cases ≡ 1 ∷ 2 ∷ 3 ∷ 4 ∷ 5 ∷ 6 ∷ 7 ∷ 8 ∷ 8 ∷ 9 ∷ 9 ∷ 10 ∷ 10 ∷ 11 ∷ []
+unfolding cases
+rows = refl
 
 pub concat : List (List ℕ) → List ℕ
 concat [] = []
 concat (a ∷ l) = a ++ concat l
 
--- the case's table on the cores labelled 0 and 1
-pub tableOf : Case → List ℕ
-tableOf c =
-    (1 ∷ 2 ∷ 0 ∷ 1 ∷ length (c .loops) ∷ concat (map taskBytes (c .loops)))
-    ++ (length (c .offered) ∷ concat (map (digits 4) (c .offered)))
+-- a table on the cores labelled 0 and 1
+pub tableWith : List Task → List ℕ → List ℕ
+tableWith loops offered =
+    (1 ∷ 2 ∷ 0 ∷ 1 ∷ length loops ∷ concat (map taskBytes loops))
+    ++ (length offered ∷ concat (map (digits 4) offered))
+
+abbrev tableOf : Case → List ℕ
+tableOf c = tableWith (c .loops) (c .offered)
 
 abbrev entryBytes : Entry → List ℕ
 entryBytes e = digits 4 (e .tick) ++ e .loop ∷ digits 4 (e .demand)
@@ -141,8 +155,29 @@ pub agreeAll : List Case → Bool
 agreeAll [] = true
 agreeAll (c ∷ l) = agrees c && agreeAll l
 
-pub worked : T (agreeAll cases)
-unfolding cases concat tableOf sameAnswer sameList agrees agreeAll first sum sumOver tab cut place ranked largest lcm lcmBelow hyperperiod share weight surplus counted amount cover covers needed row raise same settle found bound noTask lowest firstMet outside badLabel test3 test4 test5 test6 test7 test8 test9 test10 test11 test12 test13 tests byte number digits coreCount taskCount tasksAt slackCount slackAt taskIn taskSetIn contentIn test1 test2 verdict taskBytes logOf sameReport sameBy entryCount entryIn entriesIn test14 test15 logTest opened tooSoon full joined admitted waiting point before chosen runs served advanced tick asked demanded named largestTick back until calls outcome owed allOwed rest whole answerOf handedOf quietOf finishTick report member
+pub record Shown : Type 0 where
+  pub loops : List Task
+  pub text : String
+
+-- "For P1 with labels 0 and 1 it prints, whole"; "A refusal prints one line: `refused 7 at 1`", here of P1 with the second budget 11
+pub texts : List Shown
+texts =
+    record {
+      loops = p1;
+      text = "cores 2 loops 3\nloop 0 slack 6 bound 25 late 15\nloop 1 slack 6 bound 25 late 15\nloop 2 slack 0 bound 110 late 20\n";
+    }
+    ∷ record { loops = loop 10 9 10 ∷ loop 10 11 10 ∷ loop 100 20 90 ∷ []; text = "refused 7 at 1\n" }
+    ∷ []
+
+pub prints : Shown → Bool
+prints s = sameList (printed (tableWith (s .loops) [])) (words (s .text))
+
+pub printAll : List Shown → Bool
+printAll [] = true
+printAll (s ∷ l) = prints s && printAll l
+
+pub worked : T (agreeAll cases && printAll texts)
+unfolding cases concat tableWith sameAnswer sameList agrees agreeAll first sum sumOver tab cut place ranked largest lcm lcmBelow hyperperiod share weight surplus counted amount cover covers needed row raise same settle found bound noTask lowest firstMet outside badLabel test3 test4 test5 test6 test7 test8 test9 test10 test11 test12 test13 tests byte number digits coreCount taskCount tasksAt slackCount slackAt taskIn taskSetIn contentIn test1 test2 verdict taskBytes logOf sameReport sameBy entryCount entryIn entriesIn test14 test15 logTest opened tooSoon full joined admitted waiting point before chosen runs served advanced tick asked demanded named largestTick back until calls outcome owed allOwed rest whole answerOf handedOf quietOf finishTick report member texts prints printAll late printed planText countsLine taskLine refusalLine pairLine lineOf words said decimal digitsIn entries
 worked = tt
 
 -- ---- the same of the delivered engine
@@ -208,4 +243,4 @@ all-delivered (c ∷ l) t =
     both (runAgrees c) (runAll l) (delivered c (p .0)) (all-delivered l (p .1))
 
 pub worked-runs : T (runAll cases)
-worked-runs = all-delivered cases worked
+worked-runs = all-delivered cases (parts (agreeAll cases) (printAll texts) worked .0)

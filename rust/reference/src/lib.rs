@@ -13,6 +13,7 @@ mod plan;
 mod slack;
 mod state;
 mod table;
+mod text;
 
 pub use records::{IDLE, Refusal, Report, State, Task, Tasks};
 
@@ -23,3 +24,4 @@ pub use plan::{Plan, judge, judge_into, write};
 pub use slack::Analysis;
 pub use state::{Clause, Job, LAST_TICK, MOST_JOBS, broken, known, open, queue, set_queue};
 pub use table::Table;
+pub use text::text;

@@ -1,0 +1,133 @@
+-- Laws of the printed text: how long it is, and what its functions' code leaves.
+--     length-pair, length-task-line    a line's length by those of its numbers
+--     refusal-short    a refusal's line fits the buffer
+--     lineIn           a loop's line from a plan's own arrays
+--     line-in          it is the line of what the plan says
+--     lines-none, lines-next       a plan's lines stored one behind the other
+--     within           an accepted plan has at most 8 cores and 16 loops
+--     counts-short, lines-short    an accepted plan's first line is at most 17 bytes long, and each other at most 49
+--     line-room        there is room for each of its lines
+--     plan-text        the text of a plan from its own arrays
+use Prim.Native.Nat.{ℕ, zero, suc, _+_, _*_, _≤_, _<_}
+use mathlib.Core.Path.{_≡_, refl, sym, ap}
+use mathlib.Core.List.{List, _++_}
+use native.Mathlib.Numerals.{add-one}
+use native.Mathlib.Omega.{arith}
+use lib.ListN.{length, length-append}
+use Rattle.decimal.specs.Decimal.{words, decimal, Stored}
+use Rattle.decimal.specs.DecimalLaws.{length-said, decimal-length}
+use Rattle.decimal.specs.PutLaws.{put-behind}
+use Rattle.laws.specs.TabLaws.{cut-below}
+use Rattle.tasks.specs.declared.Task.{Task}
+use Rattle.tasks.specs.declared.Plan.{Plan}
+use Rattle.tasks.specs.declared.Answer.the-variants.{Accepted}
+use Rattle.tasks.specs.TaskSet.{bound, late, row}
+use Rattle.tasks.specs.Limits.{Bounded}
+use Rattle.tasks.specs.Content.{contentOf, taskOf, noTask}
+use Rattle.tasks.specs.Tests.{testPlan}
+use Rattle.tasks.specs.TestsLaws.{tests-limits, tests-bounded}
+use Rattle.codec.specs.Bytes.{entries}
+use Rattle.codec.specs.ByteLaws.{entries-same}
+use Rattle.text.specs.Printed.{pairLine, countsLine, taskLine, refusalLine, lineOf, planText}
+
+pub length-pair : (w : List ℕ) (a : ℕ) (v : List ℕ) (b : ℕ) → length (pairLine w a v b) ≡ length w + length (decimal a) + (length v + length (decimal b)) + 1
+unfolding pairLine words
+length-pair w a v b = rw (length-append, length-append, length-said, length-said)
+
+pub length-task-line :
+    (i x b l : ℕ) → length (taskLine i x b l) ≡ 26 + length (decimal i) + length (decimal x) + length (decimal b) + length (decimal l)
+unfolding taskLine words
+length-task-line i x b l = simp (length-append, length-said) (omega arith)
+
+pub refusal-short : (k i : ℕ) → k < 256 → i < 65536 → length (refusalLine k i) ≤ 1024
+unfolding refusalLine words
+refusal-short k i h l =
+    omega (
+      arith,
+      length-pair (words "refused ") k (words " at ") i,
+      decimal-length 2 k (omega arith),
+      decimal-length 4 i (omega arith),
+    )
+
+unfoldable pub lineIn : List Task → List ℕ → ℕ → List ℕ
+lineIn task slack i =
+    let t = taskOf task i in
+    let x = row slack i in
+    taskLine i x (t .offset + x + t .budget) (x + t .budget)
+
+-- no line yet, one line more, and all of them behind the first
+pub lines-none : (task : List Task) (slack l : List ℕ) (at : ℕ) → Stored l at (entries (lineIn task slack) 0) at l
+unfolding entries
+lines-none task slack l at = record { place = omega arith; left = refl }
+
+pub lines-next :
+    (task : List Task) (slack : List ℕ) (i b d : ℕ) {l u v : List ℕ} {from at end : ℕ}
+    → b ≡ taskOf task i .offset + row slack i + taskOf task i .budget → d ≡ row slack i + taskOf task i .budget
+    → Stored l from (entries (lineIn task slack) i) at u → Stored u at (taskLine i (row slack i) b d) end v
+    → Stored l from (entries (lineIn task slack) (i + 1)) end v
+unfolding entries lineIn
+lines-next task slack i b d e q s r = rw add-one (put-behind s (rw (e, q) at r))
+
+module _ (p : Plan) (passed : testPlan p ≡ Accepted) where
+  pub within : (p .cores ≤ 8) × (p .tasks ≤ 16)
+  unfolding testPlan contentOf
+  within = let L = tests-limits (contentOf p) passed in (L .cores-high, L .tasks-high)
+
+  pub line-in : (i : ℕ) → i < p .tasks → lineIn (p .task) (p .slack) i ≡ lineOf (contentOf p) i
+  unfolding lineIn lineOf contentOf bound late
+  line-in i h = rw (cut-below (p .tasks) (row (p .slack)) 0 i h, cut-below (p .tasks) (taskOf (p .task)) noTask i h)
+
+  bound-small : (i : ℕ) → i < p .tasks → bound (contentOf p .tasks) (contentOf p .slack) i ≤ 1600000
+  unfolding testPlan contentOf Bounded
+  bound-small i h = omega (arith, tests-bounded (contentOf p) passed i h, tests-limits (contentOf p) passed .separation-high i h)
+
+  line-short : (i : ℕ) → i < p .tasks → length (lineOf (contentOf p) i) ≤ 49
+  unfolding lineOf bound late
+  line-short i h =
+      let c = contentOf p in
+      let b = bound-small i h in
+      omega (
+        arith,
+        length-task-line i (c .slack i) (bound (c .tasks) (c .slack) i) (late (c .tasks) (c .slack) i),
+        decimal-length 1 i (omega (arith, within)),
+        decimal-length 6 (c .slack i) (omega arith),
+        decimal-length 6 (bound (c .tasks) (c .slack) i) (omega arith),
+        decimal-length 6 (late (c .tasks) (c .slack) i) (omega arith),
+      )
+
+  pub lines-short : (i : ℕ) → i ≤ p .tasks → length (entries (lineIn (p .task) (p .slack)) i) ≤ 49 * i
+  unfolding entries
+  lines-short zero h = omega arith
+  lines-short (suc i) h =
+      rw (length-append, line-in i h) (omega (arith, lines-short i (omega arith), line-short i h))
+
+  pub counts-short : length (countsLine (p .cores) (p .tasks)) ≤ 17
+  unfolding countsLine words
+  counts-short =
+      omega (
+        arith,
+        length-pair (words "cores ") (p .cores) (words " loops ") (p .tasks),
+        decimal-length 0 (p .cores) (omega (arith, within)),
+        decimal-length 1 (p .tasks) (omega (arith, within)),
+      )
+
+  pub line-room :
+      (i b d at : ℕ) → i < p .tasks → b ≡ taskOf (p .task) i .offset + row (p .slack) i + taskOf (p .task) i .budget
+      → d ≡ row (p .slack) i + taskOf (p .task) i .budget
+      → at ≡ length (countsLine (p .cores) (p .tasks)) + length (entries (lineIn (p .task) (p .slack)) i)
+      → at + length (taskLine i (row (p .slack) i) b d) ≤ 1024
+  unfolding entries lineIn
+  line-room i b d at h e q r =
+      let all = lines-short (suc i) h in
+      rw (e, q)
+      (omega (
+        arith,
+        within,
+        counts-short,
+        all,
+        length-append (entries (lineIn (p .task) (p .slack)) i) (lineIn (p .task) (p .slack) i),
+      ))
+
+  pub plan-text : planText (contentOf p) ≡ countsLine (p .cores) (p .tasks) ++ entries (lineIn (p .task) (p .slack)) (p .tasks)
+  unfolding planText contentOf
+  plan-text = ap (λ (l : List ℕ). countsLine (p .cores) (p .tasks) ++ l) (sym (entries-same _ _ (p .tasks) line-in))

@@ -1,0 +1,105 @@
+-- The text as a whole: which text the answer of a judgement calls for, and the input that is cut off.
+--     judged-passed     an accepted judgement's plan passes 3 to 13
+--     printed-plan, printed-refusal    the text by the judgement's answer
+--     plan-short        an accepted plan's text fits the buffer
+--     text-whole        text stored from the buffer's beginning on
+--     long-text         bytes past 4,340 change nothing
+use Prim.Native.Nat.{ℕ, _+_, _*_, _≤_, _<_}
+use mathlib.Core.Path.{_≡_, refl, sym, ap, _∙_}
+use mathlib.Core.Bool.{Bool, true, false, not}
+use mathlib.Core.List.{List, [], _∷_, _++_}
+use native.Mathlib.Nat.{zero-add}
+use native.Mathlib.Omega.{arith}
+use lib.ListN.{length, getD, drop, take, length-append, length-take, List·getD-eq-default}
+use lib.Seq.{getD-take, length-take-le}
+use lib.Dec.{ltb, eqb, lit<}
+use borrow.Author.Tests.{ne-eqb, ltb-true, ltb-false}
+use Rattle.tasks.specs.declared.Plan.{Plan}
+use Rattle.tasks.specs.declared.Answer.the-variants.{Accepted, Refused}
+use Rattle.tasks.specs.Content.{contentOf}
+use Rattle.tasks.specs.Tests.{refuse, firstMet, tests, testPlan}
+use Rattle.tasks.specs.AnswerLaws.{refuse-met, firstMet-pass, firstMet-stop}
+use Rattle.codec.specs.Bytes.{byte}
+use Rattle.codec.specs.ByteLaws.{Bytes}
+use Rattle.codec.specs.Table.{coreCount, taskCount, slackCount, tasksAt, slackAt, contentIn, test1, test2, verdict}
+use Rattle.table.specs.declared.Judgement.{Judgement}
+use Rattle.table.specs.Judged.{judged}
+use Rattle.table.specs.WriteLaws.{sets-whole}
+use Rattle.roundtrip.specs.SectionLaws.{verdict-parts}
+use Rattle.roundtrip.specs.RoundTrip.{judged-kept}
+use Rattle.decimal.specs.Decimal.{Stored}
+use Rattle.text.specs.Printed.{refusalLine, planText, printed}
+use Rattle.text.specs.PrintedLaws.{within, lines-short, counts-short, plan-text}
+
+module _ (t : List ℕ) (j : Judgement) (e : j ≡ judged t) where
+  verdict-is : j .answer ≡ verdict t
+  unfolding judged
+  verdict-is = ap (λ (r : Judgement). r .answer) e
+
+  content-is : j .answer ≡ Accepted → contentOf (j .plan) ≡ contentIn t
+  content-is a = ap (λ (r : Judgement). contentOf (r .plan)) e ∙ judged-kept t (sym verdict-is ∙ a)
+
+  pub judged-passed : j .answer ≡ Accepted → testPlan (j .plan) ≡ Accepted
+  unfolding testPlan
+  judged-passed a = ap tests (content-is a) ∙ verdict-parts t (sym verdict-is ∙ a) .content
+
+  pub printed-plan : j .answer ≡ Accepted → planText (contentOf (j .plan)) ≡ printed t
+  unfolding printed
+  printed-plan a = let v = sym verdict-is ∙ a in rw v (ap planText (content-is a))
+
+  pub printed-refusal : (k i : ℕ) → j .answer ≡ Refused k i → refusalLine k i ≡ printed t
+  unfolding printed
+  printed-refusal k i a = let v = sym verdict-is ∙ a in rw v
+
+pub plan-short : (p : Plan) → testPlan p ≡ Accepted → length (planText (contentOf p)) ≤ 1024
+plan-short p a =
+    rw (plan-text p a, length-append)
+    (omega (arith, within p a, counts-short p a, lines-short p a (p .tasks) (omega arith)))
+
+pub text-whole :
+    (t l : List ℕ) {u l' : List ℕ} {r : ℕ} → u ≡ printed t → length u ≤ 1024 → length l ≡ 1024 → Stored l 0 u r l'
+    → (r ≡ length (printed t)) × (l' ≡ printed t ++ drop (length (printed t)) l)
+text-whole t l {u} e h n s = rw (← e) (s .place ∙ zero-add _, s .left ∙ sets-whole l u (omega arith))
+
+-- ---- input that is longer than any table
+
+-- no table is longer than its counts give, each at most 255: 1 + 1 + 255 + 1 + 12 × 255 + 1 + 4 × 255 = 4,339 bytes
+long-second : (t : List ℕ) → Bytes t → 4340 ≤ length t → test2 t ≡ Refused 2 0
+unfolding test2 slackAt tasksAt coreCount taskCount slackCount Bytes
+long-second t b h =
+    refuse-met 2 _
+    (ap not (ne-eqb (length t) (slackAt t + 4 * slackCount t) (λ e. omega (arith, b 1, b (2 + coreCount t), b (tasksAt t + 12 * taskCount t)))))
+
+-- so a longer input is refused by its first byte: 1, or else 2
+abbrev byFirst : Bool → ℕ
+byFirst true = 1
+byFirst false = 2
+
+long-verdict : (t : List ℕ) → Bytes t → 4340 ≤ length t → verdict t ≡ Refused (byFirst (not (eqb (byte t 0) 1))) 0
+unfolding verdict test1
+long-verdict t b h = go (not (eqb (byte t 0) 1)) refl
+  where
+    go : (q : Bool) → not (eqb (byte t 0) 1) ≡ q → firstMet (refuse 1 (not (eqb (byte t 0) 1)) ∷ test2 t ∷ tests (contentIn t) ∷ []) ≡ Refused (byFirst (not (eqb (byte t 0) 1))) 0
+    go true e = rw e (firstMet-stop _ _ 1 0 refl)
+    go false e = rw e (firstMet-pass Accepted _ refl ∙ firstMet-stop _ _ 2 0 (long-second t b h))
+
+-- a refused table's text is a matter of its refusal
+refused-text : (t u : List ℕ) (k i : ℕ) → verdict t ≡ Refused k i → verdict u ≡ Refused k i → printed t ≡ printed u
+unfolding printed
+refused-text t u k i e q = rw (e, q)
+
+bytes-take : (n : ℕ) (t : List ℕ) → Bytes t → Bytes (take n t)
+unfolding Bytes byte
+bytes-take n t b i = go (ltb i n) refl
+  where
+    go : (q : Bool) → ltb i n ≡ q → getD (take n t) i 0 < 256
+    go true e = rw (getD-take n t i 0 (ltb-true i n e)) (b i)
+    go false e = rw (List·getD-eq-default (take n t) 0 {n = i} (omega (arith, ltb-false i n e, length-take n t))) (lit< tt)
+
+pub long-text : (t : List ℕ) → Bytes t → 4340 ≤ length t → printed (take 4340 t) ≡ printed t
+unfolding byte
+long-text t b h =
+    let same : byte (take 4340 t) 0 ≡ byte t 0 = getD-take 4340 t 0 0 (lit< tt) in
+    refused-text (take 4340 t) t _ 0
+    (long-verdict (take 4340 t) (bytes-take 4340 t b) (omega (arith, length-take-le 4340 t h)) ∙ rw same)
+    (long-verdict t b h)

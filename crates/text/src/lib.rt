@@ -1,0 +1,103 @@
+// The text that the program `plan` prints for a table. Document 01, the end of "Worked tables".
+use decimal::put_said;
+use decimal::put_words;
+use table::judge;
+use tasks::Answer;
+use tasks::Plan;
+ghost use mathlib.Core.Path.{_≡_};
+ghost use mathlib.Core.List.{_++_};
+ghost use Prim.Native.Nat.{_+_, _≤_};
+ghost use lib.ListN.{length, drop};
+ghost use Rattle.decimal.specs.Decimal.{Stored};
+ghost use Rattle.tasks.specs.declared.Answer.the-variants.{Accepted};
+ghost use Rattle.tasks.specs.Content.{contentOf};
+ghost use Rattle.tasks.specs.Tests.{testPlan};
+ghost use Rattle.text.specs.Printed.{pairLine, taskLine, refusalLine, planText, printed};
+
+// The length of the buffer that `text` is lent. No text is longer: the longest has a first line of at most 17 bytes and sixteen of at most 49.
+pub const LONGEST: usize = 1024;
+
+// "Late is x + C". In 64 bits, as the text's numbers are.
+fn late(slack: u32, budget: u32) -> u64
+    ensures { λ r. ⌜ r ≡ slack + budget ⌝ }
+{
+    slack as u64 + budget as u64
+}
+
+// "The bound of a loop is Y + x + C".
+fn bound(offset: u32, slack: u32, budget: u32) -> u64
+    ensures { λ r. ⌜ r ≡ offset + slack + budget ⌝ }
+{
+    offset as u64 + slack as u64 + budget as u64
+}
+
+// A line of words and a number, twice, from the buffer's beginning on.
+fn put_pair(out: &mut [u8], first: &[u8], a: u64, second: &[u8], b: u64) -> usize
+    requires { ⌜ length (pairLine (now first) a (now second) b) ≤ length (now out) ⌝ }
+    ensures { λ r. ⌜ Stored (now (out .entry)) 0 (pairLine (now (first .entry)) a (now (second .entry)) b) r (now (out .exit)) ⌝ }
+{
+    let middle = put_said(out, 0, first, a);
+    let end = put_said(out, middle, second, b);
+    put_words(out, end, b"\n")
+}
+
+// The line of one loop, from `at` on: "index, x, bound and late".
+fn put_task(out: &mut [u8], at: usize, i: u64, slack: u64, bound: u64, late: u64) -> usize
+    requires { ⌜ at + length (taskLine i slack bound late) ≤ length (now out) ⌝ }
+    ensures { λ r. ⌜ Stored (now (out .entry)) at (taskLine i slack bound late) r (now (out .exit)) ⌝ }
+{
+    let first = put_said(out, at, b"loop ", i);
+    let second = put_said(out, first, b" slack ", slack);
+    let third = put_said(out, second, b" bound ", bound);
+    let fourth = put_said(out, third, b" late ", late);
+    put_words(out, fourth, b"\n")
+}
+
+// The lines of an accepted plan.
+fn put_plan(out: &mut [u8], plan: Plan) -> usize
+    requires { ⌜ (testPlan plan ≡ Accepted) × (1024 ≤ length (now out)) ⌝ }
+    ensures { λ r. ⌜ Stored (now (out .entry)) 0 (planText (contentOf plan)) r (now (out .exit)) ⌝ }
+{
+    let tasks = plan.tasks;
+    let task = plan.task;
+    let slack = plan.slack;
+    let mut at = put_pair(out, b"cores ", plan.cores as u64, b" loops ", tasks as u64);
+    let mut i = 0;
+    while i < tasks {
+        let t = task[i];
+        let x = slack[i];
+        at = put_task(
+            out,
+            at,
+            i as u64,
+            x as u64,
+            bound(t.offset, x, t.budget),
+            late(x, t.budget),
+        );
+        i += 1;
+    }
+    at
+}
+
+// "A refusal prints one line", number and index.
+fn put_refusal(out: &mut [u8], number: u8, index: u16) -> usize
+    requires { ⌜ 1024 ≤ length (now out) ⌝ }
+    ensures { λ r. ⌜ Stored (now (out .entry)) 0 (refusalLine number index) r (now (out .exit)) ⌝ }
+{
+    put_pair(out, b"refused ", number as u64, b" at ", index as u64)
+}
+
+// The text for a table's bytes, from the buffer's beginning on; later bytes stay. How long it is comes back.
+pub fn text(table: &[u8], out: &mut [u8; LONGEST]) -> usize
+    ensures { λ r. ⌜
+        (r ≡ length (printed (now (table .entry))))
+        × (now (out .exit) ≡ printed (now (table .entry)) ++ drop (length (printed (now (table .entry)))) (now (out .entry)))
+        ⌝ }
+{
+    let judgement = judge(table);
+    let answer = judgement.answer;
+    let Answer::Refused { number, index } = answer else {
+        return put_plan(out, judgement.plan);
+    };
+    put_refusal(out, number, index)
+}
