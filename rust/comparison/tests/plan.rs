@@ -2,7 +2,7 @@
 //! every byte that it prints, for the sample shows and for tables made from a fixed seed.
 
 use reference::{Table, Task, text};
-use samples::{Random, any_tight, damaged, faulty, long, mixed, noise, offered, steep};
+use samples::{Random, any_tight, damaged_table, faulty_table, long, mixed, noise_table, offered, steep};
 use std::collections::BTreeMap;
 use std::fs;
 use std::io::Write;
@@ -90,10 +90,10 @@ fn tables_of_every_kind() {
         compare(&steep(random).bytes(), &mut met);
         compare(&any_tight(random).bytes(), &mut met);
         compare(&offered(random).bytes(), &mut met);
-        compare(&faulty(random).bytes(), &mut met);
+        compare(&faulty_table(random).bytes(), &mut met);
         let table = mixed(random).bytes();
-        compare(&damaged(random, table), &mut met);
-        compare(&noise(random), &mut met);
+        compare(&damaged_table(random, table), &mut met);
+        compare(&noise_table(random), &mut met);
     }
     println!("{met:?}");
     for number in 1..=13 {
