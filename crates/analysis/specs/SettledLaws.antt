@@ -1,6 +1,6 @@
 -- The stages' answers joined: from the columns and the stages to document 01's tests of a plan.
 --     columns-set       the columns stand for the plan's task set
---     frame-tests       3, 4 and 5 from the plan's own arrays
+--     frame-tests, fields-tests     3, 4 and 5, and 6, 7 and 8, from the plan's own arrays
 --     limits-split      3 to 10 are the three stages
 --     limits-from       what the three stages leave
 --     stopped, passed-on                           a refusal is passed on, and a passed test leaves the next
@@ -8,7 +8,7 @@
 --     slack-none, slack-count, slack-offered       11 and 12 by the slack count
 use Prim.Native.Nat.{ℕ, _-_, _≤_, _<_}
 use mathlib.Core.Path.{_≡_, refl, sym, _∙_, ap}
-use mathlib.Core.Bool.{Bool, true, false, cond, not}
+use mathlib.Core.Bool.{Bool, true, false, cond}
 use mathlib.Core.List.{List, [], _∷_}
 use native.Mathlib.Omega.{arith}
 use lib.Dec.{ltb, eqb}
@@ -19,14 +19,15 @@ use Rattle.tasks.specs.declared.Task.{Task}
 use Rattle.tasks.specs.declared.Plan.{Plan}
 use Rattle.tasks.specs.declared.Answer.{Answer}
 use Rattle.tasks.specs.declared.Answer.the-variants.{Accepted, Refused}
-use Rattle.tasks.specs.TaskSet.{TaskSet, covers, found, row}
+use Rattle.tasks.specs.TaskSet.{TaskSet, found, row}
 use Rattle.tasks.specs.Content.{Content, contentOf, taskOf, noTask}
-use Rattle.tasks.specs.Tests.{badLabel, lowest, firstMet, orNext, test3, test4, test5, test6, test7, test8, test9, test10, test11}
+use Rattle.tasks.specs.Tests.{badLabel, firstMet, orNext, compliantTest, test3, test4, test5, test6, test7, test8, test9, test10, test11}
 use Rattle.tasks.specs.AnswerLaws.{refuse-passed, lowest-ext, firstMet-append, firstMet-passed}
 use Rattle.tasks.specs.Limits.{Limits}
 use Rattle.tasks.specs.LimitsLaws.{limitTests}
 use Rattle.fields.specs.Columns.{columnsOf, setFrom}
 use Rattle.fields.specs.Stages.{frameTest, fieldsTest}
+use Rattle.fields.specs.StageLaws.{fields-scan}
 use Rattle.slack.specs.Rates.{Ranges, ratesTest}
 use Rattle.analysis.specs.Settled.{offering, slackTest, offeredTest, hadSlack}
 use Rattle.slack.specs.SettleLaws.{Framed}
@@ -70,6 +71,10 @@ module _ (p : Plan) (k : ℕ) where
   frame-tests =
       rw (lowest-ext 4 (badLabel (cut (p .cores) (row (p .labels)) 0)) (badLabel (row (p .labels))) (p .cores) (label-cut (p .cores) (row (p .labels))))
 
+  pub fields-tests : fieldsTest (taskOf (p .task)) (p .tasks) ≡ firstMet (test6 (offering p k) ∷ test7 (offering p k) ∷ test8 (offering p k) ∷ [])
+  unfolding test6 test7 test8 offering contentOf fieldsTest
+  fields-tests = fields-scan p
+
 module _ (c : Content) where
   pub limits-split :
       limitTests c
@@ -81,14 +86,9 @@ module _ (c : Content) where
       ∙ ap (orNext (firstMet (test3 c ∷ test4 c ∷ test5 c ∷ [])))
       (firstMet-append (test6 c ∷ test7 c ∷ test8 c ∷ []) (test9 c ∷ test10 c ∷ []))
 
-  module _ (m n : ℕ) (separation budget offset : List ℕ) (e : setFrom m n separation budget offset ≡ c .tasks) where
-    pub fields-tests : fieldsTest (row separation) (row budget) (row offset) n ≡ firstMet (test6 c ∷ test7 c ∷ test8 c ∷ [])
-    unfolding fieldsTest test6 test7 test8 setFrom
-    fields-tests = rw (← e)
-
-    pub rates-tests : ratesTest (setFrom m n separation budget offset) ≡ firstMet (test9 c ∷ test10 c ∷ [])
-    unfolding ratesTest test9 test10
-    rates-tests = rw e
+  pub rates-tests : (s : TaskSet) → s ≡ c .tasks → ratesTest s ≡ firstMet (test9 c ∷ test10 c ∷ [])
+  unfolding ratesTest test9 test10
+  rates-tests s e = rw e
 
 pub limits-from :
     (m n : ℕ) (separation budget offset : List ℕ) → Framed m n → Ranges (setFrom m n separation budget offset) →
@@ -129,7 +129,7 @@ module _ (s : TaskSet) (slack : List ℕ) (k : ℕ) where
 
   pub slack-offered :
       (k ≡ 0 → ⊥) → k ≡ s .count →
-      slackTest s slack k ≡ lowest 12 (λ i. not (covers s (cut (s .count) (row slack) 0) i)) (s .count)
+      slackTest s slack k ≡ compliantTest s (cut (s .count) (row slack) 0)
   unfolding slackTest firstMet
   slack-offered e f = rw (ne-eqb k 0 e, eq-eqb k (s .count) f) (last _)
     where

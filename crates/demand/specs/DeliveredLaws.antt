@@ -20,6 +20,7 @@ use Rattle.tasks.specs.declared.Answer.{Answer}
 use Rattle.tasks.specs.declared.Answer.the-variants.{Accepted, Refused}
 use Rattle.tasks.specs.TaskSet.{TaskSet, row}
 use Rattle.tasks.specs.Content.{contentOf, tidy}
+use Rattle.tasks.specs.ContentLaws.{content-tidy, tidy-tidy}
 use Rattle.tasks.specs.Tests.{testPlan, unlessRefused}
 use Rattle.tasks.specs.TestsLaws.{tests-compliant, tests-bounded}
 use Rattle.machine.specs.Machine.{Job, Lane, Machine, opened, admitted, pending, waiting, idle, onCore, runs, advanced, tick}
@@ -33,7 +34,7 @@ use Rattle.state.specs.SoundState.{allOf}
 use Rattle.state.specs.Calls.{openOf, releaseOf, tickedOf, stepOf}
 use Rattle.state.specs.Fit.{Fit}
 use Rattle.state.specs.FitLaws.{plan-limits, in-count, fit-tasks, idle-lane}
-use Rattle.state.specs.TidyLaws.{content-tidy, tidy-tidy, tidy-accepted}
+use Rattle.state.specs.TidyLaws.{tidy-accepted}
 use Rattle.state.specs.KeptLaws.{step-state, release-state, reached-fit, open-state}
 use Rattle.state.specs.TakenLaws.{named-runs}
 use Rattle.state.specs.AllLaws.{all-at, of-all}

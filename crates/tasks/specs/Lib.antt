@@ -1,5 +1,6 @@
 pub mod TaskSet
 pub mod Content
+pub mod ContentLaws
 pub mod Tests
 pub mod Limits
 pub mod AnswerLaws

@@ -6,7 +6,7 @@
 --     counted, amount           the tasks with the m − 1 largest weights, and A
 --     Compliant, covers         the condition, for all tasks and as a test of one
 --     raise, found              the slack raised once, and raised from zeros until nothing changes
---     bound, late               counted from release and from the priority point
+--     boundOf, bound, late      counted from release, of one task and of a set's, and from the priority point
 use Prim.Native.Nat.{ℕ, zero, suc, _+_, _-_, _*_, _/_, _≤_, _<_}
 use mathlib.Core.Bool.{Bool, true, false, not}
 use mathlib.Core.List.{List}
@@ -96,8 +96,11 @@ unfoldable pub found : TaskSet → List ℕ
 found s = settle s (suc (s .count * ceiling)) (replicate (s .count) 0)
 
 -- "The bound of a loop is Y + x + C, counted from release."
+abbrev pub boundOf : Task → ℕ → ℕ
+boundOf t x = t .offset + x + t .budget
+
 unfoldable pub bound : TaskSet → (ℕ → ℕ) → ℕ → ℕ
-bound s x i = s .task i .offset + x i + s .task i .budget
+bound s x i = boundOf (s .task i) (x i)
 
 -- "Late is x + C, counted from the priority point"
 unfoldable pub late : TaskSet → (ℕ → ℕ) → ℕ → ℕ
