@@ -1,6 +1,7 @@
 -- Document 01, "Compliant slack": the numbers of a set of tasks. Document 01's loop is a task here; T, C, Y are its separation, budget and
 -- offset, m is `cores` and n is `count`. Slack x is a row, a function of the loop.
 --     TaskSet                   m cores and n tasks
+--     plainTask, plain          a task by T, C and Y, and a task set of such tasks
 --     hyperperiod               H
 --     share, weight, surplus    of one task
 --     counted, amount           the tasks with the m − 1 largest weights, and A
@@ -23,6 +24,19 @@ pub record TaskSet : Type 0 where
   pub cores : ℕ
   pub count : ℕ
   pub task : ℕ → Task
+
+-- a task by the three numbers that the analysis reads, its other places 0
+abbrev pub plainTask : ℕ → ℕ → ℕ → Task
+plainTask T C Y = record { separation = T; budget = C; offset = Y }
+
+-- a task set of such tasks
+unfoldable pub plain : TaskSet → TaskSet
+plain s =
+    record {
+      cores = s .cores;
+      count = s .count;
+      task = λ i. plainTask (s .task i .separation) (s .task i .budget) (s .task i .offset);
+    }
 
 -- "H is the least common multiple of all T."
 unfoldable pub hyperperiod : TaskSet → ℕ

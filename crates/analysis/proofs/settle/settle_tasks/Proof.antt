@@ -3,6 +3,7 @@ use Rattle.laws.specs.TabLaws.{tab-ext}
 use Rattle.tasks.specs.declared.Plan.{Plan}
 use Rattle.tasks.specs.declared.Answer.{Answer}
 use Rattle.tasks.specs.declared.Answer.the-variants.{Accepted, Refused}
+use Rattle.tasks.specs.TaskSet.{plain}
 use Rattle.tasks.specs.Content.{taskOf, contentOf}
 use Rattle.tasks.specs.Tests.{firstMet, orNext, test6, test7, test8}
 use Rattle.fields.specs.declared.columns.Columns.{Columns}
@@ -13,7 +14,7 @@ use Rattle.fields.specs.StageLaws.{fields-scan}
 use Rattle.slack.specs.Rates.{Ranges}
 use Rattle.slack.specs.SettleLaws.{Framed, ranges-passed}
 use Rattle.analysis.specs.Settled.{offering, taskTests, RatesSettle, TasksSettle}
-use Rattle.analysis.specs.SettledLaws.{columns-set, fields-tests, rates-tests, stopped, passed-on, slack-tests, slack-had}
+use Rattle.analysis.specs.SettledLaws.{columns-set, plain-ranges, fields-tests, rates-tests, stopped, passed-on, slack-tests, slack-had}
 use Rattle.fields.specs.StageLaws.{not-both}
 use Prim.Native.Nat.{ℕ}
 use mathlib.Core.Path.{_≡_, ap₂, sym, subst, _∙_}
@@ -40,12 +41,12 @@ module _ (p : Plan) (k : ℕ) (f : Framed (p .cores) (p .tasks)) (a : Answer) (e
       }
 
   module _ (l : Columns) (el : l ≡ columnsOf (p .tasks) (p .task)) (e : a ≡ Accepted) where
-    stands : setFrom (p .cores) (p .tasks) (l .separation) (l .budget) (l .offset) ≡ contentOf p .tasks
+    stands : setFrom (p .cores) (p .tasks) (l .separation) (l .budget) (l .offset) ≡ plain (contentOf p .tasks)
     stands = rw el (columns-set p (f .tasks-high))
 
     ranges : Ranges (setFrom (p .cores) (p .tasks) (l .separation) (l .budget) (l .offset))
     unfolding contentOf
-    ranges = subst Ranges (sym stands) (ranges-passed (contentOf p .tasks) f (sym (fields-scan p) ∙ sym ea ∙ e))
+    ranges = subst Ranges (sym stands) (plain-ranges _ (ranges-passed (contentOf p .tasks) f (sym (fields-scan p) ∙ sym ea ∙ e)))
 
     settled : (t : Settled) → RatesSettle (setFrom (p .cores) (p .tasks) (l .separation) (l .budget) (l .offset)) (p .slack) k t → TasksSettle p k t
     unfolding taskTests offering
