@@ -3,20 +3,20 @@
 --     judging-tests    of a content whose slack is the slack that it has, it is the tests' answer
 --     judging-found    where no slack is offered, the slack that stands in the content is not looked at
 --     judging-limits, judging-count    where one of 3 to 11 is met, that is the answer
-use Prim.Native.Nat.{ℕ, _*_, _<_}
+use Prim.Native.Nat.{ℕ, _<_}
 use mathlib.Core.Path.{_≡_, refl, sym, _∙_, ap}
 use mathlib.Core.Bool.{Bool, true, false, not}
-use mathlib.Core.List.{List, [], _∷_}
+use mathlib.Core.List.{[], _∷_}
 use native.Mathlib.Omega.{arith}
-use lib.Dec.{ltb, eqb}
+use lib.Dec.{eqb}
 use borrow.Author.Tests.{eqb-true, eqb-false, eq-eqb}
 use Rattle.laws.specs.Tab.{tab}
 use Rattle.laws.specs.TabLaws.{getD-tab}
 use Rattle.tasks.specs.declared.Answer.{Answer}
 use Rattle.tasks.specs.declared.Answer.the-variants.{Accepted, Refused}
-use Rattle.tasks.specs.TaskSet.{TaskSet, bound, row}
+use Rattle.tasks.specs.TaskSet.{TaskSet, row}
 use Rattle.tasks.specs.Content.{Content}
-use Rattle.tasks.specs.Tests.{lowest, firstMet, orNext, test3, test4, test5, test6, test7, test8, test9, test10, test11, tests}
+use Rattle.tasks.specs.Tests.{firstMet, orNext, foundTest, boundsTest, test3, test4, test5, test6, test7, test8, test9, test10, test11, tests}
 use Rattle.tasks.specs.AnswerLaws.{pass-lowest}
 use Rattle.tasks.specs.LimitsLaws.{limitTests}
 use Rattle.analysis.specs.Settled.{offeredTest, hadSlack}
@@ -26,16 +26,12 @@ use Rattle.analysis.specs.PlanTestLaws.{test-refused, few-tasks, test-fo
 abbrev pub settledBy : Content → Answer
 settledBy c = orNext (limitTests c) (firstMet (test11 c ∷ offeredTest c ∷ []))
 
--- 13 with this slack
-abbrev pub boundedBy : Content → List ℕ → Answer
-boundedBy c x = lowest 13 (λ i. ltb (16 * c .tasks .task i .separation) (bound (c .tasks) (row x) i)) (c .tasks .count)
-
 unfoldable pub judging : Content → Answer
-judging c = orNext (settledBy c) (boundedBy c (tab (hadSlack c) 16))
+judging c = orNext (settledBy c) (boundsTest (c .tasks) (row (tab (hadSlack c) 16)))
 
 module _ (c : Content) (same : (i : ℕ) → i < c .tasks .count → c .slack i ≡ hadSlack c i) where
   -- where slack is not offered, the found one never meets 12
-  twelve : settledBy c ≡ Accepted → lowest 12 (λ i. not (eqb (c .slack i) (row (tab (hadSlack c) 16) i))) (c .tasks .count) ≡ Accepted
+  twelve : settledBy c ≡ Accepted → foundTest (c .slack) (row (tab (hadSlack c) 16)) (c .tasks .count) ≡ Accepted
   unfolding row
   twelve e =
       pass-lowest 12 _ (c .tasks .count)

@@ -1,15 +1,14 @@
 -- How the test of a plan by 3 to 13 is put together from its settling and its bounds.
---     bounds-plan      13 from the plan's columns
 --     test-refused     a refusal of the settling is the plan's
 --     test-found       a plan marked as found: 12 and 13 against the found slack
 --     test-offered     a plan marked as offered: 13
-use Prim.Native.Nat.{ℕ, _*_, _≤_, _<_}
+use Prim.Native.Nat.{ℕ, _≤_, _<_}
 use mathlib.Core.Path.{_≡_, refl, sym, _∙_, ap}
 use mathlib.Core.Bool.{Bool, true, false, cond, not}
 use mathlib.Core.List.{List, [], _∷_}
 use mathlib.Core.Logic.{_⊎_, inl, inr, ⊎-elim}
 use native.Mathlib.Omega.{arith}
-use lib.Dec.{ltb, eqb}
+use lib.Dec.{eqb}
 use borrow.Author.Tests.{eqb-true, ne-eqb, not-false}
 use Rattle.laws.specs.Tab.{tab}
 use Rattle.laws.specs.TabLaws.{getD-tab}
@@ -18,21 +17,10 @@ use Rattle.tasks.specs.declared.Answer.{Answer}
 use Rattle.tasks.specs.declared.Answer.the-variants.{Accepted, Refused}
 use Rattle.tasks.specs.TaskSet.{found, bound, row}
 use Rattle.tasks.specs.Content.{Content, contentOf}
-use Rattle.tasks.specs.Tests.{lowest, firstMet, orNext, test11, test12, test13, tests}
+use Rattle.tasks.specs.Tests.{firstMet, orNext, foundTest, boundsTest, test11, test12, test13, tests}
 use Rattle.tasks.specs.AnswerLaws.{lowest-ext, lowest-passed, orNext-passed, firstMet-passed}
 use Rattle.tasks.specs.LimitsLaws.{limitTests, slackTests, tests-split, limits-passed}
-use Rattle.fields.specs.declared.columns.Columns.{Columns}
-use Rattle.fields.specs.Columns.{columnsOf, setFrom}
-use Rattle.fields.specs.Bounds.{overBound, boundsTest}
 use Rattle.analysis.specs.Settled.{offering, offeredTest, hadSlack}
-use Rattle.analysis.specs.SettledLaws.{columns-set}
-use Rattle.analysis.specs.PlanTest.{boundsOf}
-
-pub bounds-plan :
-    (p : Plan) → p .tasks ≤ 16 → (l : Columns) → l ≡ columnsOf (p .tasks) (p .task) → (slack : List ℕ) →
-    boundsTest (l .separation) (l .budget) (l .offset) slack (p .tasks) ≡ boundsOf p slack
-unfolding boundsTest overBound boundsOf bound setFrom
-bounds-plan p h l e slack = rw (e, ← columns-set p h)
 
 orNext-refused : (a b : Answer) (j i : ℕ) → orNext a b ≡ Refused j i → (a ≡ Refused j i) ⊎ ((a ≡ Accepted) × (b ≡ Refused j i))
 orNext-refused Accepted b j i e = inr (refl, e)
@@ -104,7 +92,7 @@ module _ (c : Content) where
       -- 13 with a slack that agrees with the content's
       same-bounds :
           ((i : ℕ) → i < c .tasks .count → row had i ≡ c .slack i) →
-          test13 c ≡ lowest 13 (λ i. ltb (16 * c .tasks .task i .separation) (bound (c .tasks) (row had) i)) (c .tasks .count)
+          test13 c ≡ boundsTest (c .tasks) (row had)
       unfolding test13 bound
       same-bounds s = lowest-ext 13 _ _ (c .tasks .count) (λ i h. rw (s i h))
 
@@ -114,12 +102,12 @@ module _ (c : Content) where
 
       pub test-offered :
           (c .offers ≡ 0 → ⊥) →
-          tests c ≡ lowest 13 (λ i. ltb (16 * c .tasks .task i .separation) (bound (c .tasks) (row had) i)) (c .tasks .count)
+          tests c ≡ boundsTest (c .tasks) (row had)
       unfolding hadSlack
       test-offered z =
           left ∙ rw (accepted-12 z) (same-bounds (λ i h. had-at i h ∙ rw (ne-eqb (c .offers) 0 z)))
 
-      found-12 : c .offers ≡ 0 → test12 c ≡ lowest 12 (λ i. not (eqb (c .slack i) (row had i))) (c .tasks .count)
+      found-12 : c .offers ≡ 0 → test12 c ≡ foundTest (c .slack) (row had) (c .tasks .count)
       unfolding test12 hadSlack
       found-12 z =
           rw z (lowest-ext 12 _ _ (c .tasks .count) (λ i h. ap (λ (v : ℕ). not (eqb (c .slack i) v)) (sym (had-found i h))))
@@ -128,9 +116,9 @@ module _ (c : Content) where
           had-found i h = had-at i h ∙ rw z
 
       found-13 :
-          (a : Answer) → lowest 12 (λ i. not (eqb (c .slack i) (row had i))) (c .tasks .count) ≡ a →
+          (a : Answer) → foundTest (c .slack) (row had) (c .tasks .count) ≡ a →
           orNext a (test13 c)
-          ≡ orNext a (lowest 13 (λ i. ltb (16 * c .tasks .task i .separation) (bound (c .tasks) (row had) i)) (c .tasks .count))
+          ≡ orNext a (boundsTest (c .tasks) (row had))
       found-13 Accepted e =
           same-bounds (λ i h. sym (eqb-true (c .slack i) (row had i) (not-false _ (lowest-passed 12 _ (c .tasks .count) e i h))))
       found-13 (Refused k j) e = refl
@@ -138,8 +126,8 @@ module _ (c : Content) where
       pub test-found :
           c .offers ≡ 0 →
           tests c
-          ≡ orNext (lowest 12 (λ i. not (eqb (c .slack i) (row had i))) (c .tasks .count))
-          (lowest 13 (λ i. ltb (16 * c .tasks .task i .separation) (bound (c .tasks) (row had) i)) (c .tasks .count))
+          ≡ orNext (foundTest (c .slack) (row had) (c .tasks .count))
+          (boundsTest (c .tasks) (row had))
       test-found z = left ∙ ap (λ (a : Answer). orNext a (test13 c)) (found-12 z) ∙ found-13 _ refl
 
 pub offering-plan : (p : Plan) (k : ℕ) → k ≡ cond (p .offered) (p .tasks) 0 → offering p k ≡ contentOf p

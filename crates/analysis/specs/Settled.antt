@@ -9,16 +9,16 @@
 --     Settles        the answer by 3 to 12, and the slack where none is met
 use Prim.Native.Nat.{ℕ}
 use mathlib.Core.Path.{_≡_}
-use mathlib.Core.Bool.{cond, not, _||_}
+use mathlib.Core.Bool.{cond}
 use mathlib.Core.List.{List, [], _∷_}
 use lib.Dec.{eqb}
 use Rattle.laws.specs.Tab.{tab, cut}
 use Rattle.tasks.specs.declared.Plan.{Plan}
 use Rattle.tasks.specs.declared.Answer.{Answer}
 use Rattle.tasks.specs.declared.Answer.the-variants.{Accepted}
-use Rattle.tasks.specs.TaskSet.{TaskSet, covers, found, row}
+use Rattle.tasks.specs.TaskSet.{TaskSet, found, row}
 use Rattle.tasks.specs.Content.{Content, contentOf}
-use Rattle.tasks.specs.Tests.{refuse, lowest, firstMet, orNext, test6, test7, test8, test9, test10, test11}
+use Rattle.tasks.specs.Tests.{refuse, firstMet, orNext, badOffers, compliantTest, test6, test7, test8, test9, test10, test11}
 use Rattle.tasks.specs.LimitsLaws.{limitTests}
 use Rattle.slack.specs.Rates.{ratesTest}
 use Rattle.analysis.specs.declared.settle.Settled.{Settled}
@@ -29,7 +29,7 @@ offering p k =
 
 unfoldable pub offeredTest : Content → Answer
 offeredTest c =
-    cond (eqb (c .offers) 0) Accepted (lowest 12 (λ k. not (covers (c .tasks) (c .slack) k)) (c .tasks .count))
+    cond (eqb (c .offers) 0) Accepted (compliantTest (c .tasks) (c .slack))
 
 -- 6 to 12, in three stages
 unfoldable pub taskTests : Content → Answer
@@ -42,16 +42,14 @@ hadSlack c = cond (eqb (c .offers) 0) (row (found (c .tasks))) (c .slack)
 
 -- 12 of offered slack, from an array that may hold more than the used places
 pub record Offered (s : TaskSet) (slack : List ℕ) (r : Settled) : Type 0 where
-  pub answer : r .answer ≡ lowest 12 (λ k. not (covers s (cut (s .count) (row slack) 0) k)) (s .count)
+  pub answer : r .answer ≡ compliantTest s (cut (s .count) (row slack) 0)
   pub had : r .answer ≡ Accepted → r .slack ≡ tab (cut (s .count) (row slack) 0) 16
 
 -- 11, and 12 of offered slack
 unfoldable pub slackTest : TaskSet → List ℕ → ℕ → Answer
 slackTest s slack k =
     firstMet
-    (refuse 11 (not (eqb k 0 || eqb k (s .count)))
-    ∷ cond (eqb k 0) Accepted (lowest 12 (λ i. not (covers s (cut (s .count) (row slack) 0) i)) (s .count))
-    ∷ [])
+    (refuse 11 (badOffers s k) ∷ cond (eqb k 0) Accepted (compliantTest s (cut (s .count) (row slack) 0)) ∷ [])
 
 -- 9 to 12
 pub record RatesSettle (s : TaskSet) (slack : List ℕ) (k : ℕ) (r : Settled) : Type 0 where

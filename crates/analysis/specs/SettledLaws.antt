@@ -1,6 +1,6 @@
 -- The stages' answers joined: from the columns and the stages to document 01's tests of a plan.
---     columns-set       the columns stand for the plan's task set
---     frame-tests       3, 4 and 5 from the plan's own arrays
+--     columns-set       the columns stand for the plan's tasks, by the numbers that the analysis reads; plain-ranges: whose ranges those have
+--     frame-tests, fields-tests     3, 4 and 5, and 6, 7 and 8, from the plan's own arrays
 --     limits-split      3 to 10 are the three stages
 --     limits-from       what the three stages leave
 --     stopped, passed-on                           a refusal is passed on, and a passed test leaves the next
@@ -8,7 +8,7 @@
 --     slack-none, slack-count, slack-offered       11 and 12 by the slack count
 use Prim.Native.Nat.{ℕ, _-_, _≤_, _<_}
 use mathlib.Core.Path.{_≡_, refl, sym, _∙_, ap}
-use mathlib.Core.Bool.{Bool, true, false, cond, not}
+use mathlib.Core.Bool.{Bool, true, false, cond}
 use mathlib.Core.List.{List, [], _∷_}
 use native.Mathlib.Omega.{arith}
 use lib.Dec.{ltb, eqb}
@@ -19,14 +19,16 @@ use Rattle.tasks.specs.declared.Task.{Task}
 use Rattle.tasks.specs.declared.Plan.{Plan}
 use Rattle.tasks.specs.declared.Answer.{Answer}
 use Rattle.tasks.specs.declared.Answer.the-variants.{Accepted, Refused}
-use Rattle.tasks.specs.TaskSet.{TaskSet, covers, found, row}
+use Rattle.tasks.specs.TaskSet.{TaskSet, plainTask, plain, found, row}
+use Rattle.tasks.specs.PlainLaws.{plain-multiple, plain-shares, plain-compliant, plain-found}
 use Rattle.tasks.specs.Content.{Content, contentOf, taskOf, noTask}
-use Rattle.tasks.specs.Tests.{badLabel, lowest, firstMet, orNext, test3, test4, test5, test6, test7, test8, test9, test10, test11}
+use Rattle.tasks.specs.Tests.{badLabel, firstMet, orNext, compliantTest, test3, test4, test5, test6, test7, test8, test9, test10, test11}
 use Rattle.tasks.specs.AnswerLaws.{refuse-passed, lowest-ext, firstMet-append, firstMet-passed}
 use Rattle.tasks.specs.Limits.{Limits}
 use Rattle.tasks.specs.LimitsLaws.{limitTests}
 use Rattle.fields.specs.Columns.{columnsOf, setFrom}
 use Rattle.fields.specs.Stages.{frameTest, fieldsTest}
+use Rattle.fields.specs.StageLaws.{fields-scan}
 use Rattle.slack.specs.Rates.{Ranges, ratesTest}
 use Rattle.analysis.specs.Settled.{offering, slackTest, offeredTest, hadSlack}
 use Rattle.slack.specs.SettleLaws.{Framed}
@@ -44,19 +46,34 @@ column n l field z h i = getD-cut n 16 (λ i. field (taskOf l i)) 0 h i ∙ go (
 pub columns-set :
     (p : Plan) → p .tasks ≤ 16 →
     setFrom (p .cores) (p .tasks) (columnsOf (p .tasks) (p .task) .separation) (columnsOf (p .tasks) (p .task) .budget) (columnsOf (p .tasks) (p .task) .offset)
-    ≡ contentOf p .tasks
-unfolding setFrom columnsOf contentOf noTask
+    ≡ plain (contentOf p .tasks)
+unfolding setFrom columnsOf contentOf noTask plain
 columns-set p h =
     λ j.
     record {
       cores = p .cores;
       count = p .tasks;
       task = λ i.
+          plainTask
+          (column (p .tasks) (p .task) (λ t. t .separation) refl h i j)
+          (column (p .tasks) (p .task) (λ t. t .budget) refl h i j)
+          (column (p .tasks) (p .task) (λ t. t .offset) refl h i j);
+    }
+
+pub plain-ranges : (s : TaskSet) → Ranges s → Ranges (plain s)
+unfolding plain
+plain-ranges s g =
+    record {
+      cores = g .cores;
+      tasks = g .tasks;
+      timed =
           record {
-            separation = column (p .tasks) (p .task) (λ t. t .separation) refl h i j;
-            budget = column (p .tasks) (p .task) (λ t. t .budget) refl h i j;
-            offset = column (p .tasks) (p .task) (λ t. t .offset) refl h i j;
+            separation-low = g .timed .separation-low;
+            budget-low = g .timed .budget-low;
+            budget-high = g .timed .budget-high;
           };
+      separation = g .separation;
+      offset = g .offset;
     }
 
 -- the labels that a test looks at are in use
@@ -70,6 +87,10 @@ module _ (p : Plan) (k : ℕ) where
   frame-tests =
       rw (lowest-ext 4 (badLabel (cut (p .cores) (row (p .labels)) 0)) (badLabel (row (p .labels))) (p .cores) (label-cut (p .cores) (row (p .labels))))
 
+  pub fields-tests : fieldsTest (taskOf (p .task)) (p .tasks) ≡ firstMet (test6 (offering p k) ∷ test7 (offering p k) ∷ test8 (offering p k) ∷ [])
+  unfolding test6 test7 test8 offering contentOf fieldsTest
+  fields-tests = fields-scan p
+
 module _ (c : Content) where
   pub limits-split :
       limitTests c
@@ -81,14 +102,9 @@ module _ (c : Content) where
       ∙ ap (orNext (firstMet (test3 c ∷ test4 c ∷ test5 c ∷ [])))
       (firstMet-append (test6 c ∷ test7 c ∷ test8 c ∷ []) (test9 c ∷ test10 c ∷ []))
 
-  module _ (m n : ℕ) (separation budget offset : List ℕ) (e : setFrom m n separation budget offset ≡ c .tasks) where
-    pub fields-tests : fieldsTest (row separation) (row budget) (row offset) n ≡ firstMet (test6 c ∷ test7 c ∷ test8 c ∷ [])
-    unfolding fieldsTest test6 test7 test8 setFrom
-    fields-tests = rw (← e)
-
-    pub rates-tests : ratesTest (setFrom m n separation budget offset) ≡ firstMet (test9 c ∷ test10 c ∷ [])
-    unfolding ratesTest test9 test10
-    rates-tests = rw e
+  pub rates-tests : (s : TaskSet) → s ≡ plain (c .tasks) → ratesTest s ≡ firstMet (test9 c ∷ test10 c ∷ [])
+  unfolding ratesTest test9 test10
+  rates-tests s e = rw (e, plain-multiple (c .tasks), plain-shares (c .tasks))
 
 pub limits-from :
     (m n : ℕ) (separation budget offset : List ℕ) → Framed m n → Ranges (setFrom m n separation budget offset) →
@@ -129,7 +145,7 @@ module _ (s : TaskSet) (slack : List ℕ) (k : ℕ) where
 
   pub slack-offered :
       (k ≡ 0 → ⊥) → k ≡ s .count →
-      slackTest s slack k ≡ lowest 12 (λ i. not (covers s (cut (s .count) (row slack) 0) i)) (s .count)
+      slackTest s slack k ≡ compliantTest s (cut (s .count) (row slack) 0)
   unfolding slackTest firstMet
   slack-offered e f = rw (ne-eqb k 0 e, eq-eqb k (s .count) f) (last _)
     where
@@ -138,11 +154,11 @@ module _ (s : TaskSet) (slack : List ℕ) (k : ℕ) where
       last (Refused k i) = refl
 
 -- the last stage of a plan whose task set the columns stand for
-module _ (p : Plan) (k : ℕ) (s : TaskSet) (e : s ≡ contentOf p .tasks) where
+module _ (p : Plan) (k : ℕ) (s : TaskSet) (e : s ≡ plain (contentOf p .tasks)) where
   pub slack-tests : slackTest s (p .slack) k ≡ firstMet (test11 (offering p k) ∷ offeredTest (offering p k) ∷ [])
-  unfolding slackTest test11 offeredTest offering contentOf
-  slack-tests = rw e
+  unfolding slackTest test11 offeredTest offering contentOf plain
+  slack-tests = rw (e, plain-compliant (contentOf p .tasks) (cut (p .tasks) (row (p .slack)) 0))
 
   pub slack-had : (i : ℕ) → cond (eqb k 0) (row (found s)) (cut (s .count) (row (p .slack)) 0) i ≡ hadSlack (offering p k) i
-  unfolding hadSlack offering contentOf
-  slack-had i = rw e
+  unfolding hadSlack offering contentOf plain
+  slack-had i = rw (e, plain-found (contentOf p .tasks))

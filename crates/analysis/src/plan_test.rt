@@ -1,7 +1,6 @@
 // The test of a plan that is handed in unchecked, by 3 to 13: the writer's and the opening's.
 use crate::settle::settle;
 use fields::bounds::bounds;
-use fields::columns::split;
 use tasks::Answer;
 use tasks::Plan;
 use tasks::refusal;
@@ -12,7 +11,7 @@ ghost use lib.Dec.{eqb};
 ghost use Rattle.laws.specs.First.{first};
 ghost use Rattle.tasks.specs.TaskSet.{row};
 ghost use Rattle.tasks.specs.Tests.{testPlan};
-ghost use Rattle.analysis.specs.PlanTest.{boundsOf, foundTest};
+ghost use Rattle.analysis.specs.PlanTest.{boundsOf, foundTests};
 
 // The lowest task at which the two slacks differ, or `tasks` where there is none.
 fn first_other(slack: &[u32; 16], found: &[u32; 16], tasks: usize) -> usize
@@ -34,19 +33,13 @@ pub fn plan_bounds(plan: Plan, slack: [u32; 16]) -> Answer
     requires { ⌜ plan .tasks ≤ 16 ⌝ }
     ensures { λ r. ⌜ r ≡ boundsOf plan slack ⌝ }
 {
-    let tasks = plan.tasks;
-    let task = plan.task;
-    let columns = split(task, tasks);
-    let separation = columns.separation;
-    let budget = columns.budget;
-    let offset = columns.offset;
-    bounds(&separation, &budget, &offset, &slack, tasks)
+    bounds(plan, slack)
 }
 
 // 12 and 13 of a plan marked as found: its slack against the found one.
 fn found_test(plan: Plan, found: [u32; 16]) -> Answer
     requires { ⌜ plan .tasks ≤ 16 ⌝ }
-    ensures { λ r. ⌜ r ≡ foundTest plan found ⌝ }
+    ensures { λ r. ⌜ r ≡ foundTests plan found ⌝ }
 {
     let tasks = plan.tasks;
     let slack = plan.slack;

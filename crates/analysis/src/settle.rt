@@ -10,10 +10,9 @@ use slack::slack::search;
 use tasks::Answer;
 use tasks::Plan;
 use tasks::refusal;
+use tasks::tidy::tidy_slack;
 ghost use mathlib.Core.Path.{_≡_};
-ghost use Prim.Native.Nat.{_≤_};
-ghost use Rattle.laws.specs.Tab.{tab, cut};
-ghost use Rattle.tasks.specs.TaskSet.{TaskSet, row};
+ghost use Rattle.tasks.specs.TaskSet.{TaskSet};
 ghost use Rattle.slack.specs.Settling.{Settling};
 ghost use Rattle.slack.specs.SettleLaws.{Framed};
 ghost use Rattle.analysis.specs.Settled.{Settles, Offered, RatesSettle, TasksSettle};
@@ -35,20 +34,6 @@ fn unsettled(answer: Answer) -> Settled
     }
 }
 
-// The slack of the first `tasks` places, zeros beyond.
-fn kept(slack: &[u32; 16], tasks: usize) -> [u32; 16]
-    requires { ⌜ tasks ≤ 16 ⌝ }
-    ensures { λ r. ⌜ r ≡ tab (cut tasks (row (now (slack .entry))) 0) 16 ⌝ }
-{
-    let mut used = [0u32; 16];
-    let mut i = 0;
-    while i < tasks {
-        used[i] = slack[i];
-        i += 1;
-    }
-    used
-}
-
 // Test 12 of offered slack.
 fn offered(
     share: &[u64; 16],
@@ -63,7 +48,7 @@ fn offered(
     requires { ⌜ ((s : TaskSet) × Settling s (now share) (now budget) (now offset) multiple surplus cores tasks) ⌝ }
     ensures { λ r. ⌜ ((s : TaskSet) → Settling s (now (share .entry)) (now (budget .entry)) (now (offset .entry)) multiple surplus cores tasks → Offered s (now (slack .entry)) r) ⌝ }
 {
-    let used = kept(slack, tasks);
+    let used = tidy_slack(slack, tasks);
     let mut chosen = first_chosen(cores - 1);
     let whole = amount(share, offset, &used, &mut chosen, surplus, tasks);
     let bad = first_uncovered(&used, budget, whole, multiple, cores as u64, tasks);
@@ -138,14 +123,14 @@ fn settle_tasks(plan: Plan, offers: usize) -> Settled
 {
     let tasks = plan.tasks;
     let task = plan.task;
+    let fielded = fields(task, tasks);
+    let Answer::Accepted = fielded else {
+        return unsettled(fielded);
+    };
     let columns = split(task, tasks);
     let separation = columns.separation;
     let budget = columns.budget;
     let offset = columns.offset;
-    let fielded = fields(&separation, &budget, &offset, tasks);
-    let Answer::Accepted = fielded else {
-        return unsettled(fielded);
-    };
     let slack = plan.slack;
     settle_rated(
         &separation,

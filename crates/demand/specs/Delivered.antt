@@ -1,5 +1,4 @@
 -- The delivered engine: what can be seen of it is what `open`, `release` and `step` answer, for every input, tests 18 and 19 included.
---     outcomeOf          what a release's answer says
 --     named              whether a step's answer names a loop as running
 --     nothingPending     whether no loop of a state has an unfinished job
 --     engineOf p         the engine opened on the plan p
@@ -8,18 +7,12 @@ use mathlib.Core.Bool.{Bool, not, _&&_}
 use lib.Dec.{eqb}
 use Rattle.laws.specs.Member.{member}
 use Rattle.tasks.specs.declared.Plan.{Plan}
-use Rattle.tasks.specs.declared.Answer.{Answer}
-use Rattle.tasks.specs.declared.Answer.the-variants.{Accepted, Refused}
 use Rattle.tasks.specs.TaskSet.{row}
 use Rattle.machine.specs.Machine.{idle}
 use Rattle.state.specs.declared.State.{State}
 use Rattle.state.specs.SoundState.{allOf}
 use Rattle.state.specs.Calls.{openOf, releaseOf, stepOf}
-use Rattle.history.specs.Engine.{Outcome, taken, refused, Engine}
-
-abbrev pub outcomeOf : Answer → Outcome
-outcomeOf Accepted = taken
-outcomeOf (Refused k i) = refused k
+use Rattle.history.specs.Engine.{outcomeOf, Engine}
 
 -- "The answer says for each core which loop ran or that it was idle"
 unfoldable pub named : State → ℕ → Bool

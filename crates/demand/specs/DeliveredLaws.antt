@@ -13,7 +13,7 @@ use mathlib.Core.Path.{_≡_, refl, sym, ap, fun-ext, _∙_}
 use mathlib.Core.List.{List, [], _∷_}
 use native.Mathlib.Omega.{arith}
 use lib.ListN.{length}
-use lib.Dec.{ltb, leb, eqb}
+use lib.Dec.{ltb, eqb}
 use borrow.Author.Tests.{ltb-true, ltb-false, eqb-true, eqb-false, eq-eqb}
 use Rattle.laws.specs.Tab.{tab}
 use Rattle.laws.specs.Member.{member}
@@ -22,24 +22,26 @@ use Rattle.tasks.specs.declared.Answer.{Answer}
 use Rattle.tasks.specs.declared.Answer.the-variants.{Accepted, Refused}
 use Rattle.tasks.specs.TaskSet.{TaskSet, row}
 use Rattle.tasks.specs.Content.{contentOf, tidy}
-use Rattle.tasks.specs.Tests.{refuse, firstMet, outside, testPlan, unlessRefused}
+use Rattle.tasks.specs.ContentLaws.{content-tidy, tidy-tidy}
+use Rattle.tasks.specs.Tests.{testPlan, unlessRefused}
 use Rattle.tasks.specs.TestsLaws.{tests-compliant, tests-bounded}
-use Rattle.machine.specs.Machine.{Job, Lane, Machine, opened, tooSoon, full, admitted, pending, waiting, idle, onCore, runs, advanced, tick}
+use Rattle.machine.specs.Machine.{Job, Lane, Machine, opened, admitted, pending, waiting, idle, onCore, runs, advanced, tick}
+use Rattle.machine.specs.Admission.{admitTests}
 use Rattle.machine.specs.Reached.{Reached, opening, release}
 use Rattle.machine.specs.Choice.{earliest, reached-tick}
 use Rattle.machine.specs.Sound.{reached-sound}
 use Rattle.state.specs.declared.State.{State}
 use Rattle.state.specs.State.{jobsIn, stateOf}
 use Rattle.state.specs.SoundState.{allOf}
-use Rattle.state.specs.Calls.{admitTests, releaseOf, tickedOf, stepOf}
+use Rattle.state.specs.Calls.{releaseOf, tickedOf, stepOf}
 use Rattle.state.specs.Fit.{Fit}
 use Rattle.state.specs.FitLaws.{plan-limits, in-count}
-use Rattle.state.specs.TidyLaws.{content-tidy, tidy-tidy, tidy-accepted}
+use Rattle.state.specs.TidyLaws.{tidy-accepted}
 use Rattle.state.specs.KeptLaws.{step-state, release-state, reached-fit, open-state}
 use Rattle.state.specs.TakenLaws.{named-runs}
 use Rattle.state.specs.AllLaws.{all-at, of-all}
 use Rattle.state.specs.ViewLaws.{row-jobs}
-use Rattle.history.specs.Engine.{taken, refused, firstOf, Call, clock, state, HistoryClaim}
+use Rattle.history.specs.Engine.{taken, refused, Call, clock, state, HistoryClaim, outcomeOf}
 use Rattle.history.specs.Log.{Entry, tickAt, outcome, whole, Claim}
 use Rattle.history.specs.Report.{met, report, takenCount, refusedCount}
 use Rattle.history.specs.OnMachine.{answerOf, handedOf, quietOf, machineEngine}
@@ -49,24 +51,11 @@ use Rattle.history.specs.Drain.{quiet-idle, idle-quiet, whole-quiet}
 use Rattle.history.specs.Mirror.{Mirrors, like, same-quiet, mirror-history}
 use Rattle.history.specs.MirrorLog.{same-whole, same-report, same-counts}
 use Rattle.history.specs.LogClock.{whole-clock, mirror-demand, mirror-numbers}
-use Rattle.demand.specs.Delivered.{outcomeOf, named, nothingPending, engineOf}
-
--- a list of tests, in both forms
-first-outcome :
-    (a b c d : Bool)
-    → outcomeOf (firstMet (refuse 20 a ∷ refuse 21 b ∷ refuse 22 c ∷ refuse 23 d ∷ []))
-    ≡ firstOf ((20, a) ∷ (21, b) ∷ (22, c) ∷ (23, d) ∷ [])
-unfolding firstMet
-first-outcome true b c d = refl
-first-outcome false true c d = refl
-first-outcome false false true d = refl
-first-outcome false false false true = refl
-first-outcome false false false false = refl
+use Rattle.demand.specs.Delivered.{named, nothingPending, engineOf}
 
 pub same-answer : (s : TaskSet) (M : Machine) (i c : ℕ) → outcomeOf (admitTests s M i c) ≡ answerOf s M i c
-unfolding admitTests answerOf
-same-answer s M i c =
-    first-outcome (leb (s .count) i) (outside 1 (s .task i .budget) c) (tooSoon s M i) (full M i)
+unfolding answerOf
+same-answer s M i c = refl
 
 module _ (p : Plan) (a : testPlan p ≡ Accepted) where
   abbrev s : TaskSet

@@ -1,9 +1,8 @@
 // The calls on a state that are offered to others: each tests what it is handed, and answers for every input.
 use crate::advance::admit;
 use crate::advance::tick;
-use crate::tidy::empty;
-use crate::tidy::tidied;
-use crate::tidy::zeros;
+use crate::empty::empty;
+use crate::empty::zeros;
 use analysis::test;
 use soundness::sound;
 use state::Opened;
@@ -13,6 +12,7 @@ use state::Stepped;
 use tasks::Answer;
 use tasks::Plan;
 use tasks::refusal;
+use tasks::tidy::tidied;
 ghost use mathlib.Core.Path.{_≡_};
 ghost use Rattle.machine.specs.Machine.{within};
 ghost use Rattle.state.specs.State.{lastOf};

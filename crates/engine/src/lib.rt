@@ -2,7 +2,7 @@
 // a sound state, for callers that keep soundness by proof.
 mod advance;
 mod calls;
-mod tidy;
+mod empty;
 
 pub use advance::admit;
 pub use advance::tick;

@@ -5,7 +5,7 @@ use Prim.Native.Nat.{ℕ}
 use mathlib.Core.List.{List}
 use Rattle.laws.specs.Tab.{tab, cut}
 use Rattle.tasks.specs.declared.Task.{Task}
-use Rattle.tasks.specs.TaskSet.{TaskSet, row}
+use Rattle.tasks.specs.TaskSet.{TaskSet, plainTask, row}
 use Rattle.tasks.specs.Content.{taskOf}
 use Rattle.fields.specs.declared.columns.Columns.{Columns}
 
@@ -22,5 +22,5 @@ setFrom m n separation budget offset =
     record {
       cores = m;
       count = n;
-      task = λ i. record { separation = row separation i; budget = row budget i; offset = row offset i };
+      task = λ i. plainTask (row separation i) (row budget i) (row offset i);
     }

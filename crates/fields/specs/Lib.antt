@@ -1,4 +1,3 @@
 pub mod Columns
 pub mod Stages
 pub mod StageLaws
-pub mod Bounds

@@ -3,6 +3,7 @@
 --     scan-found, scan-none        a scan that ended at f, below n or not
 --     not-both                     an answer is no refusal and a refusal: absurd
 --     column-more                  an array filled in order has one entry more
+--     fields-scan, bounds-scan     6 to 8, and 13, of a plan's content look at the tasks that the plan's array has in use
 use Prim.Native.Nat.{ℕ, _+_, _<_, _≤_}
 use mathlib.Core.Path.{_≡_, sym, _∙_, ap}
 use mathlib.Core.Bool.{Bool, true}
@@ -13,11 +14,16 @@ use native.Mathlib.Omega.{arith}
 use Rattle.laws.specs.First.{first}
 use Rattle.laws.specs.FirstLaws.{first-le}
 use Rattle.laws.specs.Tab.{tab, cut}
-use Rattle.laws.specs.TabLaws.{filled-next}
+use Rattle.laws.specs.TabLaws.{filled-next, cut-below}
+use Rattle.tasks.specs.declared.Task.{Task}
+use Rattle.tasks.specs.declared.Plan.{Plan}
 use Rattle.tasks.specs.declared.Answer.{Answer}
 use Rattle.tasks.specs.declared.Answer.the-variants.{Accepted, Refused}
-use Rattle.tasks.specs.Tests.{lowest, outside}
-use Rattle.tasks.specs.AnswerLaws.{lowest-found, lowest-none}
+use Rattle.tasks.specs.TaskSet.{boundOf, bound}
+use Rattle.tasks.specs.Content.{noTask, taskOf, contentOf}
+use Rattle.tasks.specs.Tests.{lowest, outside, badSeparation, badBudget, badOffset, overBound, boundsTest}
+use Rattle.tasks.specs.AnswerLaws.{lowest-found, lowest-none, lowest-ext}
+use Rattle.fields.specs.Stages.{fieldsTest}
 
 pub outside-low : (low high x : ℕ) → x < low → outside low high x ≡ true
 unfolding outside
@@ -39,3 +45,23 @@ not-both a k i e f = let z : _≡_ {A = ℕ} 0 1 = cc in omega arith
 pub column-more :
     (column : List ℕ) (f : ℕ → ℕ) (i : ℕ) → i < 16 → column ≡ tab (cut i f 0) 16 → set column i (f i) ≡ tab (cut (i + 1) f 0) 16
 column-more column f i h e = ap (λ (l : List ℕ). set l i (f i)) e ∙ filled-next f 0 i 16 h
+
+module _ (p : Plan) where
+  used : (i : ℕ) → i < p .tasks → contentOf p .tasks .task i ≡ taskOf (p .task) i
+  unfolding contentOf
+  used i h = cut-below (p .tasks) (taskOf (p .task)) noTask i h
+
+  pub fields-scan : fieldsTest (taskOf (p .task)) (p .tasks) ≡ fieldsTest (contentOf p .tasks .task) (p .tasks)
+  unfolding fieldsTest
+  fields-scan =
+      rw (
+        lowest-ext 6 (λ i. badSeparation (taskOf (p .task) i)) (λ i. badSeparation (contentOf p .tasks .task i)) (p .tasks) (λ i h. ap badSeparation (sym (used i h))),
+        lowest-ext 7 (λ i. badBudget (taskOf (p .task) i)) (λ i. badBudget (contentOf p .tasks .task i)) (p .tasks) (λ i h. ap badBudget (sym (used i h))),
+        lowest-ext 8 (λ i. badOffset (taskOf (p .task) i)) (λ i. badOffset (contentOf p .tasks .task i)) (p .tasks) (λ i h. ap badOffset (sym (used i h))),
+      )
+
+  pub bounds-scan :
+      (x : ℕ → ℕ)
+      → lowest 13 (λ i. overBound (taskOf (p .task) i) (boundOf (taskOf (p .task) i) (x i))) (p .tasks) ≡ boundsTest (contentOf p .tasks) x
+  unfolding contentOf bound
+  bounds-scan x = lowest-ext 13 _ _ (p .tasks) (λ i h. ap (λ (t : Task). overBound t (boundOf t (x i))) (sym (used i h)))

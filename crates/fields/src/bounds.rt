@@ -1,26 +1,39 @@
 // Test 13: every bound against 16 × T.
 use multiple::wide;
 use tasks::Answer;
+use tasks::Plan;
+use tasks::Task;
 use tasks::refusal;
 ghost use mathlib.Core.Path.{_≡_};
 ghost use Prim.Native.Nat.{_≤_};
 ghost use Rattle.laws.specs.First.{first};
-ghost use Rattle.fields.specs.Bounds.{overBound, boundsTest};
+ghost use Rattle.tasks.specs.TaskSet.{row, boundOf};
+ghost use Rattle.tasks.specs.Content.{taskOf, contentOf};
+ghost use Rattle.tasks.specs.Tests.{overBound, boundsTest};
+
+// "The bound of a loop is Y + x + C, counted from release."
+pub fn bound(task: Task, slack: u32) -> u64
+    ensures { λ r. ⌜ r ≡ boundOf task slack ⌝ }
+{
+    wide(task.offset) + wide(slack) + wide(task.budget)
+}
+
+// "A bound is above 16 × T."
+fn is_over(task: Task, slack: u32) -> bool
+    ensures { λ r. ⌜ r ≡ overBound task (boundOf task slack) ⌝ }
+{
+    16 * wide(task.separation) < bound(task, slack)
+}
 
 // The lowest task whose bound is above 16 × T, or `tasks` where there is none.
-fn first_over(
-    separation: &[u32; 16],
-    budget: &[u32; 16],
-    offset: &[u32; 16],
-    slack: &[u32; 16],
-    tasks: usize,
-) -> usize
+fn first_over(task: [Task; 16], slack: [u32; 16], tasks: usize) -> usize
     requires { ⌜ tasks ≤ 16 ⌝ }
-    ensures { λ r. ⌜ r ≡ first (overBound (now (separation .entry)) (now (budget .entry)) (now (offset .entry)) (now (slack .entry))) tasks ⌝ }
+    ensures { λ r. ⌜ r ≡ first (λ i. overBound (taskOf task i) (boundOf (taskOf task i) (row slack i))) tasks ⌝ }
 {
     let mut i = 0;
     while i < tasks {
-        if 16 * wide(separation[i]) < wide(offset[i]) + wide(slack[i]) + wide(budget[i]) {
+        let t = task[i];
+        if is_over(t, slack[i]) {
             return i;
         }
         i += 1;
@@ -28,17 +41,14 @@ fn first_over(
     tasks
 }
 
-pub fn bounds(
-    separation: &[u32; 16],
-    budget: &[u32; 16],
-    offset: &[u32; 16],
-    slack: &[u32; 16],
-    tasks: usize,
-) -> Answer
-    requires { ⌜ tasks ≤ 16 ⌝ }
-    ensures { λ r. ⌜ r ≡ boundsTest (now (separation .entry)) (now (budget .entry)) (now (offset .entry)) (now (slack .entry)) tasks ⌝ }
+// 13 of a plan's tasks with this slack.
+pub fn bounds(plan: Plan, slack: [u32; 16]) -> Answer
+    requires { ⌜ plan .tasks ≤ 16 ⌝ }
+    ensures { λ r. ⌜ r ≡ boundsTest (contentOf plan .tasks) (row slack) ⌝ }
 {
-    let over = first_over(separation, budget, offset, slack, tasks);
+    let tasks = plan.tasks;
+    let task = plan.task;
+    let over = first_over(task, slack, tasks);
     if over < tasks {
         return Answer::Refused {
             number: refusal::BOUND,

@@ -1,12 +1,12 @@
 // Tests 6, 7 and 8: each task's own fields, each test over all tasks before the next.
 use tasks::Answer;
+use tasks::Task;
 use tasks::refusal;
 ghost use mathlib.Core.Path.{_≡_};
 ghost use Prim.Native.Nat.{_≤_};
-ghost use lib.Dec.{ltb};
 ghost use Rattle.laws.specs.First.{first};
-ghost use Rattle.tasks.specs.TaskSet.{row};
-ghost use Rattle.tasks.specs.Tests.{outside};
+ghost use Rattle.tasks.specs.Content.{taskOf};
+ghost use Rattle.tasks.specs.Tests.{outside, badSeparation, badBudget, badOffset};
 ghost use Rattle.fields.specs.Stages.{fieldsTest};
 
 fn is_outside(low: u32, high: u32, x: u32) -> bool
@@ -18,13 +18,35 @@ fn is_outside(low: u32, high: u32, x: u32) -> bool
     high < x
 }
 
-fn bad_separation(separation: &[u32; 16], tasks: usize) -> usize
+// "A separation is not 1 to 100,000."
+fn bad_separation(task: Task) -> bool
+    ensures { λ r. ⌜ r ≡ badSeparation task ⌝ }
+{
+    is_outside(1, 100_000, task.separation)
+}
+
+// "A budget is not 1 to its separation."
+fn bad_budget(task: Task) -> bool
+    ensures { λ r. ⌜ r ≡ badBudget task ⌝ }
+{
+    is_outside(1, task.separation, task.budget)
+}
+
+// "An offset is above its separation."
+fn bad_offset(task: Task) -> bool
+    ensures { λ r. ⌜ r ≡ badOffset task ⌝ }
+{
+    task.separation < task.offset
+}
+
+fn first_separation(task: [Task; 16], tasks: usize) -> usize
     requires { ⌜ tasks ≤ 16 ⌝ }
-    ensures { λ r. ⌜ r ≡ first (λ i. outside 1 100000 (row (now (separation .entry)) i)) tasks ⌝ }
+    ensures { λ r. ⌜ r ≡ first (λ i. badSeparation (taskOf task i)) tasks ⌝ }
 {
     let mut i = 0;
     while i < tasks {
-        if is_outside(1, 100_000, separation[i]) {
+        let t = task[i];
+        if bad_separation(t) {
             return i;
         }
         i += 1;
@@ -32,13 +54,14 @@ fn bad_separation(separation: &[u32; 16], tasks: usize) -> usize
     tasks
 }
 
-fn bad_budget(separation: &[u32; 16], budget: &[u32; 16], tasks: usize) -> usize
+fn first_budget(task: [Task; 16], tasks: usize) -> usize
     requires { ⌜ tasks ≤ 16 ⌝ }
-    ensures { λ r. ⌜ r ≡ first (λ i. outside 1 (row (now (separation .entry)) i) (row (now (budget .entry)) i)) tasks ⌝ }
+    ensures { λ r. ⌜ r ≡ first (λ i. badBudget (taskOf task i)) tasks ⌝ }
 {
     let mut i = 0;
     while i < tasks {
-        if is_outside(1, separation[i], budget[i]) {
+        let t = task[i];
+        if bad_budget(t) {
             return i;
         }
         i += 1;
@@ -46,13 +69,14 @@ fn bad_budget(separation: &[u32; 16], budget: &[u32; 16], tasks: usize) -> usize
     tasks
 }
 
-fn bad_offset(separation: &[u32; 16], offset: &[u32; 16], tasks: usize) -> usize
+fn first_offset(task: [Task; 16], tasks: usize) -> usize
     requires { ⌜ tasks ≤ 16 ⌝ }
-    ensures { λ r. ⌜ r ≡ first (λ i. ltb (row (now (separation .entry)) i) (row (now (offset .entry)) i)) tasks ⌝ }
+    ensures { λ r. ⌜ r ≡ first (λ i. badOffset (taskOf task i)) tasks ⌝ }
 {
     let mut i = 0;
     while i < tasks {
-        if separation[i] < offset[i] {
+        let t = task[i];
+        if bad_offset(t) {
             return i;
         }
         i += 1;
@@ -60,30 +84,25 @@ fn bad_offset(separation: &[u32; 16], offset: &[u32; 16], tasks: usize) -> usize
     tasks
 }
 
-pub fn fields(
-    separation: &[u32; 16],
-    budget: &[u32; 16],
-    offset: &[u32; 16],
-    tasks: usize,
-) -> Answer
+pub fn fields(task: [Task; 16], tasks: usize) -> Answer
     requires { ⌜ tasks ≤ 16 ⌝ }
-    ensures { λ r. ⌜ r ≡ fieldsTest (row (now (separation .entry))) (row (now (budget .entry))) (row (now (offset .entry))) tasks ⌝ }
+    ensures { λ r. ⌜ r ≡ fieldsTest (taskOf task) tasks ⌝ }
 {
-    let bad = bad_separation(separation, tasks);
+    let bad = first_separation(task, tasks);
     if bad < tasks {
         return Answer::Refused {
             number: refusal::SEPARATION,
             index: bad as u16,
         };
     }
-    let bad = bad_budget(separation, budget, tasks);
+    let bad = first_budget(task, tasks);
     if bad < tasks {
         return Answer::Refused {
             number: refusal::BUDGET,
             index: bad as u16,
         };
     }
-    let bad = bad_offset(separation, offset, tasks);
+    let bad = first_offset(task, tasks);
     if bad < tasks {
         return Answer::Refused {
             number: refusal::OFFSET,

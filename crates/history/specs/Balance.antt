@@ -7,21 +7,23 @@
 --     machine-clock      the machine's clock is the history's
 --     balance            the ticks that named a loop and the work left in its queue are what its taken releases demand
 use Prim.Native.Nat.{ℕ, suc, _+_, _<_}
-use mathlib.Core.Bool.{Bool, true, false, cond, _&&_, _||_, true≢false}
+use mathlib.Core.Bool.{Bool, true, false, cond, _&&_, true≢false}
 use mathlib.Core.Path.{_≡_, refl, sym, ap}
 use mathlib.Core.List.{List, [], _∷_}
 use mathlib.Core.Logic.{_≢_}
 use native.Mathlib.Omega.{arith}
-use lib.Dec.{ltb, leb, eqb}
-use borrow.Author.Tests.{ltb-false, leb-false, lt-leb, le-ltb}
+use lib.Dec.{eqb}
 use Rattle.tasks.specs.TaskSet.{TaskSet}
-use Rattle.tasks.specs.Tests.{outside}
-use Rattle.machine.specs.Machine.{Machine, opened, tooSoon, full, Allowed, joined, admitted, waiting, runs, served, advanced, tick}
+use Rattle.tasks.specs.declared.Answer.{Answer}
+use Rattle.tasks.specs.declared.Answer.the-variants.{Accepted, Refused}
+use Rattle.machine.specs.Machine.{Machine, opened, full, Allowed, joined, admitted, waiting, runs, served, advanced, tick}
+use Rattle.machine.specs.Admission.{admitTests}
+use Rattle.machine.specs.AdmissionLaws.{taken-allowed, allowed-taken}
 use Rattle.machine.specs.Reached.{Reached, opening, release}
 use Rattle.machine.specs.Choice.{earliest, reached-tick}
 use Rattle.machine.specs.Sound.{reached-sound}
 use Rattle.machine.specs.Work.{work, work-joined, work-served}
-use Rattle.history.specs.Engine.{Outcome, taken, refused, isTaken, firstOf, Call, step, ask, clock, state, verdict, demanded, named}
+use Rattle.history.specs.Engine.{Outcome, taken, refused, isTaken, outcomeOf, Call, step, ask, clock, state, verdict, demanded, named}
 use Rattle.history.specs.EngineLaws.{named-now}
 use Rattle.history.specs.OnMachine.{answerOf, ifTaken, handedOf, machineEngine}
 
@@ -40,40 +42,18 @@ same-number e = ap number e
 pub other : (k : ℕ) {n : ℕ} → refused k ≡ refused n → k ≢ n → ⊥
 other k e d = d (same-number e)
 
+outcome-taken : (a : Answer) → outcomeOf a ≡ taken → a ≡ Accepted
+outcome-taken Accepted e = refl
+outcome-taken (Refused k j) e = absurd (not-refused e)
+
 module _ (s : TaskSet) (M : Machine) (i c : ℕ) where
   pub answer-allowed : answerOf s M i c ≡ taken → Allowed s M i c × (full M i ≡ false)
-  unfolding answerOf outside
-  answer-allowed e = go (leb (s .count) i) refl (ltb c 1) refl (ltb (s .task i .budget) c) refl (tooSoon s M i) refl (full M i) refl e
-    where
-      go :
-          (a : Bool) → leb (s .count) i ≡ a → (b : Bool) → ltb c 1 ≡ b → (b' : Bool) → ltb (s .task i .budget) c ≡ b'
-          → (d : Bool) → tooSoon s M i ≡ d → (f : Bool) → full M i ≡ f
-          → firstOf ((20, a) ∷ (21, b || b') ∷ (22, d) ∷ (23, f) ∷ []) ≡ taken → Allowed s M i c × (full M i ≡ false)
-      go true p b q b' q' d r f t e = absurd (not-refused e)
-      go false p true q b' q' d r f t e = absurd (not-refused e)
-      go false p false q true q' d r f t e = absurd (not-refused e)
-      go false p false q false q' true r f t e = absurd (not-refused e)
-      go false p false q false q' false r true t e = absurd (not-refused e)
-      go false p false q false q' false r false t e = (
-        record {
-          in-table = leb-false (s .count) i p;
-          demand-low = ltb-false c 1 q;
-          demand-high = ltb-false (s .task i .budget) c q';
-          apart = r;
-        },
-        t,
-      )
+  unfolding answerOf
+  answer-allowed e = taken-allowed s M i c (outcome-taken (admitTests s M i c) e)
 
   pub allowed-answer : Allowed s M i c → full M i ≡ false → answerOf s M i c ≡ taken
-  unfolding answerOf outside
-  allowed-answer A free =
-      rw (
-        lt-leb (s .count) i (A .in-table),
-        le-ltb c 1 (A .demand-low),
-        le-ltb (s .task i .budget) c (A .demand-high),
-        A .apart,
-        free,
-      )
+  unfolding answerOf
+  allowed-answer A free = ap outcomeOf (allowed-taken s M i c A free)
 
   pub handed-cases :
       (P : Outcome → Machine → Type 0) → (answerOf s M i c ≡ taken → P taken (admitted i c M))

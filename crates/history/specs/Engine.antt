@@ -1,6 +1,6 @@
 -- What can be seen of an engine, and what a history of calls to it shows. *Finishes* is defined here by the answers of the steps, and by nothing
 -- inside the engine. A history is the list of the calls since the opening, latest first.
---     Outcome, firstOf        the answer to a release; the first number met of a list of tests
+--     Outcome, outcomeOf      the answer to a release; what an answer by document 01's numbers says of it
 --     Engine                  what the calls show
 --     Call, state, clock      a call; the state handed back by the last call of a history; the number of its steps
 --     verdict                 the answer to a release after a history
@@ -13,6 +13,8 @@ use mathlib.Core.Bool.{Bool, true, false, cond, _&&_}
 use mathlib.Core.Path.{_≡_}
 use mathlib.Core.List.{List, [], _∷_, _++_}
 use lib.Dec.{ltb, eqb}
+use Rattle.tasks.specs.declared.Answer.{Answer}
+use Rattle.tasks.specs.declared.Answer.the-variants.{Accepted, Refused}
 use Rattle.tasks.specs.TaskSet.{TaskSet, bound}
 
 -- the answer to a release: it is taken, or refused with a number of document 01
@@ -24,10 +26,9 @@ abbrev pub isTaken : Outcome → Bool
 isTaken taken = true
 isTaken (refused k) = false
 
--- a number and whether it is met: the first that is, in this order
-abbrev pub firstOf : List (ℕ × Bool) → Outcome
-firstOf [] = taken
-firstOf (t ∷ l) = cond (t .1) (refused (t .0)) (firstOf l)
+abbrev pub outcomeOf : Answer → Outcome
+outcomeOf Accepted = taken
+outcomeOf (Refused k i) = refused k
 
 pub record Engine : Type 1 where
   pub St : Type 0

@@ -17,13 +17,14 @@ use lib.Dec.{leb, eqb}
 use borrow.Author.Tests.{eq-eqb, leb-false}
 use Rattle.tasks.specs.TaskSet.{TaskSet, Compliant, bound}
 use Rattle.tasks.specs.Limits.{Limits, Bounded}
-use Rattle.tasks.specs.Tests.{outside}
+use Rattle.tasks.specs.Tests.{refuse, firstMet, outside}
 use Rattle.machine.specs.Machine.{Job, job, Machine, tooSoon, full, joined, admitted, runs, served, advanced, tick}
+use Rattle.machine.specs.Admission.{joinTests, admitTests}
 use Rattle.machine.specs.Reached.{AllInTime, Reached}
 use Rattle.machine.specs.Theorem.{bound-theorem, never-full}
 use Rattle.machine.specs.Sound.{Rising, reached-sound}
 use Rattle.machine.specs.Work.{work}
-use Rattle.history.specs.Engine.{taken, refused, firstOf, Call, step, ask, clock, state, verdict, demanded, named, Ends, HistoryClaim}
+use Rattle.history.specs.Engine.{taken, refused, outcomeOf, Call, step, ask, clock, state, verdict, demanded, named, Ends, HistoryClaim}
 use Rattle.history.specs.EngineLaws.{named-now, named-mono, ends-step, ends-ask, ends-now, ends-once}
 use Rattle.history.specs.OnMachine.{answerOf, handedOf, machineEngine}
 use Rattle.history.specs.Balance.{not-refused, other, answer-allowed, handed-cases, reached, machine-clock, balance}
@@ -138,12 +139,12 @@ module _ (s : TaskSet) (x : ℕ → ℕ) (L : Limits s) (C : Compliant s x) wher
 
 module _ (s : TaskSet) (x : ℕ → ℕ) (L : Limits s) (C : Compliant s x) (B : Bounded s x) where
   pub free : (M : Machine) → Reached s M → (i c : ℕ) → answerOf s M i c ≡ refused 23 → ⊥
-  unfolding answerOf
+  unfolding answerOf admitTests joinTests firstMet tooSoon full
   free M r i c e = go (leb (s .count) i) refl (outside 1 (s .task i .budget) c) (tooSoon s M i) refl (full M i) refl e
     where
       go :
           (a : Bool) → leb (s .count) i ≡ a → (b d : Bool) → tooSoon s M i ≡ d → (f : Bool) → full M i ≡ f
-          → firstOf ((20, a) ∷ (21, b) ∷ (22, d) ∷ (23, f) ∷ []) ≡ refused 23 → ⊥
+          → outcomeOf (firstMet (refuse 20 a ∷ refuse 21 b ∷ refuse 22 d ∷ refuse 23 f ∷ [])) ≡ refused 23 → ⊥
       go true p b d q f t e = other 20 e (omega arith)
       go false p true d q f t e = other 21 e (omega arith)
       go false p false true q f t e = other 22 e (omega arith)

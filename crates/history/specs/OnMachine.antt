@@ -5,20 +5,15 @@
 --     machineEngine       the engine
 use Prim.Native.Nat.{ℕ}
 use mathlib.Core.Bool.{Bool}
-use mathlib.Core.List.{[], _∷_}
-use lib.Dec.{leb, eqb}
+use lib.Dec.{eqb}
 use Rattle.laws.specs.First.{first}
 use Rattle.tasks.specs.TaskSet.{TaskSet}
-use Rattle.tasks.specs.Tests.{outside}
-use Rattle.machine.specs.Machine.{Machine, opened, tooSoon, full, admitted, waiting, runs, tick}
-use Rattle.history.specs.Engine.{Outcome, taken, refused, firstOf, Engine}
+use Rattle.machine.specs.Machine.{Machine, opened, admitted, waiting, runs, tick}
+use Rattle.machine.specs.Admission.{admitTests}
+use Rattle.history.specs.Engine.{Outcome, taken, refused, outcomeOf, Engine}
 
--- "20. The loop isn't in the table. 21. The demand is not 1 to C. 22. The loop's last taken release is less than T ticks ago.
--- 23. The loop already holds 16 jobs"
 unfoldable pub answerOf : TaskSet → Machine → ℕ → ℕ → Outcome
-answerOf s M i c =
-    firstOf
-    ((20, leb (s .count) i) ∷ (21, outside 1 (s .task i .budget) c) ∷ (22, tooSoon s M i) ∷ (23, full M i) ∷ [])
+answerOf s M i c = outcomeOf (admitTests s M i c)
 
 abbrev pub ifTaken : Outcome → Machine → Machine → Machine
 ifTaken taken M M' = M

@@ -18,10 +18,11 @@ use lib.Dec.{ltb, leb, eqb}
 use borrow.Author.Tests.{ltb-false, le-ltb, leb-false, lt-leb, eqb-true, eq-eqb}
 use Rattle.tasks.specs.TaskSet.{TaskSet, Compliant}
 use Rattle.tasks.specs.Limits.{Limits, Bounded}
-use Rattle.tasks.specs.Tests.{outside}
+use Rattle.tasks.specs.Tests.{refuse, firstMet, outside}
 use Rattle.machine.specs.Machine.{Machine, opened, within, tooSoon, full, joined, admitted, advanced, tick}
+use Rattle.machine.specs.Admission.{joinTests, admitTests}
 use Rattle.machine.specs.Theorem.{never-full}
-use Rattle.history.specs.Engine.{taken, refused, isTaken, firstOf, Engine, Call, ask, clock, state, verdict}
+use Rattle.history.specs.Engine.{taken, refused, isTaken, outcomeOf, Engine, Call, ask, clock, state, verdict}
 use Rattle.history.specs.Log.{Entry, tickAt, loopAt, demandAt, back, wait, until, calls, outcome, Taken, Admissible}
 use Rattle.history.specs.LogLaws.{is-taken, back-onward, onward-back, clock-entry, entry-cases}
 use Rattle.history.specs.OnMachine.{answerOf, machineEngine}
@@ -77,7 +78,7 @@ module _ (E : Engine) (l : List Entry) where
       (eq-or-lt-of-le (le-of-suc-le-suc b)))))
 
   pub takes-of : (s : TaskSet) (e : ℕ) → outcome E l e ≡ met E s l e → Taken E l e ↔ Admissible E s l e
-  unfolding met outside
+  unfolding met outside firstMet
   takes-of s e same = (fits, none-met)
     where
       i : ℕ
@@ -92,7 +93,7 @@ module _ (E : Engine) (l : List Entry) where
               (v : Bool) → back l e ≡ v → (a : Bool) → leb (s .count) i ≡ a → (b : Bool) → ltb (demandAt l e) 1 ≡ b → (b' : Bool)
               → ltb (s .task i .budget) (demandAt l e) ≡ b' → (d : Bool)
               → within (s .task i .separation) (tickAt l e) (lastTaken E l i e) ≡ d
-              → firstOf ((17, v) ∷ (20, a) ∷ (21, b || b') ∷ (22, d) ∷ []) ≡ taken → Admissible E s l e
+              → outcomeOf (firstMet (refuse 17 v ∷ refuse 20 a ∷ refuse 21 (b || b') ∷ refuse 22 d ∷ [])) ≡ taken → Admissible E s l e
           go true p a q b r b' r' d u m = absurd (not-refused m)
           go false p true q b r b' r' d u m = absurd (not-refused m)
           go false p false q true r b' r' d u m = absurd (not-refused m)
@@ -175,7 +176,7 @@ module _ (s : TaskSet) (l : List Entry) where
 
 module _ (s : TaskSet) (x : ℕ → ℕ) (L : Limits s) (C : Compliant s x) (B : Bounded s x) (l : List Entry) where
   pub machine-met : (e : ℕ) → outcome (machineEngine s) l e ≡ met (machineEngine s) s l e
-  unfolding outcome met verdict answerOf tooSoon
+  unfolding outcome met verdict answerOf admitTests joinTests firstMet tooSoon full
   machine-met e = go (back l e) refl
     where
       i : ℕ
@@ -200,7 +201,7 @@ module _ (s : TaskSet) (x : ℕ → ℕ) (L : Limits s) (C : Compliant s x) (B :
       -- without 23, which isn't met where 20 and 22 aren't
       without :
           (a : Bool) → leb (s .count) i ≡ a → (b d : Bool) → tooSoon s M i ≡ d
-          → firstOf ((20, a) ∷ (21, b) ∷ (22, d) ∷ (23, full M i) ∷ []) ≡ firstOf ((20, a) ∷ (21, b) ∷ (22, d) ∷ [])
+          → outcomeOf (firstMet (refuse 20 a ∷ refuse 21 b ∷ refuse 22 d ∷ refuse 23 (full M i) ∷ [])) ≡ outcomeOf (firstMet (refuse 20 a ∷ refuse 21 b ∷ refuse 22 d ∷ []))
       without true p b d q = refl
       without false p true d q = refl
       without false p false true q = refl
@@ -210,23 +211,23 @@ module _ (s : TaskSet) (x : ℕ → ℕ) (L : Limits s) (C : Compliant s x) (B :
       go :
           (v : Bool) → back l e ≡ v
           → cond v (refused 17) (answerOf s M i (demandAt l e))
-          ≡ firstOf ((17, v) ∷ (20, leb (s .count) i) ∷ (21, outside 1 (s .task i .budget) (demandAt l e)) ∷ (22, soon) ∷ [])
+          ≡ outcomeOf (firstMet (refuse 17 v ∷ refuse 20 (leb (s .count) i) ∷ refuse 21 (outside 1 (s .task i .budget) (demandAt l e)) ∷ refuse 22 soon ∷ []))
       go true b = refl
       go false b =
           without (leb (s .count) i) refl (outside 1 (s .task i .budget) (demandAt l e)) (tooSoon s M i) refl
-          ∙ ap (λ d. firstOf ((20, leb (s .count) i) ∷ (21, outside 1 (s .task i .budget) (demandAt l e)) ∷ (22, d) ∷ [])) (same-soon b)
+          ∙ ap (λ d. outcomeOf (firstMet (refuse 20 (leb (s .count) i) ∷ refuse 21 (outside 1 (s .task i .budget) (demandAt l e)) ∷ refuse 22 d ∷ []))) (same-soon b)
 
   pub machine-takes : (e : ℕ) → Taken (machineEngine s) l e ↔ Admissible (machineEngine s) s l e
   machine-takes e = takes-of (machineEngine s) l s e (machine-met e)
 
 -- of every engine whose entries get the first number that they meet: none gets a number above 22
 pub met-high : (E : Engine) (s : TaskSet) (l : List Entry) (e k : ℕ) → met E s l e ≡ refused k → k ≤ 22
-unfolding met
+unfolding met firstMet
 met-high E s l e k m =
     go (back l e) (leb (s .count) (loopAt l e)) (outside 1 (s .task (loopAt l e) .budget) (demandAt l e))
     (within (s .task (loopAt l e) .separation) (tickAt l e) (lastTaken E l (loopAt l e) e)) m
   where
-    go : (a b c d : Bool) → firstOf ((17, a) ∷ (20, b) ∷ (21, c) ∷ (22, d) ∷ []) ≡ refused k → k ≤ 22
+    go : (a b c d : Bool) → outcomeOf (firstMet (refuse 17 a ∷ refuse 20 b ∷ refuse 21 c ∷ refuse 22 d ∷ [])) ≡ refused k → k ≤ 22
     go true b c d m = omega (arith, same-number m)
     go false true c d m = omega (arith, same-number m)
     go false false true d m = omega (arith, same-number m)

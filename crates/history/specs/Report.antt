@@ -22,9 +22,10 @@ use Rattle.laws.specs.FirstLaws.{first-unique}
 use Rattle.laws.specs.Sum.{count}
 use Rattle.laws.specs.SumLaws.{count-not}
 use Rattle.tasks.specs.TaskSet.{TaskSet}
-use Rattle.tasks.specs.Tests.{outside}
+use Rattle.tasks.specs.Tests.{refuse, firstMet}
 use Rattle.machine.specs.Machine.{within}
-use Rattle.history.specs.Engine.{Outcome, taken, refused, isTaken, firstOf, Engine, clock, named}
+use Rattle.machine.specs.Admission.{unknown, badDemand}
+use Rattle.history.specs.Engine.{Outcome, taken, refused, isTaken, outcomeOf, Engine, clock, named}
 use Rattle.history.specs.Log.{Entry, tickAt, loopAt, demandAt, back, outcome, owed, whole, Finishes, Claim}
 
 -- "kind 1 and finish tick, or kind 2 and refusal number"
@@ -58,12 +59,13 @@ module _ (E : Engine) (l : List Entry) where
 -- the number of an entry: the first of 17, 20, 21 and 22 that it meets, told by the log and by which entries before it were taken
 unfoldable pub met : Engine → TaskSet → List Entry → ℕ → Outcome
 met E s l e =
-    firstOf
-    ((17, back l e)
-    ∷ (20, leb (s .count) (loopAt l e))
-    ∷ (21, outside 1 (s .task (loopAt l e) .budget) (demandAt l e))
-    ∷ (22, within (s .task (loopAt l e) .separation) (tickAt l e) (lastTaken E l (loopAt l e) e))
-    ∷ [])
+    outcomeOf
+    (firstMet
+    (refuse 17 (back l e)
+    ∷ refuse 20 (unknown s (loopAt l e))
+    ∷ refuse 21 (badDemand (s .task (loopAt l e) .budget) (demandAt l e))
+    ∷ refuse 22 (within (s .task (loopAt l e) .separation) (tickAt l e) (lastTaken E l (loopAt l e) e))
+    ∷ []))
 
 module _ (E : Engine) (l : List Entry) where
   pub counts-all : takenCount E l + refusedCount E l ≡ length l

@@ -1,4 +1,6 @@
 pub mod Machine
+pub mod Admission
+pub mod AdmissionLaws
 pub mod Reached
 pub mod Queue
 pub mod Owed

@@ -1,7 +1,7 @@
 -- Document 01, "The engine": the machine that the engine's calls carry out. Document 01's loop is a task here, and is given by its number.
 --     Job, Lane, Machine       a job; what is held for one loop; the clock and every loop's lane
 --     opened                   the opening
---     tooSoon, full            what 22 and 23 test
+--     within, crowded          what 22 and 23 test; tooSoon, full: of a loop of a machine
 --     Allowed s M i c          a release of loop i with demand c meets none of 20, 21 and 22
 --     admitted i c M           the machine after that release is taken
 --     waiting, point           whether a loop has a job that may run, its head, and that head's priority point
@@ -45,18 +45,20 @@ pub record Machine : Type 0 where
 unfoldable pub opened : Machine
 opened = record { clock = 0; lane = λ i. record { last = none; queue = [] } }
 
--- whether t is less than `gap` ticks after the last release
+-- 22: "The loop's last taken release is less than T ticks ago.": whether t is less than `gap` ticks after the last release
 abbrev pub within : ℕ → ℕ → Option ℕ → Bool
 within gap t none = false
 within gap t (some l) = ltb t (l + gap)
 
--- 22: "The loop's last taken release is less than T ticks ago."
 unfoldable pub tooSoon : TaskSet → Machine → ℕ → Bool
 tooSoon s M i = within (s .task i .separation) (M .clock) (M .lane i .last)
 
 -- 23: "The loop already holds 16 jobs"
+abbrev pub crowded : ℕ → Bool
+crowded n = leb 16 n
+
 unfoldable pub full : Machine → ℕ → Bool
-full M i = leb 16 (length (M .lane i .queue))
+full M i = crowded (length (M .lane i .queue))
 
 -- a release of loop i with demand c that meets none of 20, 21 and 22
 pub record Allowed (s : TaskSet) (M : Machine) (i c : ℕ) : Type 0 where

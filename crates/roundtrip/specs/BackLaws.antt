@@ -27,7 +27,7 @@ use Rattle.codec.specs.Bytes.{byte, number, digits, entries}
 use Rattle.codec.specs.Table.{coreCount, taskCount, tasksAt, slackCount, slackAt, taskIn, taskSetIn, contentIn, taskBytes, bytesOf}
 use Rattle.codec.specs.ByteLaws.{number-after, number-digits, number-digits-at, length-digits, length-entries, byte-entries, number-entries}
 use Rattle.table.specs.WriteLaws.{length-task}
-use Rattle.roundtrip.specs.KeptLaws.{content-ext, Kept}
+use Rattle.tasks.specs.ContentLaws.{content-ext, Kept}
 
 -- the edition and the cores' section of a content's bytes
 abbrev front : Content → List ℕ

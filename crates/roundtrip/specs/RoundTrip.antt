@@ -25,7 +25,8 @@ use Rattle.codec.specs.Table.{slackCount, slackAt, taskSetIn, contentIn, verdic
 use Rattle.table.specs.Judged.{judged, writeTest, writtenAs, written}
 use Rattle.codec.specs.Bytes.{byte}
 use Rattle.codec.specs.ByteLaws.{Bytes}
-use Rattle.roundtrip.specs.KeptLaws.{Kept, kept, kept-plan, kept-table}
+use Rattle.tasks.specs.ContentLaws.{Kept, kept, kept-plan}
+use Rattle.roundtrip.specs.KeptLaws.{kept-table}
 use Rattle.roundtrip.specs.SectionLaws.{Parts, verdict-parts, parts-verdict, table-parts, labels-again, tasks-again, slack-again}
 use Rattle.table.specs.WriteLaws.{length-bytes}
 use Rattle.roundtrip.specs.BackLaws.{back-offers, back-slack-at, read-back}

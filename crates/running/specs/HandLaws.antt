@@ -11,12 +11,11 @@ use mathlib.Core.Bool.{Bool, true, false, cond}
 use mathlib.Core.Path.{_≡_, refl, sym, ap, subst, _∙_}
 use mathlib.Core.Logic.{_≢_}
 use mathlib.Core.Option.{Option, none, some}
-use mathlib.Core.List.{List, [], _∷_}
+use mathlib.Core.List.{List}
 use native.Mathlib.Numerals.{add-one}
 use native.Mathlib.Omega.{arith}
 use lib.ListN.{length, getD, set}
 use lib.Seq.{sets}
-use lib.Dec.{leb}
 use borrow.Author.Tests.{le-leb, lt-leb}
 use Rattle.tasks.specs.declared.Task.{Task}
 use Rattle.tasks.specs.declared.Plan.{Plan}
@@ -24,13 +23,13 @@ use Rattle.tasks.specs.declared.Answer.{Answer}
 use Rattle.tasks.specs.declared.Answer.the-variants.{Accepted, Refused}
 use Rattle.tasks.specs.TaskSet.{TaskSet, row}
 use Rattle.tasks.specs.Content.{taskOf, contentOf}
-use Rattle.tasks.specs.Tests.{refuse, firstMet, outside}
-use Rattle.machine.specs.Machine.{Machine, within, tooSoon, full}
+use Rattle.machine.specs.Machine.{Machine}
+use Rattle.machine.specs.Admission.{admitTests}
 use Rattle.state.specs.State.{flagOf, tickOf, lastOf}
 use Rattle.state.specs.ViewLaws.{flag-in, row-last}
 use Rattle.state.specs.FitLaws.{in-task, in-count, plan-limits}
 use Rattle.state.specs.CallLaws.{admission}
-use Rattle.history.specs.Engine.{taken, refused, isTaken, firstOf}
+use Rattle.history.specs.Engine.{taken, refused, isTaken, outcomeOf}
 use Rattle.history.specs.Log.{Entry, tickAt, loopAt, demandAt, outcome}
 use Rattle.history.specs.LogLaws.{clock-entry}
 use Rattle.history.specs.Report.{refusal}
@@ -39,7 +38,6 @@ use Rattle.history.specs.Balance.{machine-clock}
 use Rattle.history.specs.Owners.{owned-length}
 use Rattle.heads.specs.Order.{Inserted}
 use Rattle.logs.specs.LogBytes.{reportBytes}
-use Rattle.demand.specs.Delivered.{outcomeOf}
 use Rattle.running.specs.OwnerLaws.{count-at}
 use Rattle.running.specs.Entered.{Entered, AtTick, upTo, machineAt, outcome-is, refused-entered, taken-behind, taken-place, taken-rises, taken-first}
 
@@ -75,15 +73,6 @@ Handed e tick task demand tasks separations budgets offsets jobs released last o
     → Handing p l out₀ e tick task demand tasks separations budgets offsets jobs released last owners key left n out
     → Entered p l out₀ (e + 1) tick jobs′ released′ last′ owners′ key′ left′ n′ out′ × (r ≡ takes p l e)
 
--- a list of tests, in both forms
-first-outcome :
-    (a b c : Bool) → outcomeOf (firstMet (refuse 21 a ∷ refuse 22 b ∷ refuse 23 c ∷ [])) ≡ firstOf ((21, a) ∷ (22, b) ∷ (23, c) ∷ [])
-unfolding firstMet
-first-outcome true b c = refl
-first-outcome false true c = refl
-first-outcome false false true = refl
-first-outcome false false false = refl
-
 last-back : (o : Option ℕ) → lastOf (flagOf o) (tickOf o) ≡ o
 last-back none = refl
 last-back (some t) = refl
@@ -104,7 +93,7 @@ module _ (p : Plan) (l : List Entry) (out₀ : List ℕ) (e tick task demand tas
   hand-small = omega (arith, H .less, H .at .fitting .few)
 
   pub answer-20 : tasks ≤ task → answerOf s M (loopAt l e) (demandAt l e) ≡ refused 20
-  unfolding answerOf
+  unfolding answerOf admitTests
   answer-20 h =
       rw (le-leb (s .count) (loopAt l e) (omega (arith, H .columns .tasks-are, in-count p, H .task-is)))
 
@@ -137,7 +126,7 @@ module _ (p : Plan) (l : List Entry) (out₀ : List ℕ) (e tick task demand tas
     pub answer-rest :
         outcomeOf (admission (row separations task) (row budgets task) tick demand (row jobs task) (getD released task false) (row last task))
         ≡ answerOf s M (loopAt l e) (demandAt l e)
-    unfolding admission answerOf tooSoon full
+    unfolding admission answerOf admitTests
     answer-rest =
         rw (
           lt-leb (s .count) (loopAt l e) (omega (arith, H .columns .tasks-are, in-count p, H .task-is)),
@@ -154,7 +143,6 @@ module _ (p : Plan) (l : List Entry) (out₀ : List ℕ) (e tick task demand tas
           sym (H .demand-is),
           in-task p task (omega (arith, H .columns .tasks-are)),
         )
-        (first-outcome (outside 1 (taskOf (p .task) task .budget) demand) (within (taskOf (p .task) task .separation) (M .clock) (M .lane task .last)) (leb 16 (length (M .lane task .queue))))
 
     pub hand-answer :
         (a : Answer)

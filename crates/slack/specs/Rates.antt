@@ -2,16 +2,15 @@
 --     Ranges       what that leaves of the counts and the tasks' fields
 --     ratesTest    9 and 10
 --     Rated        the answer, and where it is no refusal H, the surpluses' sum and the shares
-use Prim.Native.Nat.{ℕ, _*_, _≤_, _<_}
+use Prim.Native.Nat.{ℕ, _≤_, _<_}
 use mathlib.Core.Path.{_≡_}
 use mathlib.Core.List.{[], _∷_}
-use lib.Dec.{ltb}
 use Rattle.laws.specs.Sum.{sum}
 use Rattle.laws.specs.Tab.{tab, cut}
 use Rattle.tasks.specs.declared.Answer.{Answer}
 use Rattle.tasks.specs.declared.Answer.the-variants.{Accepted}
 use Rattle.tasks.specs.TaskSet.{TaskSet, hyperperiod, share, surplus}
-use Rattle.tasks.specs.Tests.{refuse, firstMet}
+use Rattle.tasks.specs.Tests.{refuse, firstMet, badMultiple, badShares}
 use Rattle.tasks.specs.ShareLaws.{Timed}
 use Rattle.slack.specs.declared.rates.Rates.{Rates}
 
@@ -24,8 +23,7 @@ pub record Ranges (s : TaskSet) : Type 0 where
 
 unfoldable pub ratesTest : TaskSet → Answer
 ratesTest s =
-    firstMet
-    (refuse 9 (ltb 1000000 (hyperperiod s)) ∷ refuse 10 (ltb (s .cores * hyperperiod s) (sum (share s) (s .count))) ∷ [])
+    firstMet (refuse 9 (badMultiple s) ∷ refuse 10 (badShares s) ∷ [])
 
 pub record Figures (s : TaskSet) (r : Rates) : Type 0 where
   pub multiple : r .multiple ≡ hyperperiod s

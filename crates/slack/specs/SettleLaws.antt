@@ -53,11 +53,9 @@ frame-passed m label n a =
     let o5 = outside-passed (m + 1) 16 n (refuse-passed 5 _ (r5 .0)) in
     record { cores-low = o3 .0; cores-high = o3 .1; more-tasks = omega arith; tasks-high = o5 .1 }
 
-pub ranges-passed :
-    (m n : ℕ) (separation budget offset : List ℕ) → Framed m n → fieldsTest (row separation) (row budget) (row offset) n ≡ Accepted →
-    Ranges (setFrom m n separation budget offset)
-unfolding fieldsTest setFrom
-ranges-passed m n separation budget offset f a =
+pub ranges-passed : (s : TaskSet) → Framed (s .cores) (s .count) → fieldsTest (s .task) (s .count) ≡ Accepted → Ranges s
+unfolding fieldsTest
+ranges-passed s f a =
     let r6 = firstMet-passed _ _ a in
     let r7 = firstMet-passed _ _ (r6 .1) in
     let r8 = firstMet-passed _ _ (r7 .1) in
@@ -66,12 +64,12 @@ ranges-passed m n separation budget offset f a =
       tasks = f .tasks-high;
       timed =
           record {
-            separation-low = λ i h. outside-passed 1 100000 _ (lowest-passed 6 _ n (r6 .0) i h) .0;
-            budget-low = λ i h. outside-passed 1 _ _ (lowest-passed 7 _ n (r7 .0) i h) .0;
-            budget-high = λ i h. outside-passed 1 _ _ (lowest-passed 7 _ n (r7 .0) i h) .1;
+            separation-low = λ i h. outside-passed 1 100000 _ (lowest-passed 6 _ (s .count) (r6 .0) i h) .0;
+            budget-low = λ i h. outside-passed 1 _ _ (lowest-passed 7 _ (s .count) (r7 .0) i h) .0;
+            budget-high = λ i h. outside-passed 1 _ _ (lowest-passed 7 _ (s .count) (r7 .0) i h) .1;
           };
-      separation = λ i h. outside-passed 1 100000 _ (lowest-passed 6 _ n (r6 .0) i h) .1;
-      offset = λ i h. ltb-false _ _ (lowest-passed 8 _ n (r8 .0) i h);
+      separation = λ i h. outside-passed 1 100000 _ (lowest-passed 6 _ (s .count) (r6 .0) i h) .1;
+      offset = λ i h. ltb-false _ _ (lowest-passed 8 _ (s .count) (r8 .0) i h);
     }
 
 pub settling-of :

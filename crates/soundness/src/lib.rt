@@ -3,10 +3,12 @@ use analysis::test;
 use state::State;
 use tasks::Answer;
 use tasks::Task;
+use tasks::is_no_task;
 ghost use mathlib.Core.Path.{_≡_};
 ghost use mathlib.Core.Bool.{not, _&&_, _||_};
 ghost use Prim.Native.Nat.{_+_, _-_, _/_, _%_, _<_};
 ghost use Rattle.tasks.specs.TaskSet.{row};
+ghost use Rattle.tasks.specs.Content.{zeroTask};
 ghost use lib.Dec.{ltb, leb, eqb};
 ghost use Rattle.state.specs.SoundState.{allOf, loopTest, placeTest, soundOf};
 ghost use Rattle.state.specs.Tests.{labelZero, taskZero, loopHolds, placeHolds};
@@ -29,25 +31,13 @@ fn label_zero(i: usize, cores: usize, label: u8) -> bool
     label == 0
 }
 
-fn zeros(separation: u32, budget: u32, offset: u32) -> bool
-    ensures { λ r. ⌜ r ≡ eqb separation 0 && (eqb budget 0 && eqb offset 0) ⌝ }
-{
-    if separation != 0 {
-        return false;
-    }
-    if budget != 0 {
-        return false;
-    }
-    offset == 0
-}
-
-fn task_zero(i: usize, tasks: usize, separation: u32, budget: u32, offset: u32, slack: u32) -> bool
-    ensures { λ r. ⌜ r ≡ ltb i tasks || ((eqb separation 0 && (eqb budget 0 && eqb offset 0)) && eqb slack 0) ⌝ }
+fn task_zero(i: usize, tasks: usize, task: Task, slack: u32) -> bool
+    ensures { λ r. ⌜ r ≡ ltb i tasks || (zeroTask task && eqb slack 0) ⌝ }
 {
     if i < tasks {
         return true;
     }
-    if !zeros(separation, budget, offset) {
+    if !is_no_task(task) {
         return false;
     }
     slack == 0
@@ -74,7 +64,7 @@ fn tasks_zero(task: [Task; 16], slack: &[u32; 16], tasks: usize) -> bool
     let mut i = 0;
     while i < 16 {
         let t = task[i];
-        if !task_zero(i, tasks, t.separation, t.budget, t.offset, slack[i]) {
+        if !task_zero(i, tasks, t, slack[i]) {
             return false;
         }
         i += 1;

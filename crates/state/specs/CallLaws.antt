@@ -9,7 +9,6 @@
 use Prim.Native.Nat.{ℕ, _≤_, _<_}
 use mathlib.Core.Path.{_≡_, refl, sym, _∙_}
 use mathlib.Core.Bool.{Bool, true, false, _&&_, false≢true}
-use mathlib.Core.List.{[], _∷_}
 use native.Mathlib.Omega.{arith}
 use lib.ListN.{replicate}
 use lib.Dec.{leb}
@@ -20,16 +19,17 @@ use Rattle.tasks.specs.declared.Answer.{Answer}
 use Rattle.tasks.specs.declared.Answer.the-variants.{Accepted, Refused}
 use Rattle.tasks.specs.TaskSet.{row}
 use Rattle.tasks.specs.Content.{taskOf, tidy, zeroPlan}
-use Rattle.tasks.specs.Tests.{refuse, orNext, firstMet, outside, testPlan}
+use Rattle.tasks.specs.Tests.{orNext, firstMet, testPlan}
 use Rattle.tasks.specs.AnswerLaws.{refuse-passed, firstMet-passed}
-use Rattle.machine.specs.Machine.{opened, within, tooSoon, full, admitted}
+use Rattle.machine.specs.Machine.{opened, admitted}
+use Rattle.machine.specs.Admission.{joinTests, admitTests}
 use Rattle.state.specs.declared.State.{State}
 use Rattle.state.specs.declared.Opened.{Opened}
 use Rattle.state.specs.declared.Released.{Released}
 use Rattle.state.specs.declared.Stepped.{Stepped}
 use Rattle.state.specs.State.{jobAt, jobsIn, releasedIn, lastIn, remainingIn, releaseIn, stateOf, lastOf, flagAt, laneOf, machineOf, zeroState}
 use Rattle.state.specs.SoundState.{allOf, passes, tidyTest, loopSound, placeSound, soundOf}
-use Rattle.state.specs.Calls.{openOf, tasksOf, stepTests, admitTests, releaseTests, releaseOf, tickedOf, notStepped, stepOf}
+use Rattle.state.specs.Calls.{openOf, tasksOf, stepTests, releaseTests, releaseOf, tickedOf, notStepped, stepOf}
 use Rattle.state.specs.AllLaws.{both}
 use Rattle.state.specs.FitLaws.{plan-limits, in-task, in-count, in-cores}
 
@@ -89,13 +89,12 @@ module _ (s : State) where
   unfolding stepOf
   step-taken r a e f m = let g : stepTests s ≡ Accepted = sym e ∙ f in rw g m
 
--- 21, 22 and 23 of a loop with separation T, budget C and n jobs, at clock t, for a release with demand c
+-- 21, 22 and 23 of a loop, with its last taken release by flag and tick as a state keeps it
 unfoldable pub admission : ℕ → ℕ → ℕ → ℕ → ℕ → Bool → ℕ → Answer
-admission T C t c n flag last =
-    firstMet (refuse 21 (outside 1 C c) ∷ refuse 22 (within T t (lastOf flag last)) ∷ refuse 23 (leb 16 n) ∷ [])
+admission T C t c n flag last = joinTests T C t c n (lastOf flag last)
 
 pub admission-room : (T C t c n : ℕ) (flag : Bool) (last : ℕ) → admission T C t c n flag last ≡ Accepted → n < 16
-unfolding admission
+unfolding admission joinTests
 admission-room T C t c n flag last a =
     let p = firstMet-passed _ _ a in
     let q = firstMet-passed _ _ (p .1) in
@@ -104,7 +103,7 @@ admission-room T C t c n flag last a =
 
 module _ (s : State) (i c : ℕ) where
   pub admit-none : s .plan .tasks ≤ i → admitTests (tasksOf s) (machineOf s) i c ≡ Refused 20 0
-  unfolding admitTests firstMet tasksOf
+  unfolding admitTests tasksOf
   admit-none h = rw (in-count (s .plan), le-leb (s .plan .tasks) i h)
 
   pub admit-some :
@@ -112,7 +111,7 @@ module _ (s : State) (i c : ℕ) where
       → admitTests (tasksOf s) (machineOf s) i c
       ≡ admission (taskOf (s .plan .task) i .separation) (taskOf (s .plan .task) i .budget) (s .clock) c (row (s .jobs) i) (flagAt s i)
       (row (s .last) i)
-  unfolding admitTests admission firstMet tasksOf tooSoon full machineOf laneOf
+  unfolding admitTests admission tasksOf machineOf laneOf
   admit-some h = rw (in-count (s .plan), lt-leb (s .plan .tasks) i h, in-task (s .plan) i h, length-tab)
 
   pub release-unsound :

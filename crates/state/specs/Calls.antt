@@ -6,15 +6,16 @@ use Prim.Native.Nat.{ℕ}
 use mathlib.Core.Bool.{not}
 use mathlib.Core.List.{[], _∷_}
 use lib.ListN.{replicate}
-use lib.Dec.{leb, eqb}
+use lib.Dec.{eqb}
 use Rattle.laws.specs.Tab.{tab}
 use Rattle.tasks.specs.declared.Plan.{Plan}
 use Rattle.tasks.specs.declared.Answer.{Answer}
-use Rattle.tasks.specs.declared.Answer.the-variants.{Accepted, Refused}
+use Rattle.tasks.specs.declared.Answer.the-variants.{Accepted}
 use Rattle.tasks.specs.TaskSet.{TaskSet}
 use Rattle.tasks.specs.Content.{contentOf, tidy}
-use Rattle.tasks.specs.Tests.{refuse, firstMet, unlessRefused, outside, testPlan}
-use Rattle.machine.specs.Machine.{Machine, opened, tooSoon, full, admitted, onCore, runs, tick, responses, idle}
+use Rattle.tasks.specs.Tests.{refuse, firstMet, unlessRefused, testPlan}
+use Rattle.machine.specs.Machine.{Machine, opened, admitted, onCore, runs, tick, responses, idle}
+use Rattle.machine.specs.Admission.{admitTests}
 use Rattle.state.specs.declared.State.{State}
 use Rattle.state.specs.declared.Opened.{Opened}
 use Rattle.state.specs.declared.Released.{Released}
@@ -34,17 +35,6 @@ tasksOf s = contentOf (s .plan) .tasks
 -- "18. The engine state isn't sound. 19. The clock stands at 4,000,000,000 (step and release)."
 unfoldable pub stepTests : State → Answer
 stepTests s = firstMet (refuse 18 (not (soundOf s)) ∷ refuse 19 (eqb (s .clock) 4000000000) ∷ [])
-
--- "20. The loop isn't in the table. 21. The demand is not 1 to C. 22. The loop's last taken release is less than T ticks ago. 23. The loop already
--- holds 16 jobs"
-unfoldable pub admitTests : TaskSet → Machine → ℕ → ℕ → Answer
-admitTests s M i c =
-    firstMet
-    (refuse 20 (leb (s .count) i)
-    ∷ refuse 21 (outside 1 (s .task i .budget) c)
-    ∷ refuse 22 (tooSoon s M i)
-    ∷ refuse 23 (full M i)
-    ∷ [])
 
 -- "A step tests 18 and 19, a release 18 to 23."
 unfoldable pub releaseTests : State → ℕ → ℕ → Answer

@@ -16,17 +16,19 @@ use Rattle.tasks.specs.declared.Plan.{Plan}
 use Rattle.tasks.specs.declared.Answer.{Answer}
 use Rattle.tasks.specs.declared.Answer.the-variants.{Accepted, Refused}
 use Rattle.tasks.specs.Content.{contentOf, tidy}
+use Rattle.tasks.specs.ContentLaws.{tidy-tidy}
 use Rattle.tasks.specs.Tests.{orNext, firstMet, testPlan, unlessRefused}
 use Rattle.tasks.specs.TestsLaws.{tests-compliant, tests-bounded}
 use Rattle.machine.specs.Machine.{Job, job, Machine, opened, full, Allowed, joined, admitted, served, advanced, runs, tick}
+use Rattle.machine.specs.Admission.{admitTests}
 use Rattle.machine.specs.Reached.{Reached}
 use Rattle.machine.specs.Choice.{earliest}
 use Rattle.machine.specs.Sound.{opened-sound, admitted-sound, advanced-sound, reached-sound}
 use Rattle.machine.specs.Theorem.{reached-holds}
 use Rattle.state.specs.State.{stateOf}
-use Rattle.state.specs.Calls.{openOf, tasksOf, stepTests, admitTests, releaseTests, releaseOf, tickedOf, notStepped, stepOf}
+use Rattle.state.specs.Calls.{openOf, tasksOf, stepTests, releaseTests, releaseOf, tickedOf, notStepped, stepOf}
 use Rattle.state.specs.Fit.{Fit}
-use Rattle.state.specs.TidyLaws.{tidy-tidy, tidy-accepted}
+use Rattle.state.specs.TidyLaws.{tidy-accepted}
 use Rattle.state.specs.FitLaws.{plan-limits, in-count, in-cores, fit-sound, machine-back}
 
 pub opened-fit : (p : Plan) → testPlan p ≡ Accepted → Fit (tidy p) opened

@@ -12,15 +12,16 @@ use Rattle.tasks.specs.Content.{tidy}
 use Rattle.tasks.specs.Tests.{testPlan, unlessRefused}
 use Rattle.tasks.specs.AnswerLaws.{firstMet-passed}
 use Rattle.machine.specs.Machine.{opened, admitted, tick}
+use Rattle.machine.specs.Admission.{admitTests}
+use Rattle.machine.specs.AdmissionLaws.{taken-allowed}
 use Rattle.state.specs.declared.State.{State}
 use Rattle.state.specs.State.{stateOf, machineOf}
 use Rattle.state.specs.SoundState.{soundOf}
-use Rattle.state.specs.Calls.{openOf, tasksOf, stepTests, admitTests, releaseTests, releaseOf, tickedOf, notStepped, stepOf}
+use Rattle.state.specs.Calls.{openOf, tasksOf, stepTests, releaseTests, releaseOf, tickedOf, notStepped, stepOf}
 use Rattle.state.specs.Fit.{Shaped}
 use Rattle.state.specs.FitLaws.{sound-fit, fit-sound}
 use Rattle.state.specs.KeptLaws.{opened-fit, admitted-fit, ticked-fit}
 use Rattle.state.specs.CallLaws.{step-passed}
-use Rattle.state.specs.TakenLaws.{taken-allowed}
 
 pub open-sound : (p : Plan) → testPlan p ≡ Accepted → soundOf (openOf p .state) ≡ true
 unfolding openOf

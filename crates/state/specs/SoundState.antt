@@ -8,12 +8,11 @@
 use Prim.Native.Nat.{ℕ, zero, suc, _+_, _-_, _*_, _/_, _%_}
 use mathlib.Core.Bool.{Bool, true, false, cond, not, _&&_, _||_}
 use lib.Dec.{ltb, leb, eqb}
-use Rattle.tasks.specs.declared.Task.{Task}
 use Rattle.tasks.specs.declared.Plan.{Plan}
 use Rattle.tasks.specs.declared.Answer.{Answer}
 use Rattle.tasks.specs.declared.Answer.the-variants.{Accepted, Refused}
 use Rattle.tasks.specs.TaskSet.{row}
-use Rattle.tasks.specs.Content.{taskOf}
+use Rattle.tasks.specs.Content.{zeroTask, taskOf}
 use Rattle.tasks.specs.Tests.{testPlan}
 use Rattle.state.specs.declared.State.{State}
 use Rattle.state.specs.State.{flagAt}
@@ -25,9 +24,6 @@ allOf p (suc n) = allOf p n && p n
 abbrev pub passes : Answer → Bool
 passes Accepted = true
 passes (Refused k i) = false
-
-unfoldable pub zeroTask : Task → Bool
-zeroTask t = eqb (t .separation) 0 && (eqb (t .budget) 0 && eqb (t .offset) 0)
 
 -- "every unused place, also in the table part, is zero": here those in the table part
 unfoldable pub tidyLabel : Plan → ℕ → Bool

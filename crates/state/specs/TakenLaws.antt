@@ -1,6 +1,4 @@
 -- When a release is taken, and what a step's answer names: the calls' answers in the machine's words.
---     taken-allowed       a release that meets none of 20 to 23 is allowed, and finds a place
---     allowed-taken       one that is allowed and finds a place meets none of them
 --     reached-room        in a machine that is reached 23 is never met where 22 isn't
 --     reached-taken       so there an allowed release is taken
 --     named-runs          a step's answer names loop i on some core exactly where the machine chose it
@@ -12,7 +10,7 @@ use native.Mathlib.Omega.{arith}
 use lib.ListN.{length, getD, replicate, length-append, length-take, length-replicate, List·getD-append, List·getD-eq-default}
 use lib.Seq.{getD-append-add}
 use lib.Dec.{ltb, eqb}
-use borrow.Author.Tests.{ltb-true, ltb-false, leb-false, lt-leb, ne-eqb}
+use borrow.Author.Tests.{ltb-true, ltb-false, ne-eqb}
 use Rattle.laws.specs.Tab.{tab}
 use Rattle.laws.specs.TabLaws.{ext-tab}
 use Rattle.laws.specs.Member.{member}
@@ -20,36 +18,13 @@ use Rattle.laws.specs.MemberLaws.{member-append}
 use Rattle.tasks.specs.declared.Answer.the-variants.{Accepted}
 use Rattle.tasks.specs.TaskSet.{TaskSet}
 use Rattle.tasks.specs.Content.{Content}
-use Rattle.tasks.specs.Tests.{firstMet, tests}
-use Rattle.tasks.specs.AnswerLaws.{refuse-passed, firstMet-passed, outside-passed, pass-outside}
+use Rattle.tasks.specs.Tests.{tests}
 use Rattle.tasks.specs.TestsLaws.{tests-limits, tests-compliant, tests-bounded}
 use Rattle.machine.specs.Machine.{Machine, tooSoon, full, Allowed, chosen, idle, onCore, runs}
+use Rattle.machine.specs.Admission.{admitTests}
+use Rattle.machine.specs.AdmissionLaws.{allowed-taken}
 use Rattle.machine.specs.Reached.{Reached}
 use Rattle.machine.specs.Theorem.{never-full}
-use Rattle.state.specs.Calls.{admitTests}
-
-module _ (s : TaskSet) (M : Machine) (i c : ℕ) where
-  pub taken-allowed : admitTests s M i c ≡ Accepted → Allowed s M i c × (full M i ≡ false)
-  unfolding admitTests
-  taken-allowed a =
-      let p = firstMet-passed _ _ a in
-      let q = firstMet-passed _ _ (p .1) in
-      let r = firstMet-passed _ _ (q .1) in
-      let t = firstMet-passed _ _ (r .1) in
-      let d = outside-passed 1 (s .task i .budget) c (refuse-passed 21 _ (q .0)) in (
-        record {
-          in-table = leb-false (s .count) i (refuse-passed 20 _ (p .0));
-          demand-low = d .0;
-          demand-high = d .1;
-          apart = refuse-passed 22 _ (r .0);
-        },
-        refuse-passed 23 _ (t .0),
-      )
-
-  pub allowed-taken : Allowed s M i c → full M i ≡ false → admitTests s M i c ≡ Accepted
-  unfolding admitTests firstMet
-  allowed-taken A f =
-      rw (lt-leb (s .count) i (A .in-table), pass-outside 1 (s .task i .budget) c (A .demand-low) (A .demand-high), A .apart, f)
 
 module _ (k : Content) (a : tests k ≡ Accepted) (M : Machine) (r : Reached (k .tasks) M) (i : ℕ) where
   pub reached-room : i < k .tasks .count → tooSoon (k .tasks) M i ≡ false → full M i ≡ false

@@ -10,11 +10,11 @@ use lib.ListN.{getD}
 use lib.Dec.{ltb, leb, eqb}
 use Rattle.tasks.specs.declared.Task.{Task}
 use Rattle.tasks.specs.TaskSet.{row}
-use Rattle.tasks.specs.Content.{taskOf}
+use Rattle.tasks.specs.Content.{zeroTask, taskOf}
 use Rattle.tasks.specs.Tests.{testPlan}
 use Rattle.state.specs.declared.State.{State}
 use Rattle.state.specs.State.{flagAt}
-use Rattle.state.specs.SoundState.{allOf, passes, zeroTask, tidyLabel, tidyTask, tidyTest, loopTest, loopSound, placeTest, placeSound, soundOf}
+use Rattle.state.specs.SoundState.{allOf, passes, tidyLabel, tidyTask, tidyTest, loopTest, loopSound, placeTest, placeSound, soundOf}
 use Rattle.state.specs.AllLaws.{all-at, all-step}
 
 unfoldable pub labelZero : ℕ → List ℕ → ℕ → Bool

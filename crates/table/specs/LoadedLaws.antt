@@ -12,14 +12,14 @@ use mathlib.Core.Bool.{Bool, true, false, cond, _||_}
 use mathlib.Core.Logic.{_⊎_, ⊎-elim}
 use mathlib.Core.List.{List}
 use native.Mathlib.Omega.{arith}
-use lib.ListN.{getD}
 use lib.Dec.{ltb}
 use borrow.Author.Tests.{ltb-true, ltb-false, lt-ltb, eq-eqb, ne-eqb}
 use Rattle.laws.specs.Tab.{tab, cut}
-use Rattle.laws.specs.TabLaws.{cut-below, cut-above, getD-cut}
+use Rattle.laws.specs.TabLaws.{cut-below, cut-above}
 use Rattle.tasks.specs.declared.Plan.{Plan}
 use Rattle.tasks.specs.TaskSet.{found, row}
 use Rattle.tasks.specs.Content.{Content, noTask, taskOf, contentOf}
+use Rattle.tasks.specs.ContentLaws.{cut-again}
 use Rattle.tasks.specs.Tests.{outside, firstMet, tests, testPlan, test3, test4, test5, test6, test7, test8, test9, test10}
 use Rattle.tasks.specs.LimitsLaws.{limitTests}
 use Rattle.codec.specs.Bytes.{byte, number}
@@ -35,14 +35,6 @@ planIn t offered x =
       task = tab (cut (taskCount t) (λ i. taskIn t (tasksAt t + 12 * i)) noTask) 16;
       slack = x;
     }
-
--- a row cut off at n, kept in a list of N, read below n
-cut-again : {A : Type 0} (f : ℕ → A) (z : A) (n N : ℕ) → n ≤ N → (i : ℕ) → cut n (λ j. getD (tab (cut n f z) N) j z) z i ≡ cut n f z i
-cut-again f z n N h i = go (ltb i n) refl
-  where
-    go : (b : Bool) → ltb i n ≡ b → cut n (λ j. getD (tab (cut n f z) N) j z) z i ≡ cut n f z i
-    go true e = cut-below n (λ j. getD (tab (cut n f z) N) j z) z i (ltb-true i n e) ∙ getD-cut n N f z h i
-    go false e = cut-above n (λ j. getD (tab (cut n f z) N) j z) z i (ltb-false i n e) ∙ sym (cut-above n f z i (ltb-false i n e))
 
 module _ (t : List ℕ) (o : Bool) (x : List ℕ) where
   pub tasks-in : taskCount t ≤ 16 → contentOf (planIn t o x) .tasks ≡ taskSetIn t

@@ -3,11 +3,11 @@
 --     contentOf    what a plan says
 --     planOf       the plan that keeps a content, zeros in its unused places
 --     tidy         a plan with zeros in its unused places
---     noTask, zeroPlan    a task and a plan of zeros
+--     noTask, zeroPlan    a task and a plan of zeros; zeroTask: whether a task is one
 --     Same         "two plans are the same if their used entries and that mark agree"
 use Prim.Native.Nat.{ℕ}
 use mathlib.Core.Path.{_≡_}
-use mathlib.Core.Bool.{false, cond, not}
+use mathlib.Core.Bool.{Bool, false, cond, not, _&&_}
 use mathlib.Core.List.{List}
 use lib.ListN.{getD, replicate}
 use lib.Dec.{eqb}
@@ -25,6 +25,10 @@ pub record Content : Type 0 where
 
 unfoldable pub noTask : Task
 noTask = record { separation = 0; budget = 0; offset = 0 }
+
+-- whether a task is that one
+unfoldable pub zeroTask : Task → Bool
+zeroTask t = eqb (t .separation) 0 && (eqb (t .budget) 0 && eqb (t .offset) 0)
 
 unfoldable pub zeroPlan : Plan
 zeroPlan =

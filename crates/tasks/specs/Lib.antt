@@ -1,6 +1,8 @@
 pub mod TaskSet
 pub mod Content
+pub mod ContentLaws
 pub mod Tests
+pub mod PlainLaws
 pub mod Limits
 pub mod AnswerLaws
 pub mod LimitsLaws

@@ -1,12 +1,13 @@
 -- Document 01, "Compliant slack": the numbers of a set of tasks. Document 01's loop is a task here; T, C, Y are its separation, budget and
 -- offset, m is `cores` and n is `count`. Slack x is a row, a function of the loop.
 --     TaskSet                   m cores and n tasks
+--     plainTask, plain          a task by T, C and Y, and a task set of such tasks
 --     hyperperiod               H
 --     share, weight, surplus    of one task
 --     counted, amount           the tasks with the m − 1 largest weights, and A
 --     Compliant, covers         the condition, for all tasks and as a test of one
 --     raise, found              the slack raised once, and raised from zeros until nothing changes
---     bound, late               counted from release and from the priority point
+--     boundOf, bound, late      counted from release, of one task and of a set's, and from the priority point
 use Prim.Native.Nat.{ℕ, zero, suc, _+_, _-_, _*_, _/_, _≤_, _<_}
 use mathlib.Core.Bool.{Bool, true, false, not}
 use mathlib.Core.List.{List}
@@ -23,6 +24,19 @@ pub record TaskSet : Type 0 where
   pub cores : ℕ
   pub count : ℕ
   pub task : ℕ → Task
+
+-- a task by the three numbers that the analysis reads, its other places 0
+abbrev pub plainTask : ℕ → ℕ → ℕ → Task
+plainTask T C Y = record { separation = T; budget = C; offset = Y }
+
+-- a task set of such tasks
+unfoldable pub plain : TaskSet → TaskSet
+plain s =
+    record {
+      cores = s .cores;
+      count = s .count;
+      task = λ i. plainTask (s .task i .separation) (s .task i .budget) (s .task i .offset);
+    }
 
 -- "H is the least common multiple of all T."
 unfoldable pub hyperperiod : TaskSet → ℕ
@@ -96,8 +110,11 @@ unfoldable pub found : TaskSet → List ℕ
 found s = settle s (suc (s .count * ceiling)) (replicate (s .count) 0)
 
 -- "The bound of a loop is Y + x + C, counted from release."
+abbrev pub boundOf : Task → ℕ → ℕ
+boundOf t x = t .offset + x + t .budget
+
 unfoldable pub bound : TaskSet → (ℕ → ℕ) → ℕ → ℕ
-bound s x i = s .task i .offset + x i + s .task i .budget
+bound s x i = boundOf (s .task i) (x i)
 
 -- "Late is x + C, counted from the priority point"
 unfoldable pub late : TaskSet → (ℕ → ℕ) → ℕ → ℕ

@@ -4,17 +4,20 @@
 --     firstMet        the first refusal of a list of tests
 --     numberOf, indexOf    number and index of a refused answer, 0 of another
 --     unlessRefused   one value where the answer is no refusal, another where it is
---     test3 … test13, tests, testPlan
+--     badCores … overBound      what each number tests, of what it looks at: both the tests below and the contracts of the code cite these
+--     compliantTest, foundTest, boundsTest      12 of offered slack, 12 of a plan marked as found, and 13
+--     test3 … test13, tests, testPlan           the tests of a content, in their order, and of a plan
 use Prim.Native.Nat.{ℕ, _+_, _-_, _*_}
 use mathlib.Core.Bool.{Bool, true, false, cond, not, _&&_, _||_}
 use mathlib.Core.List.{List, [], _∷_}
 use lib.Dec.{ltb, leb, eqb}
 use Rattle.laws.specs.First.{first}
 use Rattle.laws.specs.Sum.{sum}
+use Rattle.tasks.specs.declared.Task.{Task}
 use Rattle.tasks.specs.declared.Plan.{Plan}
 use Rattle.tasks.specs.declared.Answer.{Answer}
 use Rattle.tasks.specs.declared.Answer.the-variants.{Accepted, Refused}
-use Rattle.tasks.specs.TaskSet.{hyperperiod, share, covers, found, bound, row}
+use Rattle.tasks.specs.TaskSet.{TaskSet, hyperperiod, share, covers, found, bound, row}
 use Rattle.tasks.specs.Content.{Content, contentOf}
 
 abbrev pub refuse : ℕ → Bool → Answer
@@ -55,57 +58,97 @@ unlessRefused (Refused k i) x y = y
 unfoldable pub outside : ℕ → ℕ → ℕ → Bool
 outside low high x = ltb x low || ltb high x
 
--- "A core label is above 63 or not above the one before."
+-- ---- what each number tests
+
+-- 3: "Cores are not 2 to 8."
+abbrev pub badCores : ℕ → Bool
+badCores m = outside 2 8 m
+
+-- 4: "A core label is above 63 or not above the one before."
 unfoldable pub badLabel : (ℕ → ℕ) → ℕ → Bool
 badLabel label i = ltb 63 (label i) || (ltb 0 i && leb (label i) (label (i - 1)))
 
+-- 5: "Loops are fewer than cores + 1 or more than 16."
+abbrev pub badCount : ℕ → ℕ → Bool
+badCount m n = outside (m + 1) 16 n
+
+-- 6: "A separation is not 1 to 100,000."
+abbrev pub badSeparation : Task → Bool
+badSeparation t = outside 1 100000 (t .separation)
+
+-- 7: "A budget is not 1 to its separation."
+abbrev pub badBudget : Task → Bool
+badBudget t = outside 1 (t .separation) (t .budget)
+
+-- 8: "An offset is above its separation."
+abbrev pub badOffset : Task → Bool
+badOffset t = ltb (t .separation) (t .offset)
+
+-- 9: "H is above 1,000,000."
+abbrev pub badMultiple : TaskSet → Bool
+badMultiple s = ltb 1000000 (hyperperiod s)
+
+-- 10: "The shares add up to more than m × H."
+abbrev pub badShares : TaskSet → Bool
+badShares s = ltb (s .cores * hyperperiod s) (sum (share s) (s .count))
+
+-- 11: "The slack count is neither 0 nor n."
+abbrev pub badOffers : TaskSet → ℕ → Bool
+badOffers s k = not (eqb k 0 || eqb k (s .count))
+
+-- 12: "Offered slack isn't compliant (lowest loop k that fails)."
+abbrev pub compliantTest : TaskSet → (ℕ → ℕ) → Answer
+compliantTest s x = lowest 12 (λ k. not (covers s x k)) (s .count)
+
+-- 12: "A plan marked as found meets 12 where its slack differs from the found one (lowest such loop)": slack x and y of n loops
+abbrev pub foundTest : (ℕ → ℕ) → (ℕ → ℕ) → ℕ → Answer
+foundTest x y n = lowest 12 (λ k. not (eqb (x k) (y k))) n
+
+-- 13: "A bound is above 16 × T."
+abbrev pub overBound : Task → ℕ → Bool
+overBound t b = ltb (16 * t .separation) b
+
+abbrev pub boundsTest : TaskSet → (ℕ → ℕ) → Answer
+boundsTest s x = lowest 13 (λ i. overBound (s .task i) (bound s x i)) (s .count)
+
+-- ---- the tests of a content
+
 module _ (c : Content) where
-  -- "Cores are not 2 to 8."
   unfoldable pub test3 : Answer
-  test3 = refuse 3 (outside 2 8 (c .tasks .cores))
+  test3 = refuse 3 (badCores (c .tasks .cores))
 
   unfoldable pub test4 : Answer
   test4 = lowest 4 (badLabel (c .label)) (c .tasks .cores)
 
-  -- "Loops are fewer than cores + 1 or more than 16."
   unfoldable pub test5 : Answer
-  test5 = refuse 5 (outside (c .tasks .cores + 1) 16 (c .tasks .count))
+  test5 = refuse 5 (badCount (c .tasks .cores) (c .tasks .count))
 
-  -- "A separation is not 1 to 100,000."
   unfoldable pub test6 : Answer
-  test6 = lowest 6 (λ i. outside 1 100000 (c .tasks .task i .separation)) (c .tasks .count)
+  test6 = lowest 6 (λ i. badSeparation (c .tasks .task i)) (c .tasks .count)
 
-  -- "A budget is not 1 to its separation."
   unfoldable pub test7 : Answer
-  test7 = lowest 7 (λ i. outside 1 (c .tasks .task i .separation) (c .tasks .task i .budget)) (c .tasks .count)
+  test7 = lowest 7 (λ i. badBudget (c .tasks .task i)) (c .tasks .count)
 
-  -- "An offset is above its separation."
   unfoldable pub test8 : Answer
-  test8 = lowest 8 (λ i. ltb (c .tasks .task i .separation) (c .tasks .task i .offset)) (c .tasks .count)
+  test8 = lowest 8 (λ i. badOffset (c .tasks .task i)) (c .tasks .count)
 
-  -- "H is above 1,000,000."
   unfoldable pub test9 : Answer
-  test9 = refuse 9 (ltb 1000000 (hyperperiod (c .tasks)))
+  test9 = refuse 9 (badMultiple (c .tasks))
 
-  -- "The shares add up to more than m × H."
   unfoldable pub test10 : Answer
-  test10 = refuse 10 (ltb (c .tasks .cores * hyperperiod (c .tasks)) (sum (share (c .tasks)) (c .tasks .count)))
+  test10 = refuse 10 (badShares (c .tasks))
 
-  -- "The slack count is neither 0 nor n."
   unfoldable pub test11 : Answer
-  test11 = refuse 11 (not (eqb (c .offers) 0 || eqb (c .offers) (c .tasks .count)))
+  test11 = refuse 11 (badOffers (c .tasks) (c .offers))
 
-  -- "Offered slack isn't compliant (lowest loop k that fails). A plan marked as found meets 12 where its slack differs from the found one
-  -- (lowest such loop)"
   unfoldable pub test12 : Answer
   test12 =
       cond (eqb (c .offers) 0)
-      (lowest 12 (λ k. not (eqb (c .slack k) (row (found (c .tasks)) k))) (c .tasks .count))
-      (lowest 12 (λ k. not (covers (c .tasks) (c .slack) k)) (c .tasks .count))
+      (foundTest (c .slack) (row (found (c .tasks))) (c .tasks .count))
+      (compliantTest (c .tasks) (c .slack))
 
-  -- "A bound is above 16 × T."
   unfoldable pub test13 : Answer
-  test13 = lowest 13 (λ i. ltb (16 * c .tasks .task i .separation) (bound (c .tasks) (c .slack) i)) (c .tasks .count)
+  test13 = boundsTest (c .tasks) (c .slack)
 
   -- "Each of 1 to 16 is tested over all entries before the next."
   unfoldable pub tests : Answer

@@ -1,8 +1,9 @@
 // The records that every layer shares: a task, a plan, and the answer of a test. What document 01 says of them is in specs/.
 pub mod refusal;
+pub mod tidy;
 
 ghost use mathlib.Core.Path.{_≡_};
-ghost use Rattle.tasks.specs.Content.{noTask, zeroPlan};
+ghost use Rattle.tasks.specs.Content.{noTask, zeroTask, zeroPlan};
 
 // Document 01's loop: separation T, budget C, priority offset Y, in ticks.
 pub struct Task {
@@ -36,6 +37,19 @@ pub fn no_task() -> Task
         budget: 0,
         offset: 0,
     }
+}
+
+// Whether a task is that one.
+pub fn is_no_task(task: Task) -> bool
+    ensures { λ r. ⌜ r ≡ zeroTask task ⌝ }
+{
+    if task.separation != 0 {
+        return false;
+    }
+    if task.budget != 0 {
+        return false;
+    }
+    task.offset == 0
 }
 
 // A plan of zeros, which a refused judgement hands back.

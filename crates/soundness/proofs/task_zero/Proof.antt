@@ -8,14 +8,14 @@ use Rattle.soundness.proofs.task_zero.Tie as tie
 returns : tie.Need-returns
 returns c = rw (lt-ltb _ _ (c .if1 .taken))
 
-zeros-requires : tie.Need-zeros-requires
-zeros-requires c κs = search needs
+is-no-task-requires : tie.Need-is-no-task-requires
+is-no-task-requires c κs = search needs
 
 returns-2 : tie.Need-returns-2
-returns-2 c = rw (le-ltb _ _ (c .before .before .if1 .left), sym (c .before .zeros .ensures) ∙ not-true _ (c .if2 .taken))
+returns-2 c = rw (le-ltb _ _ (c .before .before .if1 .left), sym (c .before .is-no-task .ensures) ∙ not-true _ (c .if2 .taken))
 
 returns-3 : tie.Need-returns-3
-returns-3 c = rw (le-ltb _ _ (c .before .before .if1 .left), sym (c .before .zeros .ensures) ∙ not-false _ (c .if2 .left))
+returns-3 c = rw (le-ltb _ _ (c .before .before .if1 .left), sym (c .before .is-no-task .ensures) ∙ not-false _ (c .if2 .left))
 
 pub task-zero-spec : {M : Type 1} → statement M
-task-zero-spec = tie.close (tie.spec returns zeros-requires returns-2 returns-3)
+task-zero-spec = tie.close (tie.spec returns is-no-task-requires returns-2 returns-3)

@@ -1,6 +1,6 @@
 -- `soundness::tasks_zero` meets its contract; the loop's invariant says what its turns so far have made.
 use Rattle.state.specs.Tests.{taskZero, all-more, all-fails}
-use Rattle.state.specs.SoundState.{allOf, zeroTask}
+use Rattle.state.specs.SoundState.{allOf}
 use Rattle.tasks.specs.Content.{taskOf, noTask}
 use Rattle.tasks.specs.TaskSet.{row}
 use mathlib.Core.Bool.{true}
@@ -38,7 +38,7 @@ task-zero-requires : tie.Need-task-zero-requires Inv-loop μ-loop
 task-zero-requires c κs = search needs
 
 returns : tie.Need-returns Inv-loop μ-loop
-unfolding taskZero zeroTask taskOf noTask row
+unfolding taskZero taskOf noTask row
 returns c = sym (all-fails _ 16 (c .before .before .before .before .before .loop .i) (omega arith) (sym (c .before .task-zero .ensures) ∙ not-true _ (c .if1 .taken)))
 
 add-i : tie.Need-add-i Inv-loop μ-loop
@@ -48,7 +48,7 @@ loop-less : tie.Need-loop-less Inv-loop μ-loop
 loop-less c = search needs
 
 loop-again : tie.Need-loop-again Inv-loop μ-loop
-unfolding taskZero zeroTask taskOf noTask row
+unfolding taskZero taskOf noTask row
 loop-again c = (omega arith, all-more _ (c .before .before .before .before .before .loop .i) (c .before .before .before .before .before .loop .inv .1) (sym (c .before .task-zero .ensures) ∙ not-false _ (c .if1 .left)))
 
 returns-2 : tie.Need-returns-2 Inv-loop μ-loop

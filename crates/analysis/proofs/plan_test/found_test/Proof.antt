@@ -1,4 +1,4 @@
-use Rattle.analysis.specs.PlanTest.{foundTest}
+use Rattle.analysis.specs.PlanTest.{foundTests}
 use Rattle.fields.specs.StageLaws.{scan-found, scan-none}
 use borrow.Author.Needs.{needs}
 use Rattle.analysis.proofs.plan_test.found_test.Statement.{statement}
@@ -18,7 +18,7 @@ cast-t10 c = search needs
 
 -- src/plan_test.rt:55:9
 returns : tie.Need-returns
-unfolding foundTest
+unfolding foundTests
 returns c = rw (scan-found 12 _ _ _ (c .before .first-other .ensures) (c .if1 .taken))
 
 -- src/plan_test.rt:60:5
@@ -27,7 +27,7 @@ plan-bounds-requires c κs = search needs
 
 -- src/plan_test.rt:47:1
 returns-2 : tie.Need-returns-2
-unfolding foundTest
+unfolding foundTests
 returns-2 c = rw (scan-none 12 _ _ _ (c .before .before .first-other .ensures) (c .before .if1 .left)) (c .plan-bounds .ensures)
 
 pub found-test-spec : {M : Type 1} → statement M

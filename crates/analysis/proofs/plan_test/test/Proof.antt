@@ -15,7 +15,7 @@ use Rattle.tasks.specs.AnswerLaws.{lowest-ext}
 use Rattle.tasks.specs.LimitsLaws.{limitTests}
 use Rattle.analysis.specs.declared.settle.Settled.{Settled}
 use Rattle.analysis.specs.Settled.{Settles, offeredTest, hadSlack}
-use Rattle.analysis.specs.PlanTest.{boundsOf, foundTest}
+use Rattle.analysis.specs.PlanTest.{boundsOf, foundTests}
 use Rattle.analysis.specs.PlanTestLaws.{offering-plan, test-refused, few-tasks, test-found, test-offered}
 use Prim.Native.Nat.{ℕ, _≤_}
 use mathlib.Core.Path.{_≡_, ap, sym, _∙_}
@@ -46,8 +46,8 @@ module _ (p : Plan) (k : ℕ) (ek : k ≡ cond (p .offered) (p .tasks) 0) (t : S
     unfolding contentOf
     few = few-tasks (contentOf p) (sym answered ∙ e)
 
-    found : (r : Answer) → k ≡ 0 → r ≡ foundTest p (t .slack) → r ≡ testPlan p
-    unfolding testPlan foundTest boundsOf contentOf
+    found : (r : Answer) → k ≡ 0 → r ≡ foundTests p (t .slack) → r ≡ testPlan p
+    unfolding testPlan foundTests boundsOf contentOf
     found r z q =
         q
         ∙ ap (λ (a : Answer). orNext a (boundsOf p (t .slack)))

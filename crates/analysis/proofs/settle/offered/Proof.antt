@@ -19,7 +19,7 @@ use Rattle.analysis.proofs.settle.offered.Reads as reads
 use Rattle.analysis.proofs.settle.offered.Lts as lts
 use Rattle.slack.proofs.amount.amount.Reads as amount-reads
 use Rattle.slack.proofs.amount.first_chosen.Reads as first-chosen-reads
-use Rattle.analysis.proofs.settle.kept.Reads as kept-reads
+use Rattle.tasks.proofs.tidy.tidy_slack.Reads as tidy-slack-reads
 use Rattle.analysis.proofs.settle.unsettled.Reads as unsettled-reads
 use Rattle.slack.proofs.slack.first_uncovered.Reads as first-uncovered-reads
 
@@ -30,8 +30,8 @@ starts s shares budgets offsets h surpluses m n g chosen e =
     rw e (chosen-first (m - 1) n (omega (arith, more s shares budgets offsets h surpluses m n g)) (tasks-high s shares budgets offsets h surpluses m n g))
 
 -- src/settle.rt:64:16
-kept-requires : tie.Need-kept-requires
-kept-requires c κs = tasks-high _ _ _ _ _ _ _ _ (c .pre .1)
+tidy-slack-requires : tie.Need-tidy-slack-requires
+tidy-slack-requires c κs = tasks-high _ _ _ _ _ _ _ _ (c .pre .1)
 
 -- src/settle.rt:65:35
 sub-first-chosen : tie.Need-sub-first-chosen
@@ -66,8 +66,8 @@ returns : tie.Need-returns
 returns c =
     λ s g.
     let n = starts s _ _ _ _ _ _ _ g _ (c .before .before .before .before .before .before .before .first-chosen .ensures) in
-    let whole = c .before .before .before .before .amount .ensures .0 ∙ amount-row s _ _ _ _ _ _ _ g (c .before .before .before .before .before .before .before .before .kept .result) _ n in
-    let r = offered-refused s _ _ _ _ _ _ _ g _ _ (c .before .before .before .before .before .before .before .before .kept .ensures) _ whole _ (c .before .before .first-uncovered .ensures) (c .before .if1 .taken) in
+    let whole = c .before .before .before .before .amount .ensures .0 ∙ amount-row s _ _ _ _ _ _ _ g (c .before .before .before .before .before .before .before .before .tidy-slack .result) _ n in
+    let r = offered-refused s _ _ _ _ _ _ _ g _ _ (c .before .before .before .before .before .before .before .before .tidy-slack .ensures) _ whole _ (c .before .before .first-uncovered .ensures) (c .before .if1 .taken) in
     record { answer = c .unsettled .ensures ∙ sym r; had = λ e. absurd (not-both _ 12 _ (c .unsettled .ensures) e) }
 
 -- src/settle.rt:51:1
@@ -75,17 +75,17 @@ returns-2 : tie.Need-returns-2
 returns-2 c =
     λ s g.
     let n = starts s _ _ _ _ _ _ _ g _ (c .before .before .before .before .before .before .first-chosen .ensures) in
-    let whole = c .before .before .before .amount .ensures .0 ∙ amount-row s _ _ _ _ _ _ _ g (c .before .before .before .before .before .before .before .kept .result) _ n in
+    let whole = c .before .before .before .amount .ensures .0 ∙ amount-row s _ _ _ _ _ _ _ g (c .before .before .before .before .before .before .before .tidy-slack .result) _ n in
     record {
-      answer = sym (offered-passed s _ _ _ _ _ _ _ g _ _ (c .before .before .before .before .before .before .before .kept .ensures) _ whole _ (c .before .first-uncovered .ensures) (c .if1 .left));
-      had = λ _. offered-slack s _ _ _ _ _ _ _ g _ _ (c .before .before .before .before .before .before .before .kept .ensures) _ whole _ (c .before .first-uncovered .ensures);
+      answer = sym (offered-passed s _ _ _ _ _ _ _ g _ _ (c .before .before .before .before .before .before .before .tidy-slack .ensures) _ whole _ (c .before .first-uncovered .ensures) (c .if1 .left));
+      had = λ _. offered-slack s _ _ _ _ _ _ _ g _ _ (c .before .before .before .before .before .before .before .tidy-slack .ensures) _ whole _ (c .before .first-uncovered .ensures);
     }
 
 pub offered-spec : {M : Type 1} → statement M
 offered-spec =
     tie.close
     (tie.spec
-    kept-requires
+    tidy-slack-requires
     sub-first-chosen
     first-chosen-requires
     amount-requires

@@ -3,19 +3,21 @@ use Rattle.laws.specs.TabLaws.{tab-ext}
 use Rattle.tasks.specs.declared.Plan.{Plan}
 use Rattle.tasks.specs.declared.Answer.{Answer}
 use Rattle.tasks.specs.declared.Answer.the-variants.{Accepted, Refused}
-use Rattle.tasks.specs.TaskSet.{row}
+use Rattle.tasks.specs.TaskSet.{plain}
+use Rattle.tasks.specs.Content.{taskOf, contentOf}
 use Rattle.tasks.specs.Tests.{firstMet, orNext, test6, test7, test8}
 use Rattle.fields.specs.declared.columns.Columns.{Columns}
 use Rattle.analysis.specs.declared.settle.Settled.{Settled}
 use Rattle.fields.specs.Columns.{columnsOf, setFrom}
 use Rattle.fields.specs.Stages.{fieldsTest}
+use Rattle.fields.specs.StageLaws.{fields-scan}
 use Rattle.slack.specs.Rates.{Ranges}
 use Rattle.slack.specs.SettleLaws.{Framed, ranges-passed}
 use Rattle.analysis.specs.Settled.{offering, taskTests, RatesSettle, TasksSettle}
-use Rattle.analysis.specs.SettledLaws.{columns-set, fields-tests, rates-tests, stopped, passed-on, slack-tests, slack-had}
+use Rattle.analysis.specs.SettledLaws.{columns-set, plain-ranges, fields-tests, rates-tests, stopped, passed-on, slack-tests, slack-had}
 use Rattle.fields.specs.StageLaws.{not-both}
 use Prim.Native.Nat.{ℕ}
-use mathlib.Core.Path.{_≡_, ap₂, sym, _∙_}
+use mathlib.Core.Path.{_≡_, ap₂, sym, subst, _∙_}
 use borrow.Author.Needs.{needs}
 use Rattle.analysis.proofs.settle.settle_tasks.Statement.{statement}
 use Rattle.analysis.proofs.settle.settle_tasks.Tie as tie
@@ -26,84 +28,76 @@ use Rattle.fields.proofs.fields.fields.Reads as fields-reads
 use Rattle.analysis.proofs.settle.settle_rated.Reads as settle-rated-reads
 use Rattle.analysis.proofs.settle.unsettled.Reads as unsettled-reads
 
-module _ (p : Plan) (k : ℕ) (f : Framed (p .cores) (p .tasks)) (l : Columns) (el : l ≡ columnsOf (p .tasks) (p .task)) (a : Answer)
-    (ea : a ≡ fieldsTest (row (l .separation)) (row (l .budget)) (row (l .offset)) (p .tasks))
-  where
-    stands : setFrom (p .cores) (p .tasks) (l .separation) (l .budget) (l .offset) ≡ offering p k .tasks
-    unfolding offering
+module _ (p : Plan) (k : ℕ) (f : Framed (p .cores) (p .tasks)) (a : Answer) (ea : a ≡ fieldsTest (taskOf (p .task)) (p .tasks)) where
+  fielded : a ≡ firstMet (test6 (offering p k) ∷ test7 (offering p k) ∷ test8 (offering p k) ∷ [])
+  fielded = ea ∙ fields-tests p k
+
+  refused : (t : Settled) (j i : ℕ) → a ≡ Refused j i → t .answer ≡ a → TasksSettle p k t
+  unfolding taskTests
+  refused t j i e u =
+      record {
+        answer = u ∙ fielded ∙ sym (stopped _ _ j i (sym fielded ∙ e));
+        slack = λ w. absurd (not-both _ j i (u ∙ e) w);
+      }
+
+  module _ (l : Columns) (el : l ≡ columnsOf (p .tasks) (p .task)) (e : a ≡ Accepted) where
+    stands : setFrom (p .cores) (p .tasks) (l .separation) (l .budget) (l .offset) ≡ plain (contentOf p .tasks)
     stands = rw el (columns-set p (f .tasks-high))
 
-    fielded : a ≡ firstMet (test6 (offering p k) ∷ test7 (offering p k) ∷ test8 (offering p k) ∷ [])
-    fielded = ea ∙ fields-tests (offering p k) (p .cores) (p .tasks) (l .separation) (l .budget) (l .offset) stands
+    ranges : Ranges (setFrom (p .cores) (p .tasks) (l .separation) (l .budget) (l .offset))
+    unfolding contentOf
+    ranges = subst Ranges (sym stands) (plain-ranges _ (ranges-passed (contentOf p .tasks) f (sym (fields-scan p) ∙ sym ea ∙ e)))
 
-    ranges : a ≡ Accepted → Ranges (setFrom (p .cores) (p .tasks) (l .separation) (l .budget) (l .offset))
-    ranges e = ranges-passed (p .cores) (p .tasks) (l .separation) (l .budget) (l .offset) f (sym ea ∙ e)
-
-    refused : (t : Settled) (j i : ℕ) → a ≡ Refused j i → t .answer ≡ a → TasksSettle p k t
-    unfolding taskTests
-    refused t j i e u =
-        record {
-          answer = u ∙ fielded ∙ sym (stopped _ _ j i (sym fielded ∙ e));
-          slack = λ w. absurd (not-both _ j i (u ∙ e) w);
-        }
-
-    settled : (t : Settled) → a ≡ Accepted → RatesSettle (setFrom (p .cores) (p .tasks) (l .separation) (l .budget) (l .offset)) (p .slack) k t → TasksSettle p k t
+    settled : (t : Settled) → RatesSettle (setFrom (p .cores) (p .tasks) (l .separation) (l .budget) (l .offset)) (p .slack) k t → TasksSettle p k t
     unfolding taskTests offering
-    settled t e g =
+    settled t g =
         record {
           answer =
               g .answer
-              ∙ ap₂ orNext (rates-tests (offering p k) (p .cores) (p .tasks) (l .separation) (l .budget) (l .offset) stands) (slack-tests p k _ stands)
+              ∙ ap₂ orNext (rates-tests (offering p k) _ stands) (slack-tests p k _ stands)
               ∙ sym (passed-on _ _ (sym fielded ∙ e));
           slack = λ w. g .had w ∙ tab-ext _ _ 16 (λ i h. slack-had p k _ stands i);
         }
 
--- src/settle.rt:141:9
 split-requires : tie.Need-split-requires
 split-requires c κs = search needs
 
--- src/settle.rt:145:9
 fields-requires : tie.Need-fields-requires
 fields-requires c κs = search needs
 
 enum-told : tie.Need-enum-told
 enum-told c = search needs
 
--- src/settle.rt:147:9
 enum-told-2 : tie.Need-enum-told-2
 enum-told-2 c = search needs
 
--- src/settle.rt:147:9
 unsettled-requires : tie.Need-unsettled-requires
 unsettled-requires c κs = search needs
 
--- src/settle.rt:147:9
 returns : tie.Need-returns
 returns c =
-    let s = c .before .before .before .before .before .before .before .before .before .before .before .before in
-    refused (s .args .plan) (s .args .offers) (s .pre) _ (c .before .before .before .before .before .before .before .before .before .before .split .ensures) _ (c .before .before .before .fields .ensures) _ _ _ (c .before .enum-told2 .given .1) (c .unsettled .ensures)
+    let s = c .before .before .before .before .before in
+    refused (s .args .plan) (s .args .offers) (s .pre) _ (c .before .before .before .fields .ensures) _ _ _ (c .before .enum-told2 .given .1) (c .unsettled .ensures)
 
--- src/settle.rt:150:5
 settle-rated-requires : tie.Need-settle-rated-requires
 settle-rated-requires c κs =
-    let s = c .before .before .before .before .before .before .before .before .before .before .before .before .before .before .before .before in
-    (s .pre, ranges (s .args .plan) (s .args .offers) (s .pre) _ (c .before .before .before .before .before .before .before .before .before .before .before .before .before .before .split .ensures) _ (c .before .before .before .before .before .before .before .fields .ensures) (c .before .before .before .before .before .enum-told .given .1))
+    let s = c .before .before .before .before .before .before .before .before .before .before .before .before .before in
+    (s .pre, ranges (s .args .plan) (s .args .offers) (s .pre) _ (c .before .before .before .before .before .before .before .before .before .before .before .fields .ensures) _ (c .before .before .before .before .before .before .before .before .split .ensures) (c .before .before .before .before .before .before .before .before .before .enum-told .given .1))
 
--- src/settle.rt:135:1
 returns-2 : tie.Need-returns-2
 returns-2 c =
-    let s = c .before .before .before .before .before .before .before .before .before .before .before .before .before .before .before .before .before in
-    settled (s .args .plan) (s .args .offers) (s .pre) _ (c .before .before .before .before .before .before .before .before .before .before .before .before .before .before .before .split .ensures) _ (c .before .before .before .before .before .before .before .before .fields .ensures) _ (c .before .before .before .before .before .before .enum-told .given .1) (c .settle-rated .ensures)
+    let s = c .before .before .before .before .before .before .before .before .before .before .before .before .before .before in
+    settled (s .args .plan) (s .args .offers) (s .pre) _ (c .before .before .before .before .before .before .before .before .before .before .before .before .fields .ensures) _ (c .before .before .before .before .before .before .before .before .before .split .ensures) (c .before .before .before .before .before .before .before .before .before .before .enum-told .given .1) _ (c .settle-rated .ensures)
 
 pub settle-tasks-spec : {M : Type 1} → statement M
 settle-tasks-spec =
     tie.close
     (tie.spec
-    split-requires
     fields-requires
     enum-told
     enum-told-2
     unsettled-requires
     returns
+    split-requires
     settle-rated-requires
     returns-2)

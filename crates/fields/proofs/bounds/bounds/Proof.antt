@@ -1,30 +1,26 @@
-use Rattle.fields.specs.Bounds.{boundsTest}
-use Rattle.fields.specs.StageLaws.{scan-found, scan-none}
-use mathlib.Core.Path.{sym}
+-- `fields::bounds::bounds` meets its contract.
+use Rattle.tasks.specs.TaskSet.{row}
+use Rattle.fields.specs.StageLaws.{scan-found, scan-none, bounds-scan}
+use mathlib.Core.Path.{sym, _∙_}
 use borrow.Author.Needs.{needs}
 use Rattle.fields.proofs.bounds.bounds.Statement.{statement}
 use Rattle.fields.proofs.bounds.bounds.Tie as tie
-use Rattle.fields.proofs.bounds.bounds.Reads as reads
-use Rattle.fields.proofs.bounds.bounds.Lts as lts
-use Rattle.fields.proofs.bounds.first_over.Reads as first-over-reads
 
--- src/bounds.rt:41:9
 first-over-requires : tie.Need-first-over-requires
 first-over-requires c κs = search needs
 
--- src/bounds.rt:45:20
-cast-t8 : tie.Need-cast-t8
-cast-t8 c = search needs
+cast-t7 : tie.Need-cast-t7
+cast-t7 c = search needs
 
--- src/bounds.rt:43:9
 returns : tie.Need-returns
-unfolding boundsTest
-returns c = sym (scan-found 13 _ _ _ (c .before .first-over .ensures) (c .if1 .taken))
+returns c =
+    let a = c .before .before .before .args in
+    sym (scan-found 13 _ _ _ (c .before .first-over .ensures) (c .if1 .taken)) ∙ bounds-scan (a .plan) (row _)
 
--- src/bounds.rt:31:1
 returns-2 : tie.Need-returns-2
-unfolding boundsTest
-returns-2 c = sym (scan-none 13 _ _ _ (c .before .first-over .ensures) (c .if1 .left))
+returns-2 c =
+    let a = c .before .before .before .args in
+    sym (scan-none 13 _ _ _ (c .before .first-over .ensures) (c .if1 .left)) ∙ bounds-scan (a .plan) (row _)
 
 pub bounds-spec : {M : Type 1} → statement M
-bounds-spec = tie.close (tie.spec first-over-requires cast-t8 returns returns-2)
+bounds-spec = tie.close (tie.spec first-over-requires cast-t7 returns returns-2)

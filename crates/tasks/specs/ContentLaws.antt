@@ -1,0 +1,145 @@
+-- A plan cut at its used places, and the contents that a plan keeps: the plan of such a content says that content again.
+--     content-ext     contents with the same numbers and rows are the same
+--     Kept            the content's counts are within a plan's arrays, and its rows are zero past the counts
+--     kept-row        a row that is zero past n, kept in a list and read below n; cut-again: a row cut off at n
+--     kept            the plan of such a content says it; kept-plan: what a plan says is kept
+--     content-tidy    so a plan with zeros in its unused places says what the plan says; tidy-tidy: and has no more to lose
+--     mark-kept       the mark of a plan with tasks comes back from its slack count
+--     tidied-code     the tidied plan, array by array
+--     zero-task       a task that the test of zeros passes is the task of zeros; no-task: and back
+use Prim.Native.Nat.{ℕ, _≤_}
+use mathlib.Core.Path.{_≡_, refl, sym, ap, _∙_}
+use mathlib.Core.Bool.{Bool, true, false, cond, not, _&&_, false≢true}
+use mathlib.Core.List.{List}
+use mathlib.Core.Logic.{_⊎_, inl, inr, ⊎-elim}
+use native.Mathlib.Omega.{arith}
+use lib.ListN.{getD}
+use lib.Dec.{ltb, eqb}
+use borrow.Author.Tests.{ltb-true, ltb-false, eqb-true, eqb-false, ne-eqb}
+use Rattle.laws.specs.Tab.{tab, cut}
+use Rattle.laws.specs.TabLaws.{getD-tab, cut-below, cut-above}
+use Rattle.tasks.specs.declared.Task.{Task}
+use Rattle.tasks.specs.declared.Plan.{Plan}
+use Rattle.tasks.specs.TaskSet.{row}
+use Rattle.tasks.specs.Content.{Content, noTask, zeroTask, taskOf, contentOf, planOf, tidy}
+
+pub content-ext :
+    (c d : Content) → c .tasks .cores ≡ d .tasks .cores → c .tasks .count ≡ d .tasks .count
+    → ((i : ℕ) → c .tasks .task i ≡ d .tasks .task i)
+    → ((i : ℕ) → c .label i ≡ d .label i)
+    → c .offers ≡ d .offers
+    → ((i : ℕ) → c .slack i ≡ d .slack i)
+    → c ≡ d
+content-ext c d m n t l o s =
+    λ i. record { tasks = record { cores = m i; count = n i; task = λ k. t k i }; label = λ k. l k i; offers = o i; slack = λ k. s k i }
+
+pub record Kept (c : Content) : Type 0 where
+  pub cores-high : c .tasks .cores ≤ 8
+  pub tasks-high : c .tasks .count ≤ 16
+  pub label-past : (i : ℕ) → c .tasks .cores ≤ i → c .label i ≡ 0
+  pub task-past : (i : ℕ) → c .tasks .count ≤ i → c .tasks .task i ≡ noTask
+  pub slack-past : (i : ℕ) → c .tasks .count ≤ i → c .slack i ≡ 0
+  pub offers : (c .offers ≡ 0) ⊎ (c .offers ≡ c .tasks .count)
+
+-- a row that is z from n on, kept in a list of N, and read below n again
+pub kept-row : {A : Type 0} (f : ℕ → A) (z : A) (n N : ℕ) → n ≤ N → ((i : ℕ) → n ≤ i → f i ≡ z) → (i : ℕ) → cut n (λ j. getD (tab f N) j z) z i ≡ f i
+kept-row f z n N h past i = go (ltb i n) refl
+  where
+    go : (b : Bool) → ltb i n ≡ b → cut n (λ j. getD (tab f N) j z) z i ≡ f i
+    go true e =
+        let l = ltb-true i n e in
+        cut-below n (λ j. getD (tab f N) j z) z i l ∙ getD-tab f N i z (omega arith)
+    go false e =
+        let l = ltb-false i n e in
+        cut-above n (λ j. getD (tab f N) j z) z i l ∙ sym (past i l)
+
+pub cut-again : {A : Type 0} (f : ℕ → A) (z : A) (n N : ℕ) → n ≤ N → (i : ℕ) → cut n (λ j. getD (tab (cut n f z) N) j z) z i ≡ cut n f z i
+cut-again f z n N h = kept-row (cut n f z) z n N h (cut-above n f z)
+
+-- the mark keeps a count that is 0 or n
+kept-offers : (x n : ℕ) → (x ≡ 0) ⊎ (x ≡ n) → cond (not (eqb x 0)) n 0 ≡ x
+kept-offers x n h = go (eqb x 0) refl h
+  where
+    go : (b : Bool) → eqb x 0 ≡ b → (x ≡ 0) ⊎ (x ≡ n) → cond (not (eqb x 0)) n 0 ≡ x
+    go true e q = rw e (sym (eqb-true x 0 e))
+    go false e q = rw e (⊎-elim (λ (z : x ≡ 0). absurd (eqb-false x 0 e z)) (λ (w : x ≡ n). sym w) q)
+
+pub kept : (c : Content) → Kept c → contentOf (planOf c) ≡ c
+unfolding contentOf planOf row taskOf
+kept c k =
+    content-ext
+    (contentOf (planOf c))
+    c
+    refl
+    refl
+    (kept-row (c .tasks .task) noTask (c .tasks .count) 16 (k .tasks-high) (k .task-past))
+    (kept-row (c .label) 0 (c .tasks .cores) 8 (k .cores-high) (k .label-past))
+    (kept-offers (c .offers) (c .tasks .count) (k .offers))
+    (kept-row (c .slack) 0 (c .tasks .count) 16 (k .tasks-high) (k .slack-past))
+
+module _ (p : Plan) (m : p .cores ≤ 8) (n : p .tasks ≤ 16) where
+  pub kept-plan : Kept (contentOf p)
+  unfolding contentOf
+  kept-plan =
+      record {
+        cores-high = m;
+        tasks-high = n;
+        label-past = cut-above (p .cores) (row (p .labels)) 0;
+        task-past = cut-above (p .tasks) (taskOf (p .task)) noTask;
+        slack-past = cut-above (p .tasks) (row (p .slack)) 0;
+        offers = mark (p .offered);
+      }
+    where
+      mark : (b : Bool) → (cond b (p .tasks) 0 ≡ 0) ⊎ (cond b (p .tasks) 0 ≡ p .tasks)
+      mark true = inr refl
+      mark false = inl refl
+
+  pub content-tidy : contentOf (tidy p) ≡ contentOf p
+  unfolding tidy
+  content-tidy = kept (contentOf p) kept-plan
+
+  pub tidy-tidy : tidy (tidy p) ≡ tidy p
+  unfolding tidy
+  tidy-tidy = ap planOf content-tidy
+
+pub mark-kept : (b : Bool) (n : ℕ) → 1 ≤ n → not (eqb (cond b n 0) 0) ≡ b
+mark-kept true n h = rw (ne-eqb n 0 (λ z. omega arith))
+mark-kept false n h = refl
+
+pub tidied-code :
+    (p : Plan) (labels slack : List ℕ) (task : List Task) → 1 ≤ p .tasks
+    → labels ≡ tab (cut (p .cores) (row (p .labels)) 0) 8
+    → task ≡ tab (cut (p .tasks) (taskOf (p .task)) noTask) 16
+    → slack ≡ tab (cut (p .tasks) (row (p .slack)) 0) 16
+    → _≡_ {A = Plan} (record { offered = p .offered; cores = p .cores; tasks = p .tasks; labels = labels; task = task; slack = slack }) (tidy p)
+unfolding tidy planOf contentOf
+tidied-code p labels slack task n e f g =
+    λ i.
+    record {
+      offered = sym (mark-kept (p .offered) (p .tasks) n) i;
+      cores = p .cores;
+      tasks = p .tasks;
+      labels = e i;
+      task = f i;
+      slack = g i;
+    }
+
+-- ---- a task of zeros
+
+both : (a b : Bool) → a && b ≡ true → (a ≡ true) × (b ≡ true)
+both true b e = (refl, e)
+both false b e = (e, absurd (false≢true e))
+
+pub zero-task : (t : Task) → zeroTask t ≡ true → t ≡ noTask
+unfolding zeroTask noTask
+zero-task t e =
+    let a = both _ _ e in
+    let b = both _ _ (a .1) in
+    let s = eqb-true (t .separation) 0 (a .0) in
+    let c = eqb-true (t .budget) 0 (b .0) in
+    let o = eqb-true (t .offset) 0 (b .1) in
+    λ i. record { separation = s i; budget = c i; offset = o i }
+
+pub no-task : (t : Task) → t ≡ noTask → zeroTask t ≡ true
+unfolding zeroTask noTask
+no-task t e = rw e
