@@ -1,0 +1,110 @@
+-- Laws of plans and of contents as records: the only ones that write out a plan's or a content's fields.
+--     plan-ext        plans with equal fields are the same
+--     content-ext     contents with the same numbers and rows are the same
+--     withSlack       a plan with this slack in place of its own
+--     kept-tasks, kept-labels    the plan of a content whose rows are zero past the counts, with whatever slack, says its tasks and labels
+--     Kept            the content's counts are within a plan's arrays, and its rows are zero past the counts
+--     kept            the plan of such a content says it
+--     kept-plan       what a plan says is kept
+use Prim.Native.Nat.{ℕ, _≤_}
+use mathlib.Core.Path.{_≡_, refl, sym, fun-ext, _∙_}
+use mathlib.Core.Bool.{Bool, true, false, cond, not}
+use mathlib.Core.List.{List}
+use mathlib.Core.Logic.{_⊎_, inl, inr, ⊎-elim}
+use native.Mathlib.Omega.{arith}
+use lib.ListN.{getD}
+use lib.Dec.{ltb, eqb}
+use borrow.Author.Tests.{ltb-true, ltb-false, eqb-true, eqb-false}
+use Rattle.laws.specs.Tab.{tab, cut}
+use Rattle.laws.specs.TabLaws.{getD-tab, cut-below, cut-above}
+use Rattle.tasks.specs.declared.Plan.{Plan}
+use Rattle.tasks.specs.TaskSet.{TaskSet, row}
+use Rattle.tasks.specs.Content.{Content, noTask, taskOf, contentOf, planOf}
+
+pub plan-ext :
+    (p q : Plan) → p .offered ≡ q .offered → p .cores ≡ q .cores → p .tasks ≡ q .tasks
+    → p .labels ≡ q .labels → p .task ≡ q .task → p .slack ≡ q .slack → p ≡ q
+plan-ext p q o m n l t x = λ i. record { offered = o i; cores = m i; tasks = n i; labels = l i; task = t i; slack = x i }
+
+set-ext : (s u : TaskSet) → s .cores ≡ u .cores → s .count ≡ u .count → ((i : ℕ) → s .task i ≡ u .task i) → s ≡ u
+set-ext s u m n t = λ i. record { cores = m i; count = n i; task = λ k. t k i }
+
+pub content-ext :
+    (c d : Content) → c .tasks ≡ d .tasks → c .label ≡ d .label → c .offers ≡ d .offers → c .slack ≡ d .slack → c ≡ d
+content-ext c d t l o s = λ i. record { tasks = t i; label = l i; offers = o i; slack = s i }
+
+unfoldable pub withSlack : Plan → List ℕ → Plan
+withSlack p x =
+    record { offered = p .offered; cores = p .cores; tasks = p .tasks; labels = p .labels; task = p .task; slack = x }
+
+-- a row that is z from n on, kept in a list of N, and read below n again
+kept-row : {A : Type 0} (f : ℕ → A) (z : A) (n N : ℕ) → n ≤ N → ((i : ℕ) → n ≤ i → f i ≡ z) → (i : ℕ) → cut n (λ j. getD (tab f N) j z) z i ≡ f i
+kept-row f z n N h past i = go (ltb i n) refl
+  where
+    go : (b : Bool) → ltb i n ≡ b → cut n (λ j. getD (tab f N) j z) z i ≡ f i
+    go true e =
+        let l = ltb-true i n e in
+        cut-below n (λ j. getD (tab f N) j z) z i l ∙ getD-tab f N i z (omega arith)
+    go false e =
+        let l = ltb-false i n e in
+        cut-above n (λ j. getD (tab f N) j z) z i l ∙ sym (past i l)
+
+-- the mark keeps a count that is 0 or n
+kept-offers : (x n : ℕ) → (x ≡ 0) ⊎ (x ≡ n) → cond (not (eqb x 0)) n 0 ≡ x
+kept-offers x n h = go (eqb x 0) refl h
+  where
+    go : (b : Bool) → eqb x 0 ≡ b → (x ≡ 0) ⊎ (x ≡ n) → cond (not (eqb x 0)) n 0 ≡ x
+    go true e q = rw e (sym (eqb-true x 0 e))
+    go false e q = rw e (⊎-elim (λ (z : x ≡ 0). absurd (eqb-false x 0 e z)) (λ (w : x ≡ n). sym w) q)
+
+pub kept-slack : (x : ℕ → ℕ) (n : ℕ) → n ≤ 16 → ((i : ℕ) → n ≤ i → x i ≡ 0) → cut n (row (tab x 16)) 0 ≡ x
+unfolding row
+kept-slack x n h past = fun-ext (kept-row x 0 n 16 h past)
+
+module _ (c : Content) (x : List ℕ) where
+  pub kept-tasks :
+      c .tasks .count ≤ 16 → ((i : ℕ) → c .tasks .count ≤ i → c .tasks .task i ≡ noTask)
+      → contentOf (withSlack (planOf c) x) .tasks ≡ c .tasks
+  unfolding contentOf withSlack planOf taskOf
+  kept-tasks h past =
+      set-ext (contentOf (withSlack (planOf c) x) .tasks) (c .tasks) refl refl
+      (kept-row (c .tasks .task) noTask (c .tasks .count) 16 h past)
+
+  pub kept-labels :
+      c .tasks .cores ≤ 8 → ((i : ℕ) → c .tasks .cores ≤ i → c .label i ≡ 0) → contentOf (withSlack (planOf c) x) .label ≡ c .label
+  unfolding contentOf withSlack planOf row
+  kept-labels h past = fun-ext (kept-row (c .label) 0 (c .tasks .cores) 8 h past)
+
+pub record Kept (c : Content) : Type 0 where
+  pub cores-high : c .tasks .cores ≤ 8
+  pub tasks-high : c .tasks .count ≤ 16
+  pub label-past : (i : ℕ) → c .tasks .cores ≤ i → c .label i ≡ 0
+  pub task-past : (i : ℕ) → c .tasks .count ≤ i → c .tasks .task i ≡ noTask
+  pub slack-past : (i : ℕ) → c .tasks .count ≤ i → c .slack i ≡ 0
+  pub offers : (c .offers ≡ 0) ⊎ (c .offers ≡ c .tasks .count)
+
+pub kept : (c : Content) → Kept c → contentOf (planOf c) ≡ c
+unfolding contentOf planOf withSlack
+kept c k =
+    content-ext (contentOf (planOf c)) c
+    (kept-tasks c (tab (c .slack) 16) (k .tasks-high) (k .task-past))
+    (kept-labels c (tab (c .slack) 16) (k .cores-high) (k .label-past))
+    (kept-offers (c .offers) (c .tasks .count) (k .offers))
+    (kept-slack (c .slack) (c .tasks .count) (k .tasks-high) (k .slack-past))
+
+module _ (p : Plan) (m : p .cores ≤ 8) (n : p .tasks ≤ 16) where
+  pub kept-plan : Kept (contentOf p)
+  unfolding contentOf
+  kept-plan =
+      record {
+        cores-high = m;
+        tasks-high = n;
+        label-past = cut-above (p .cores) (row (p .labels)) 0;
+        task-past = cut-above (p .tasks) (taskOf (p .task)) noTask;
+        slack-past = cut-above (p .tasks) (row (p .slack)) 0;
+        offers = mark (p .offered);
+      }
+    where
+      mark : (b : Bool) → (cond b (p .tasks) 0 ≡ 0) ⊎ (cond b (p .tasks) 0 ≡ p .tasks)
+      mark true = inr refl
+      mark false = inl refl
