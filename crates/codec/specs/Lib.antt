@@ -1,5 +1,8 @@
 pub mod Bytes
 pub mod Table
+pub mod Counted
 pub mod ByteLaws
-pub mod Stages
-pub mod StageLaws
+pub mod StoreLaws
+pub mod TaskLaws
+pub mod LoadLaws
+pub mod CountedLaws

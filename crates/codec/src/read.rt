@@ -1,16 +1,24 @@
-// The reader's stages: the three counts, then each section's entries. Document 01, "Bytes of a show table".
+// The reader: its one stage, which finds the three counts or refuses, and the loading of each section's entries, which cannot refuse.
+use crate::entry::TASK_SIZE;
+use crate::entry::task_at;
+use crate::numbers::count_at;
+use crate::numbers::number4;
+use crate::places::slack_from;
+use crate::places::table_length;
+use crate::places::tasks_from;
 use tasks::Task;
+use tasks::no_task;
 use tasks::refusal;
 ghost use mathlib.Core.Path.{_≡_};
-ghost use Prim.Native.Nat.{_+_, _*_, _≤_, _<_, min};
+ghost use Prim.Native.Nat.{_+_, _*_, _≤_, min};
 ghost use lib.ListN.{length};
 ghost use Rattle.laws.specs.Tab.{tab, cut};
 ghost use Rattle.tasks.specs.Content.{noTask};
 ghost use Rattle.codec.specs.Bytes.{byte, number};
-ghost use Rattle.codec.specs.Table.{taskIn};
-ghost use Rattle.codec.specs.Stages.{countsIn};
+ghost use Rattle.codec.specs.Table.{taskSize, taskIn};
+ghost use Rattle.codec.specs.Counted.{Counted};
 
-// What the first stage finds: the counts, which give exactly the table's length, or refusal 1 or 2.
+// What the stage finds: the counts, which give exactly the table's length, or refusal 1 or 2.
 pub enum Counts {
     Read {
         cores: usize,
@@ -23,44 +31,6 @@ pub enum Counts {
     },
 }
 
-fn byte_at(t: &[u8], at: usize) -> u32
-    requires { ⌜ at < length (now t) ⌝ }
-    ensures { λ r. ⌜ (r ≡ byte (now (t .entry)) at) × (r < 256) ⌝ }
-{
-    t[at] as u32
-}
-
-// A number of one byte that counts or indexes, as a section's count.
-pub fn count_at(t: &[u8], at: usize) -> usize
-    requires { ⌜ at < length (now t) ⌝ }
-    ensures { λ r. ⌜ (r ≡ byte (now (t .entry)) at) × (r < 256) ⌝ }
-{
-    t[at] as usize
-}
-
-// The number that the four bytes from `at` on stand for.
-pub fn number4(t: &[u8], at: usize) -> u32
-    requires { ⌜ at + 4 ≤ length (now t) ⌝ }
-    ensures { λ r. ⌜ r ≡ number 4 (now (t .entry)) at ⌝ }
-{
-    byte_at(t, at)
-        + 256 * byte_at(t, at + 1)
-        + 65536 * byte_at(t, at + 2)
-        + 16777216 * byte_at(t, at + 3)
-}
-
-// A task's entry of 12 bytes.
-pub fn task_at(t: &[u8], at: usize) -> Task
-    requires { ⌜ at + 12 ≤ length (now t) ⌝ }
-    ensures { λ r. ⌜ r ≡ taskIn (now (t .entry)) at ⌝ }
-{
-    Task {
-        separation: number4(t, at),
-        budget: number4(t, at + 4),
-        offset: number4(t, at + 8),
-    }
-}
-
 fn refused(number: u8) -> Counts
     ensures { λ r. ⌜ r ≡ Counts.Refused number 0 ⌝ }
 {
@@ -69,7 +39,7 @@ fn refused(number: u8) -> Counts
 
 // Refusals 1 and 2, over any bytes.
 pub fn read_counts(t: &[u8]) -> Counts
-    ensures { λ r. ⌜ r ≡ countsIn (now (t .entry)) ⌝ }
+    ensures { λ r. ⌜ Counted (now (t .entry)) r ⌝ }
 {
     if t.len() < 1 {
         return refused(refusal::EDITION);
@@ -81,16 +51,17 @@ pub fn read_counts(t: &[u8]) -> Counts
         return refused(refusal::LENGTH);
     }
     let cores = count_at(t, 1);
-    if t.len() < cores + 3 {
+    let second = tasks_from(cores);
+    if t.len() <= second {
         return refused(refusal::LENGTH);
     }
-    let tasks = count_at(t, cores + 2);
-    let end = cores + 3 + 12 * tasks;
-    if t.len() < end + 1 {
+    let tasks = count_at(t, second);
+    let third = slack_from(cores, tasks);
+    if t.len() <= third {
         return refused(refusal::LENGTH);
     }
-    let offers = count_at(t, end);
-    if t.len() != end + 1 + 4 * offers {
+    let offers = count_at(t, third);
+    if t.len() != table_length(cores, tasks, offers) {
         return refused(refusal::LENGTH);
     }
     Counts::Read {
@@ -123,19 +94,15 @@ pub fn load_labels(t: &[u8], cores: usize) -> [u8; 8]
 
 // The tasks of `count` entries from `from` on, zeros in the places past them.
 pub fn load_tasks(t: &[u8], from: usize, count: usize) -> [Task; 16]
-    requires { ⌜ from + 12 * count ≤ length (now t) ⌝ }
-    ensures { λ r. ⌜ r ≡ tab (cut count (λ i. taskIn (now (t .entry)) (from + 12 * i)) noTask) 16 ⌝ }
+    requires { ⌜ from + taskSize * count ≤ length (now t) ⌝ }
+    ensures { λ r. ⌜ r ≡ tab (cut count (λ i. taskIn (now (t .entry)) (from + taskSize * i)) noTask) 16 ⌝ }
 {
-    let none = Task {
-        separation: 0,
-        budget: 0,
-        offset: 0,
-    };
+    let none = no_task();
     let mut tasks = [none; 16];
     let end = lesser(count, 16);
     let mut i = 0;
     while i < end {
-        tasks[i] = task_at(t, from + 12 * i);
+        tasks[i] = task_at(t, from + TASK_SIZE * i);
         i += 1;
     }
     tasks

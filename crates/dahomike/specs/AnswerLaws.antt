@@ -18,10 +18,10 @@ use Rattle.tasks.specs.Tests.{firstMet, tests}
 use Rattle.tasks.specs.TestsLaws.{tests-limits, tests-bounded}
 use Rattle.tasks.specs.AnswerLaws.{firstMet-passed}
 use Rattle.table.specs.declared.Judgement.{Judgement}
-use Rattle.table.specs.Bytes.{digits, entries}
-use Rattle.table.specs.ByteLaws.{length-digits, length-entries, entries-same}
-use Rattle.table.specs.WriteLaws.{sets-whole}
-use Rattle.table.specs.Table.{taskCount, taskSetIn, contentIn, verdict}
+use Rattle.codec.specs.Bytes.{digits, entries}
+use Rattle.codec.specs.ByteLaws.{length-digits, length-entries, entries-same}
+use Rattle.codec.specs.StoreLaws.{sets-whole}
+use Rattle.codec.specs.Table.{taskCount, taskSetIn, contentIn, verdict}
 use Rattle.table.specs.Judged.{judged}
 use Rattle.replay.specs.declared.run.Ran.{Ran}
 use Rattle.replay.specs.Ran.{runTest, ranOf}

@@ -12,18 +12,16 @@ use lib.ListN.{length, drop}
 use lib.Dec.{ltb}
 use Rattle.tasks.specs.declared.Plan.{Plan}
 use Rattle.tasks.specs.declared.Answer.{Answer}
-use Rattle.tasks.specs.declared.Answer.the-variants.{Accepted, Refused}
 use Rattle.tasks.specs.TaskSet.{bound, row}
 use Rattle.tasks.specs.Content.{Content, taskOf}
-use Rattle.tasks.specs.Tests.{refuse, firstMet, unlessRefused}
-use Rattle.table.specs.Bytes.{digits, entries}
-use Rattle.table.specs.Table.{taskCount, contentIn, verdict}
+use Rattle.tasks.specs.Tests.{refuse, firstMet, numberOf, indexOf, unlessRefused}
+use Rattle.codec.specs.Bytes.{digits, entries}
+use Rattle.codec.specs.Table.{taskCount, contentIn, verdict}
 use Rattle.replay.specs.Ran.{runTest, ranOf}
 
 -- "Each of the two answers one 64-bit number: n for judgement, … and 4,294,967,296 × refusal number + index for a refused call."
 unfoldable pub answerNumber : Answer → ℕ → ℕ
-answerNumber Accepted n = n
-answerNumber (Refused k i) n = 4294967296 * k + i
+answerNumber a n = unlessRefused a n (4294967296 * numberOf a + indexOf a)
 
 -- "24. The buffer lent … to the C judgement is too short, tested after 3 to 13."
 unfoldable pub judgeTest : List ℕ → ℕ → Answer

@@ -5,30 +5,30 @@
 --     log-ticks               and no tick above 1,000,000,000
 --     count-bytes             the count, as a sum of two bytes
 --     count-small, loop-small     the count is below 65,536 and a loop's number below 256, by their width
---     answer-of-entries       the reader's answer is document 01's
 --     read-accepted, read-refused     what each case of the reader's answer says of the log
 --     read-short, read-late, read-all     how the reader's answer follows from what its code has seen
 use Prim.Native.Nat.{ℕ, _+_, _*_, _≤_, _<_}
 use native.Mathlib.Nat.{le-antisymm}
 use native.Mathlib.Omega.{arith}
-use mathlib.Core.Path.{_≡_, refl, sym, ap, _∙_}
+use mathlib.Core.Path.{_≡_, sym, ap, _∙_}
 use mathlib.Core.List.{List, [], _∷_}
 use lib.ListN.{length, getD}
-use lib.Dec.{ltb}
+use lib.Dec.{ltb, lit<}
 use borrow.Author.Tests.{ltb-false, eqb-true, eq-eqb, ne-eqb, not-false}
 use Rattle.laws.specs.First.{first}
 use Rattle.laws.specs.FirstLaws.{first-le}
 use Rattle.laws.specs.TabLaws.{length-tab, getD-tab}
 use Rattle.tasks.specs.declared.Answer.{Answer}
 use Rattle.tasks.specs.declared.Answer.the-variants.{Accepted, Refused}
-use Rattle.tasks.specs.Tests.{firstMet}
+use Rattle.tasks.specs.Tests.{firstMet, unlessRefused}
 use Rattle.tasks.specs.AnswerLaws.{refuse-passed, lowest-passed, lowest-none, lowest-found, firstMet-passed, firstMet-pass, firstMet-stop}
 use Rattle.history.specs.Log.{Entry, noEntry, tickAt, loopAt, demandAt}
 use Rattle.codec.specs.Bytes.{byte, number}
 use Rattle.codec.specs.ByteLaws.{Bytes, number-small}
+use Rattle.logs.specs.declared.read.Entries.{Entries}
 use Rattle.logs.specs.declared.read.Entries.the-variants.{Read, Refused as NotRead}
 use Rattle.logs.specs.LogBytes.{entryCount, entryIn, entriesIn, test14, test15, logTest}
-use Rattle.logs.specs.LogStages.{entriesAs, entriesRead, answerOfEntries}
+use Rattle.logs.specs.LogStages.{answerOfEntries, countOfEntries, EntriesRead}
 
 module _ (l : List ℕ) where
   pub entries-length : length (entriesIn l) ≡ entryCount l
@@ -78,55 +78,49 @@ module _ (l : List ℕ) where
   unfolding entryIn Bytes
   loop-small b e = b (2 + 9 * e + 4)
 
-  pub answer-of-entries : answerOfEntries (entriesRead l) ≡ logTest l
-  unfolding entriesRead answerOfEntries
-  answer-of-entries = go (logTest l)
-    where
-      go : (a : Answer) → answerOfEntries (entriesAs a (entryCount l)) ≡ a
-      go Accepted = refl
-      go (Refused k i) = refl
+  module _ (r : Entries) (g : EntriesRead l r) where
+    pub read-accepted : (n : ℕ) → r ≡ Read n → (n ≡ entryCount l) × (logTest l ≡ Accepted) × (n < 65536)
+    unfolding answerOfEntries countOfEntries
+    read-accepted n q =
+        let a : logTest l ≡ Accepted = sym (g .answer) ∙ ap answerOfEntries q in
+        (sym (ap countOfEntries q) ∙ g .count ∙ rw a, a, rw q at (g .small))
 
-  pub read-accepted : (n : ℕ) → entriesRead l ≡ Read n → (n ≡ entryCount l) × (logTest l ≡ Accepted)
-  unfolding entriesRead
-  read-accepted n q = go (logTest l) refl
-    where
-      go : (a : Answer) → logTest l ≡ a → (n ≡ entryCount l) × (logTest l ≡ Accepted)
-      go Accepted e =
-          let r : Read (entryCount l) ≡ Read n = rw e at q in
-          (cc, e)
-      go (Refused k i) e =
-          let r : NotRead k i ≡ Read n = rw e at q in
-          absurd (let z : _≡_ {A = ℕ} 0 1 = cc in omega arith)
+    pub read-refused : (k i : ℕ) → r ≡ NotRead k i → logTest l ≡ Refused k i
+    unfolding answerOfEntries
+    read-refused k i q = sym (g .answer) ∙ ap answerOfEntries q
 
-  pub read-refused : (k i : ℕ) → entriesRead l ≡ NotRead k i → logTest l ≡ Refused k i
-  unfolding answerOfEntries
-  read-refused k i q = sym answer-of-entries ∙ ap answerOfEntries q
+  module _ (r : Entries) where
+    stopped : (k i : ℕ) → logTest l ≡ Refused k i → r ≡ NotRead k i → EntriesRead l r
+    unfolding answerOfEntries countOfEntries
+    stopped k i e q = rw q (record { answer = sym e; count = rw e; small = lit< tt })
 
-  pub read-short : (length l ≡ 2 + 9 * entryCount l → ⊥) → entriesRead l ≡ NotRead 14 0
-  unfolding entriesRead logTest test14 firstMet
-  read-short h = rw (ne-eqb (length l) (2 + 9 * entryCount l) h)
+    pub read-short : (length l ≡ 2 + 9 * entryCount l → ⊥) → r ≡ NotRead 14 0 → EntriesRead l r
+    unfolding logTest test14 firstMet
+    read-short h = stopped 14 0 (rw (ne-eqb (length l) (2 + 9 * entryCount l) h))
 
-  module _ (n : ℕ) (c : n ≡ entryCount l) (h : length l ≡ 2 + 9 * n) where
-    long : test14 l ≡ Accepted
-    unfolding test14
-    long = rw (eq-eqb (length l) (2 + 9 * entryCount l) (rw c at h))
+    module _ (n : ℕ) (c : n ≡ entryCount l) (h : length l ≡ 2 + 9 * n) where
+      long : test14 l ≡ Accepted
+      unfolding test14
+      long = rw (eq-eqb (length l) (2 + 9 * entryCount l) (rw c at h))
 
-    pub read-late : (e : ℕ) → e ≡ first (λ i. ltb 1000000000 (entryIn l i .tick)) n → e < n → entriesRead l ≡ NotRead 15 e
-    unfolding entriesRead logTest test15
-    read-late e q s =
-        rw (
-          firstMet-pass (test14 l) (test15 l ∷ []) long,
-          firstMet-stop (test15 l) [] 15 e
-              (lowest-found 15 (λ i. ltb 1000000000 (entryIn l i .tick)) (entryCount l) e (sym (rw c at q)) (rw c at s)),
-        )
+      pub read-late : (e : ℕ) → e ≡ first (λ i. ltb 1000000000 (entryIn l i .tick)) n → e < n → r ≡ NotRead 15 e → EntriesRead l r
+      unfolding logTest test15
+      read-late e q s =
+          stopped 15 e
+          (rw (
+            firstMet-pass (test14 l) (test15 l ∷ []) long,
+            firstMet-stop (test15 l) [] 15 e
+                (lowest-found 15 (λ i. ltb 1000000000 (entryIn l i .tick)) (entryCount l) e (sym (rw c at q)) (rw c at s)),
+          ))
 
-    pub read-all : (e : ℕ) → e ≡ first (λ i. ltb 1000000000 (entryIn l i .tick)) n → n ≤ e → entriesRead l ≡ Read n
-    unfolding entriesRead logTest test15 firstMet
-    read-all e q s =
-        let f : first (λ i. ltb 1000000000 (entryIn l i .tick)) (entryCount l) ≡ entryCount l =
-        rw (← c) (le-antisymm (first-le (λ i. ltb 1000000000 (entryIn l i .tick)) n) (rw q at s)) in
-        rw (
-          firstMet-pass (test14 l) (test15 l ∷ []) long,
-          firstMet-pass (test15 l) [] (lowest-none 15 (λ i. ltb 1000000000 (entryIn l i .tick)) (entryCount l) f),
-          c,
-        )
+      pub read-all : (e : ℕ) → e ≡ first (λ i. ltb 1000000000 (entryIn l i .tick)) n → n ≤ e → n < 65536 → r ≡ Read n → EntriesRead l r
+      unfolding logTest test15 firstMet answerOfEntries countOfEntries
+      read-all e q s small k =
+          let f : first (λ i. ltb 1000000000 (entryIn l i .tick)) (entryCount l) ≡ entryCount l =
+          rw (← c) (le-antisymm (first-le (λ i. ltb 1000000000 (entryIn l i .tick)) n) (rw q at s)) in
+          let a : logTest l ≡ Accepted =
+          rw (
+            firstMet-pass (test14 l) (test15 l ∷ []) long,
+            firstMet-pass (test15 l) [] (lowest-none 15 (λ i. ltb 1000000000 (entryIn l i .tick)) (entryCount l) f),
+          ) in
+          rw k (record { answer = sym a; count = c ∙ sym (ap (λ (b : Answer). unlessRefused b (entryCount l) 0) a); small = small })

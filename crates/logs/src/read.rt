@@ -1,6 +1,6 @@
 // The reader of a release log: its count, and its entries one by one.
-use codec::read::count_at;
-use codec::read::number4;
+use codec::numbers::count_at;
+use codec::numbers::number4;
 use tasks::refusal;
 ghost use mathlib.Core.Path.{_≡_};
 ghost use Prim.Native.Nat.{_+_, _*_, _≤_, _<_};
@@ -8,7 +8,7 @@ ghost use lib.ListN.{length};
 ghost use lib.Dec.{ltb};
 ghost use Rattle.laws.specs.First.{first};
 ghost use Rattle.logs.specs.LogBytes.{entryCount, entryIn};
-ghost use Rattle.logs.specs.LogStages.{entriesRead, Small, Releases};
+ghost use Rattle.logs.specs.LogStages.{EntriesRead, Releases};
 
 // "A log tick is above 1,000,000,000."
 const LAST_TICK: u32 = 1_000_000_000;
@@ -57,7 +57,7 @@ fn refused(number: u8, index: u16) -> Entries
 
 // Refusals 14 and 15, over any bytes.
 pub fn read_entries(log: &[u8]) -> Entries
-    ensures { λ r. ⌜ (r ≡ entriesRead (now (log .entry))) × Small r ⌝ }
+    ensures { λ r. ⌜ EntriesRead (now (log .entry)) r ⌝ }
 {
     if log.len() < 2 {
         return refused(refusal::LOG_LENGTH, 0);

@@ -1,5 +1,5 @@
 // The answer's bytes: eight for each entry of the log, kind and value, 4 bytes each.
-use table::put4;
+use codec::numbers::put4;
 ghost use mathlib.Core.Path.{_≡_};
 ghost use mathlib.Core.List.{_++_};
 ghost use Prim.Native.Nat.{_+_, _*_, _≤_};

@@ -11,8 +11,9 @@ ghost use mathlib.Core.List.{List};
 ghost use Prim.Native.Nat.{ℕ};
 ghost use lib.ListN.{length};
 ghost use Rattle.tasks.specs.declared.Plan.{Plan};
+ghost use Rattle.tasks.specs.Tests.{numberOf};
 ghost use Rattle.history.specs.Log.{Entry};
-ghost use Rattle.running.specs.HandLaws.{Handing, Handed, numberOf};
+ghost use Rattle.running.specs.HandLaws.{Handing, Handed};
 ghost use Rattle.running.specs.EnterCode.{Entering, Enters};
 ghost use Rattle.replay.specs.declared.entry.Place.{Place};
 

@@ -1,13 +1,11 @@
 -- A content's bytes, read back.
 --     back-cores, back-tasks, back-offers, back-tasks-at, back-slack-at    the counts and places in them
---     back-label, back-task, back-slack                                     the entries; a task and a slack of 32 bits
---     Narrow           the numbers of a content that its bytes have four for are below 2 ^ 32
---     passed-narrow    they are in a content that meets none of 3 to 13
+--     back-label, back-task, back-slack                                     the entries
 --     read-back        such a content, kept by a plan and with the found slack where none is offered, is read back from its bytes
 use Prim.Native.Nat.{ℕ, _+_, _*_, _^_, _≤_, _<_}
-use native.Mathlib.Nat.{add-zero}
+use native.Mathlib.Nat.{zero-add}
 use native.Mathlib.Omega.{arith}
-use mathlib.Core.Path.{_≡_, refl, sym, _∙_}
+use mathlib.Core.Path.{_≡_, refl, sym, fun-ext, _∙_}
 use mathlib.Core.Bool.{Bool, true, false, cond}
 use mathlib.Core.List.{List, [], _∷_, _++_, append-assoc, append-nil}
 use mathlib.Core.Logic.{_⊎_, ⊎-elim}
@@ -17,16 +15,15 @@ use lib.Dec.{ltb, eqb}
 use borrow.Author.Tests.{ltb-true, ltb-false, eqb-true, eqb-false}
 use Rattle.laws.specs.Tab.{cut}
 use Rattle.laws.specs.TabLaws.{cut-below, cut-above}
-use Rattle.tasks.specs.declared.Task.{Task}
 use Rattle.tasks.specs.TaskSet.{found, row, bound}
 use Rattle.tasks.specs.Content.{Content, noTask}
 use Rattle.tasks.specs.Limits.{Bounded}
 use Rattle.tasks.specs.TestsLaws.{Passed}
 use Rattle.tasks.specs.FoundLaws.{found-past}
 use Rattle.codec.specs.Bytes.{byte, number, digits, entries}
-use Rattle.codec.specs.Table.{coreCount, taskCount, tasksAt, slackCount, slackAt, taskIn, taskSetIn, contentIn, taskBytes, bytesOf}
-use Rattle.codec.specs.ByteLaws.{number-after, number-digits, number-digits-at, length-digits, length-entries, byte-entries, number-entries}
-use Rattle.table.specs.WriteLaws.{length-task}
+use Rattle.codec.specs.Table.{taskSize, tasksFrom, slackFrom, coreCount, taskCount, tasksAt, slackCount, slackAt, taskIn, taskSetIn, contentIn, taskBytes, bytesOf}
+use Rattle.codec.specs.ByteLaws.{number-after, number-digits, length-digits, length-entries, byte-entries, number-entries}
+use Rattle.codec.specs.TaskLaws.{length-task, task-same, limits-narrow, task-back}
 use Rattle.tasks.specs.ContentLaws.{content-ext, Kept}
 
 -- the edition and the cores' section of a content's bytes
@@ -49,29 +46,12 @@ label-entry f m i rest h =
 digits-alone : (v : ℕ) → v < 256 ^ 4 → number 4 (digits 4 v) 0 ≡ v
 digits-alone v h = rw append-nil at (number-digits 4 v [] [] h)
 
--- the three numbers of a task's entry
-task-separation : (k : Task) → k .separation < 256 ^ 4 → number 4 (taskBytes k) 0 ≡ k .separation
-unfolding taskBytes
-task-separation k h = rw append-assoc (number-digits 4 (k .separation) [] _ h)
-
-task-budget : (k : Task) → k .budget < 256 ^ 4 → number 4 (taskBytes k) 4 ≡ k .budget
-unfolding taskBytes
-task-budget k h = rw append-assoc (number-digits-at 4 (k .budget) (digits 4 (k .separation)) _ 4 (length-digits 4 _) h)
-
-task-offset : (k : Task) → k .offset < 256 ^ 4 → number 4 (taskBytes k) 8 ≡ k .offset
-unfolding taskBytes
-task-offset k h =
-    rw (← (append-nil (digits 4 (k .offset))))
-    (number-digits-at 4 (k .offset) (digits 4 (k .separation) ++ digits 4 (k .budget)) [] 8
-    (omega (arith, length-append (digits 4 (k .separation)) (digits 4 (k .budget)), length-digits 4 (k .separation), length-digits 4 (k .budget)))
-    h)
-
 module _ (c : Content) where
-  length-front : length (front c) ≡ 2 + c .tasks .cores
+  length-front : length (front c) ≡ tasksFrom (c .tasks .cores)
   length-front = omega (arith, length-entries 1 (λ i. c .label i ∷ []) (λ i. refl) (c .tasks .cores))
 
-  length-tasks : length (taskEntries c) ≡ 12 * c .tasks .count
-  length-tasks = length-entries 12 (λ i. taskBytes (c .tasks .task i)) (λ i. length-task _) (c .tasks .count)
+  length-tasks : length (taskEntries c) ≡ taskSize * c .tasks .count
+  length-tasks = length-entries taskSize (λ i. taskBytes (c .tasks .task i)) (λ i. length-task _) (c .tasks .count)
 
   -- the bytes, from the first count after the cores on
   at-tasks : bytesOf c ≡ front c ++ (c .tasks .count ∷ (taskEntries c ++ (c .offers ∷ slackEntries c)))
@@ -97,24 +77,24 @@ module _ (c : Content) where
 
   pub back-tasks : taskCount (bytesOf c) ≡ c .tasks .count
   unfolding taskCount byte
-  back-tasks = rw (back-cores, at-tasks) (getD-at (front c) (c .tasks .count) _ 0 (2 + c .tasks .cores) length-front)
+  back-tasks = rw (back-cores, at-tasks) (getD-at (front c) (c .tasks .count) _ 0 (tasksFrom (c .tasks .cores)) length-front)
 
-  pub back-tasks-at : tasksAt (bytesOf c) ≡ 3 + c .tasks .cores
+  pub back-tasks-at : tasksAt (bytesOf c) ≡ tasksFrom (c .tasks .cores) + 1
   unfolding tasksAt
   back-tasks-at = rw back-cores
 
-  pub back-slack-at : slackAt (bytesOf c) ≡ 3 + c .tasks .cores + 12 * c .tasks .count + 1
+  pub back-slack-at : slackAt (bytesOf c) ≡ slackFrom (c .tasks .cores) (c .tasks .count) + 1
   unfolding slackAt
-  back-slack-at = rw (back-tasks-at, back-tasks)
+  back-slack-at = rw (back-cores, back-tasks)
 
-  length-middle : length (front c ++ (c .tasks .count ∷ taskEntries c)) ≡ 3 + c .tasks .cores + 12 * c .tasks .count
+  length-middle : length (front c ++ (c .tasks .count ∷ taskEntries c)) ≡ slackFrom (c .tasks .cores) (c .tasks .count)
   length-middle = simp length-append (omega (arith, length-front, length-tasks))
 
   pub back-offers : slackCount (bytesOf c) ≡ c .offers
   unfolding slackCount byte
   back-offers =
-      rw (back-tasks-at, back-tasks, at-slack)
-      (getD-at (front c ++ (c .tasks .count ∷ taskEntries c)) (c .offers) _ 0 (3 + c .tasks .cores + 12 * c .tasks .count) length-middle)
+      rw (back-cores, back-tasks, at-slack)
+      (getD-at (front c ++ (c .tasks .count ∷ taskEntries c)) (c .offers) _ 0 (slackFrom (c .tasks .cores) (c .tasks .count)) length-middle)
 
   pub back-label : (i : ℕ) → i < c .tasks .cores → byte (bytesOf c) (2 + i) ≡ c .label i
   unfolding byte
@@ -124,43 +104,32 @@ module _ (c : Content) where
       (getD-append-add (1 ∷ c .tasks .cores ∷ []) (entries (λ j. c .label j ∷ []) (c .tasks .cores) ++ rest) i 0
       ∙ label-entry (c .label) (c .tasks .cores) i rest h)
 
-  -- the number at o in the entry of task i
-  back-field :
-      (i o : ℕ) → i < c .tasks .count → o + 4 ≤ 12
-      → number 4 (bytesOf c) (3 + c .tasks .cores + 12 * i + o) ≡ number 4 (taskBytes (c .tasks .task i)) o
-  back-field i o h l =
-      let place : 3 + c .tasks .cores + 12 * i + o ≡ length (front c ++ c .tasks .count ∷ []) + (12 * i + o) =
+  -- the byte at d in the entry of task i
+  back-byte :
+      (i d : ℕ) → i < c .tasks .count → d < taskSize
+      → byte (bytesOf c) (tasksFrom (c .tasks .cores) + 1 + taskSize * i + d) ≡ byte (taskBytes (c .tasks .task i)) d
+  unfolding byte
+  back-byte i d h l =
+      let place : tasksFrom (c .tasks .cores) + 1 + taskSize * i + d ≡ length (front c ++ c .tasks .count ∷ []) + (taskSize * i + d) =
       omega (arith, length-append (front c) (c .tasks .count ∷ []), length-front) in
       rw (in-tasks, place)
-      (number-after 4 (front c ++ c .tasks .count ∷ []) _ (12 * i + o)
-      ∙ number-entries 12 (λ j. taskBytes (c .tasks .task j)) (λ j. length-task _) 4 (c .tasks .count) i o _ h l)
+      (getD-append-add (front c ++ c .tasks .count ∷ []) _ (taskSize * i + d) 0
+      ∙ byte-entries taskSize (λ j. taskBytes (c .tasks .task j)) (λ j. length-task _) (c .tasks .count) i d _ h l)
 
   pub back-slack :
       (i : ℕ) → i < c .offers → c .slack i < 256 ^ 4
-      → number 4 (bytesOf c) (3 + c .tasks .cores + 12 * c .tasks .count + 1 + 4 * i) ≡ c .slack i
+      → number 4 (bytesOf c) (slackFrom (c .tasks .cores) (c .tasks .count) + 1 + 4 * i) ≡ c .slack i
   back-slack i h small =
-      let place : 3 + c .tasks .cores + 12 * c .tasks .count + 1 + 4 * i ≡ length (front c ++ (c .tasks .count ∷ taskEntries c) ++ c .offers ∷ []) + (4 * i + 0) =
+      let place : slackFrom (c .tasks .cores) (c .tasks .count) + 1 + 4 * i ≡ length (front c ++ (c .tasks .count ∷ taskEntries c) ++ c .offers ∷ []) + (4 * i + 0) =
       omega (arith, length-append (front c ++ (c .tasks .count ∷ taskEntries c)) (c .offers ∷ []), length-middle) in
       rw (in-slack, place)
       (number-after 4 (front c ++ (c .tasks .count ∷ taskEntries c) ++ c .offers ∷ []) _ (4 * i + 0)
       ∙ number-entries 4 (λ j. digits 4 (c .slack j)) (λ j. length-digits 4 _) 4 (c .offers) i 0 _ h (omega arith)
       ∙ digits-alone (c .slack i) small)
 
-pub record Narrow (c : Content) : Type 0 where
-  pub separation : (i : ℕ) → i < c .tasks .count → c .tasks .task i .separation < 256 ^ 4
-  pub budget : (i : ℕ) → i < c .tasks .count → c .tasks .task i .budget < 256 ^ 4
-  pub offset : (i : ℕ) → i < c .tasks .count → c .tasks .task i .offset < 256 ^ 4
-  pub slack : (i : ℕ) → i < c .tasks .count → c .slack i < 256 ^ 4
-
-pub passed-narrow : (c : Content) → Passed c → Narrow c
+slack-narrow : (c : Content) → Passed c → (i : ℕ) → i < c .tasks .count → c .slack i < 256 ^ 4
 unfolding Bounded bound
-passed-narrow c q =
-    record {
-      separation = λ i h. omega (arith, q .limits .separation-high i h);
-      budget = λ i h. omega (arith, q .limits .separation-high i h, q .limits .budget-high i h);
-      offset = λ i h. omega (arith, q .limits .separation-high i h, q .limits .offset-high i h);
-      slack = λ i h. omega (arith, q .limits .separation-high i h, q .bounded i h);
-    }
+slack-narrow c q i h = omega (arith, q .limits .separation-high i h, q .bounded i h)
 
 -- a row cut off at n, of which it is known what it is below n, and which is z from n on
 cut-row :
@@ -177,21 +146,14 @@ cut-row n m f g z e below past i = go (ltb i m) refl
         cut-above n f z i (omega arith) ∙ sym (past i h)
 
 module _ (c : Content) (k : Kept c) (q : Passed c) where
-  narrow : Narrow c
-  narrow = passed-narrow c q
-
-  pub back-task : (i : ℕ) → i < c .tasks .count → taskIn (bytesOf c) (tasksAt (bytesOf c) + 12 * i) ≡ c .tasks .task i
-  unfolding taskIn
+  pub back-task : (i : ℕ) → i < c .tasks .count → taskIn (bytesOf c) (tasksAt (bytesOf c) + taskSize * i) ≡ c .tasks .task i
   back-task i h =
-      let e1 : number 4 (bytesOf c) (tasksAt (bytesOf c) + 12 * i) ≡ c .tasks .task i .separation =
-      rw (back-tasks-at c) (rw add-zero at (back-field c i 0 h (omega arith)) ∙ task-separation _ (narrow .separation i h)) in
-      let e2 : number 4 (bytesOf c) (tasksAt (bytesOf c) + 12 * i + 4) ≡ c .tasks .task i .budget =
-      rw (back-tasks-at c) (back-field c i 4 h (omega arith) ∙ task-budget _ (narrow .budget i h)) in
-      let e3 : number 4 (bytesOf c) (tasksAt (bytesOf c) + 12 * i + 8) ≡ c .tasks .task i .offset =
-      rw (back-tasks-at c) (back-field c i 8 h (omega arith) ∙ task-offset _ (narrow .offset i h)) in
-      λ j. record { separation = e1 j; budget = e2 j; offset = e3 j }
+      rw (back-tasks-at c)
+      (task-same (bytesOf c) (taskBytes (c .tasks .task i)) (tasksFrom (c .tasks .cores) + 1 + taskSize * i) 0
+      (λ d l. rw zero-add (back-byte c i d h l))
+      ∙ task-back (c .tasks .task i) (limits-narrow (c .tasks) (q .limits) i h))
 
-  back-row : (i : ℕ) → cut (taskCount (bytesOf c)) (λ j. taskIn (bytesOf c) (tasksAt (bytesOf c) + 12 * j)) noTask i ≡ c .tasks .task i
+  back-row : (i : ℕ) → cut (taskCount (bytesOf c)) (λ j. taskIn (bytesOf c) (tasksAt (bytesOf c) + taskSize * j)) noTask i ≡ c .tasks .task i
   back-row = cut-row _ (c .tasks .count) _ (c .tasks .task) noTask (back-tasks c) back-task (k .task-past)
 
   back-set : taskSetIn (bytesOf c) ≡ c .tasks
@@ -210,7 +172,7 @@ module _ (c : Content) (k : Kept c) (q : Passed c) where
   back-offered : c .offers ≡ c .tasks .count → (i : ℕ) → cut (taskCount (bytesOf c)) (λ j. number 4 (bytesOf c) (slackAt (bytesOf c) + 4 * j)) 0 i ≡ c .slack i
   back-offered o =
       cut-row _ (c .tasks .count) _ (c .slack) 0 (back-tasks c)
-      (λ i h. rw (back-slack-at c) (back-slack c i (omega arith) (narrow .slack i h)))
+      (λ i h. rw (back-slack-at c) (back-slack c i (omega arith) (slack-narrow c q i h)))
       (k .slack-past)
 
   back-row-slack : (i : ℕ) → contentIn (bytesOf c) .slack i ≡ c .slack i
@@ -231,9 +193,9 @@ module _ (c : Content) (k : Kept c) (q : Passed c) where
           (⊎-elim (λ (z : c .offers ≡ 0). absurd (eqb-false _ _ e z)) (λ (w : c .offers ≡ c .tasks .count). back-offered w i) o)
 
   pub read-back : contentIn (bytesOf c) ≡ c
-  unfolding contentIn taskSetIn
+  unfolding contentIn
   read-back =
-      content-ext (contentIn (bytesOf c)) c (back-cores c) (back-tasks c) back-row
-      (cut-row _ (c .tasks .cores) _ (c .label) 0 (back-cores c) (back-label c) (k .label-past))
+      content-ext (contentIn (bytesOf c)) c back-set
+      (fun-ext (cut-row _ (c .tasks .cores) _ (c .label) 0 (back-cores c) (back-label c) (k .label-past)))
       (back-offers c)
-      back-row-slack
+      (fun-ext back-row-slack)

@@ -1,4 +1,3 @@
-pub mod KeptLaws
 pub mod SectionLaws
 pub mod BackLaws
 pub mod RoundTrip

@@ -6,12 +6,15 @@
 --     verdict-back, judged-back    and is accepted, with zeros in its unused places; same-back: as the same plan
 --     judged-again      a plan that was judged, written and judged again is that plan
 --     write-accepts     with room for its bytes a plan is written exactly if it meets none of 3 to 13
-use Prim.Native.Nat.{ℕ, _+_, _*_, _≤_}
+--     table-again       the plan of an accepted table, handed to `write` with room for it, leaves the table and then the buffer's later bytes
+--     leftBy            the bytes that a write leaves
+--     plan-again        handed to `judge`, they are accepted as the same plan, with zeros in its unused places
+use Prim.Native.Nat.{ℕ, _≤_}
 use mathlib.Core.Path.{_≡_, refl, sym, ap, _∙_}
-use mathlib.Core.List.{List}
+use mathlib.Core.List.{List, _++_}
 use mathlib.Core.Logic.{_↔_}
-use native.Mathlib.Omega.{arith}
-use lib.ListN.{length}
+use lib.ListN.{length, take, drop}
+use lib.Seq.{take-at}
 use borrow.Author.Tests.{le-ltb}
 use Rattle.tasks.specs.declared.Plan.{Plan}
 use Rattle.tasks.specs.declared.Answer.{Answer}
@@ -19,17 +22,16 @@ use Rattle.tasks.specs.declared.Answer.the-variants.{Accepted, Refused}
 use Rattle.tasks.specs.Content.{contentOf, planOf, tidy, Same}
 use Rattle.tasks.specs.Tests.{orNext, firstMet, tests, testPlan}
 use Rattle.tasks.specs.TestsLaws.{Passed, tests-passed}
+use Rattle.tasks.specs.AnswerLaws.{firstMet-passed}
 use Rattle.table.specs.declared.Judgement.{Judgement}
-use Rattle.table.specs.declared.Written.the-variants.{Length}
-use Rattle.codec.specs.Table.{slackCount, slackAt, taskSetIn, contentIn, verdict, bytesOf}
-use Rattle.table.specs.Judged.{judged, writeTest, writtenAs, written}
+use Rattle.codec.specs.Table.{countedLength, taskSetIn, contentIn, verdict, bytesOf}
+use Rattle.table.specs.Judged.{judged, writeTest, writtenLength, writtenTo}
 use Rattle.codec.specs.Bytes.{byte}
 use Rattle.codec.specs.ByteLaws.{Bytes}
 use Rattle.tasks.specs.ContentLaws.{Kept, kept, kept-plan}
-use Rattle.roundtrip.specs.KeptLaws.{kept-table}
-use Rattle.roundtrip.specs.SectionLaws.{Parts, verdict-parts, parts-verdict, table-parts, labels-again, tasks-again, slack-again}
+use Rattle.roundtrip.specs.SectionLaws.{Parts, verdict-parts, parts-verdict, table-parts, labels-again, tasks-again, slack-again, kept-table}
 use Rattle.table.specs.WriteLaws.{length-bytes}
-use Rattle.roundtrip.specs.BackLaws.{back-offers, back-slack-at, read-back}
+use Rattle.roundtrip.specs.BackLaws.{back-cores, back-tasks, back-offers, read-back}
 
 module _ (t : List ℕ) (a : verdict t ≡ Accepted) where
   parts : Parts t
@@ -69,8 +71,8 @@ module _ (p : Plan) (a : testPlan p ≡ Accepted) where
   unfolding byte bytesOf
   back-edition = refl
 
-  back-long : length (bytesOf (contentOf p)) ≡ slackAt (bytesOf (contentOf p)) + 4 * slackCount (bytesOf (contentOf p))
-  back-long = rw (back-slack-at (contentOf p), back-offers (contentOf p)) (omega (arith, length-bytes (contentOf p)))
+  back-long : length (bytesOf (contentOf p)) ≡ countedLength (bytesOf (contentOf p))
+  back-long = rw (back-cores (contentOf p), back-tasks (contentOf p), back-offers (contentOf p)) (length-bytes (contentOf p))
 
   pub verdict-back : verdict (bytesOf (contentOf p)) ≡ Accepted
   unfolding testPlan
@@ -100,7 +102,8 @@ judged-again t a =
     ∙ ap (λ (p : Plan). record { answer = Accepted; plan = p }) (judged-tidy t a)
     ∙ sym (judged-accepted t a)
 
--- the writer's answer is a length, or a refusal
+-- ---- the calls: what `write` answers and leaves behind, and what `judge` answers to it
+
 module _ (p : Plan) (room : ℕ) (fits : length (bytesOf (contentOf p)) ≤ room) where
   roomy : writeTest p room ≡ testPlan p
   unfolding writeTest firstMet
@@ -110,10 +113,35 @@ module _ (p : Plan) (room : ℕ) (fits : length (bytesOf (contentOf p)) ≤ room
       last Accepted = refl
       last (Refused k i) = refl
 
-  pub write-accepts : (written p room ≡ Length (length (bytesOf (contentOf p)))) ↔ (testPlan p ≡ Accepted)
-  unfolding written
-  write-accepts = rw roomy (go (testPlan p))
-    where
-      go : (b : Answer) → (writtenAs b (length (bytesOf (contentOf p))) ≡ Length (length (bytesOf (contentOf p)))) ↔ (b ≡ Accepted)
-      go Accepted = (λ e. refl, λ e. refl)
-      go (Refused k i) = (λ e. cc, λ e. cc)
+  pub write-accepts : (writeTest p room ≡ Accepted) ↔ (testPlan p ≡ Accepted)
+  write-accepts = (λ e. sym roomy ∙ e, λ e. roomy ∙ e)
+
+-- "an accepted table is rewritten byte by byte", to any buffer that is long enough
+module _ (t : List ℕ) (a : verdict t ≡ Accepted) (b : Bytes t) (out : List ℕ) (fits : length t ≤ length out) where
+  pub table-again :
+      (writeTest (judged t .plan) (length out) ≡ Accepted)
+      × (writtenLength (judged t .plan) (length out) ≡ length t)
+      × (writtenTo (judged t .plan) out ≡ t ++ drop (length t) out)
+  unfolding writtenLength writtenTo testPlan
+  table-again =
+      let w = judged-rewritten t a b in
+      let e : writeTest (judged t .plan) (length out) ≡ Accepted =
+      roomy (judged t .plan) (length out) (rw w fits) ∙ ap tests (judged-kept t a) ∙ verdict-parts t a .content in
+      (e, rw (e, w), rw (e, w))
+
+-- the bytes that a write of a plan leaves in a buffer, as many as it answers
+unfoldable pub leftBy : Plan → List ℕ → List ℕ
+leftBy p out = take (writtenLength p (length out)) (writtenTo p out)
+
+-- "a plan written reads back as that plan"
+module _ (p : Plan) (out : List ℕ) (a : writeTest p (length out) ≡ Accepted) where
+  tested : testPlan p ≡ Accepted
+  unfolding writeTest
+  tested = firstMet-passed (testPlan p) _ a .0
+
+  left-are : leftBy p out ≡ bytesOf (contentOf p)
+  unfolding leftBy writtenLength writtenTo
+  left-are = rw a (take-at (bytesOf (contentOf p)) _ _ refl)
+
+  pub plan-again : (judged (leftBy p out) ≡ record { answer = Accepted; plan = tidy p }) × Same p (judged (leftBy p out) .plan)
+  plan-again = (rw left-are (judged-back p tested), rw left-are (same-back p tested))

@@ -2,30 +2,38 @@
 --     verdict-parts      an accepted table has the edition, the length that its counts give, and content that passes 3 to 13
 --     parts-verdict      a table that has these is accepted
 --     table-parts        a table of that length is its edition, its counts and the bytes of its sections
---     task-part          the bytes of the task read at a place are the 12 bytes from there on
+--     kept-table         what a table says that meets none of 3 to 13 is kept by a plan
 --     slack-read         offered slack, as the content has it
 --     labels-again, tasks-again, slack-again    the entries written of what is read are the sections' bytes
-use Prim.Native.Nat.{ℕ, suc, _+_, _*_, _≤_, _<_}
+use Prim.Native.Nat.{ℕ, suc, _+_, _*_, _<_}
 use native.Mathlib.Nat.{one-mul}
 use native.Mathlib.Omega.{arith}
 use mathlib.Core.Path.{_≡_, refl, sym, ap, _∙_}
+use mathlib.Core.Bool.{Bool, true, false, cond}
 use mathlib.Core.List.{List, [], _∷_, _++_, append-assoc}
 use mathlib.Core.Logic.{_⊎_, ⊎-elim}
 use lib.ListN.{length, take, drop, take-append-drop, length-drop}
-use lib.Seq.{drop-cons, take-all, take-add, drop-drop}
+use lib.Seq.{drop-cons, take-all, drop-drop}
+use lib.Dec.{eqb}
 use borrow.Author.Tests.{eqb-true, not-false, eq-eqb, ne-eqb}
-use Rattle.laws.specs.TabLaws.{cut-below}
+use Rattle.laws.specs.Tab.{cut}
+use Rattle.laws.specs.TabLaws.{cut-below, cut-above}
 use Rattle.tasks.specs.declared.Answer.the-variants.{Accepted}
+use Rattle.tasks.specs.TaskSet.{found, row}
 use Rattle.tasks.specs.Content.{noTask}
 use Rattle.tasks.specs.Tests.{firstMet, tests}
+use Rattle.tasks.specs.TestsLaws.{Passed, tests-passed}
+use Rattle.tasks.specs.FoundLaws.{found-past}
 use Rattle.tasks.specs.AnswerLaws.{refuse-passed, firstMet-passed}
 use Rattle.codec.specs.Bytes.{byte, number, digits, entries}
-use Rattle.codec.specs.Table.{coreCount, taskCount, tasksAt, slackCount, slackAt, taskIn, taskSetIn, contentIn, test1, test2, verdict, taskBytes}
+use Rattle.codec.specs.Table.{taskSize, tasksFrom, slackFrom, tableLength, countedLength, coreCount, taskCount, tasksAt, slackCount, slackAt, taskIn, taskSetIn, contentIn, test1, test2, verdict, taskBytes}
 use Rattle.codec.specs.ByteLaws.{Bytes, digits-number, entries-same, entries-parts}
+use Rattle.codec.specs.TaskLaws.{task-again}
+use Rattle.tasks.specs.ContentLaws.{Kept}
 
 pub record Parts (t : List ℕ) : Type 0 where
   pub edition : byte t 0 ≡ 1
-  pub long : length t ≡ slackAt t + 4 * slackCount t
+  pub long : length t ≡ countedLength t
   pub content : tests (contentIn t) ≡ Accepted
 
 pub verdict-parts : (t : List ℕ) → verdict t ≡ Accepted → Parts t
@@ -52,47 +60,34 @@ step t a b v h e q = drop-cons t a 0 h ∙ rw (e, q)
 skip : (t rest : List ℕ) (a b k : ℕ) → b ≡ a + k → drop b t ≡ rest → drop a t ≡ take k (drop a t) ++ rest
 skip t rest a b k q e = sym (rw (← e, q, ← (drop-drop k a t)) (take-append-drop k (drop a t)))
 
--- the same with the counts and places by name
+-- the same with the counts by name
 parts-at :
-    (t : List ℕ) (m n x : ℕ) → byte t 0 ≡ 1 → byte t 1 ≡ m → byte t (2 + m) ≡ n → byte t (3 + m + 12 * n) ≡ x
-    → length t ≡ 3 + m + 12 * n + 1 + 4 * x
+    (t : List ℕ) (m n x : ℕ) → byte t 0 ≡ 1 → byte t 1 ≡ m → byte t (tasksFrom m) ≡ n → byte t (slackFrom m n) ≡ x
+    → length t ≡ tableLength m n x
     → t
     ≡ (1 ∷ m ∷ take m (drop 2 t))
-    ++ (n ∷ take (12 * n) (drop (3 + m) t))
-    ++ (x ∷ take (4 * x) (drop (3 + m + 12 * n + 1) t))
+    ++ (n ∷ take (taskSize * n) (drop (tasksFrom m + 1) t))
+    ++ (x ∷ take (4 * x) (drop (slackFrom m n + 1) t))
 parts-at t m n x e em en ex l =
-    let last : drop (3 + m + 12 * n + 1) t ≡ take (4 * x) (drop (3 + m + 12 * n + 1) t) =
-    sym (take-all (4 * x) (drop (3 + m + 12 * n + 1) t) (omega (arith, length-drop (3 + m + 12 * n + 1) t))) in
-    let u5 : drop (3 + m + 12 * n) t ≡ x ∷ take (4 * x) (drop (3 + m + 12 * n + 1) t) =
-    step t (3 + m + 12 * n) (3 + m + 12 * n + 1) x (omega arith) ex (omega arith) ∙ ap (λ r. x ∷ r) last in
-    let u4 = skip t (x ∷ take (4 * x) (drop (3 + m + 12 * n + 1) t)) (3 + m) (3 + m + 12 * n) (12 * n) refl u5 in
-    let u3 = step t (2 + m) (3 + m) n (omega arith) en (omega arith) ∙ ap (λ r. n ∷ r) u4 in
-    let u2 = skip t _ 2 (2 + m) m refl u3 in
+    let last : drop (slackFrom m n + 1) t ≡ take (4 * x) (drop (slackFrom m n + 1) t) =
+    sym (take-all (4 * x) (drop (slackFrom m n + 1) t) (omega (arith, length-drop (slackFrom m n + 1) t))) in
+    let u5 : drop (slackFrom m n) t ≡ x ∷ take (4 * x) (drop (slackFrom m n + 1) t) =
+    step t (slackFrom m n) (slackFrom m n + 1) x (omega arith) ex (omega arith) ∙ ap (λ r. x ∷ r) last in
+    let u4 = skip t (x ∷ take (4 * x) (drop (slackFrom m n + 1) t)) (tasksFrom m + 1) (slackFrom m n) (taskSize * n) refl u5 in
+    let u3 = step t (tasksFrom m) (tasksFrom m + 1) n (omega arith) en (omega arith) ∙ ap (λ r. n ∷ r) u4 in
+    let u2 = skip t _ 2 (tasksFrom m) m refl u3 in
     step t 0 1 1 (omega arith) e refl
     ∙ ap (λ r. 1 ∷ r) (step t 1 2 m (omega arith) em refl)
     ∙ ap (λ r. 1 ∷ m ∷ r) (u2 ∙ sym (append-assoc (take m (drop 2 t)) _ _))
 
 pub table-parts :
-    (t : List ℕ) → byte t 0 ≡ 1 → length t ≡ slackAt t + 4 * slackCount t
+    (t : List ℕ) → byte t 0 ≡ 1 → length t ≡ countedLength t
     → t
     ≡ (1 ∷ coreCount t ∷ take (coreCount t) (drop 2 t))
-    ++ (taskCount t ∷ take (12 * taskCount t) (drop (tasksAt t) t))
+    ++ (taskCount t ∷ take (taskSize * taskCount t) (drop (tasksAt t) t))
     ++ (slackCount t ∷ take (4 * slackCount t) (drop (slackAt t) t))
 unfolding coreCount taskCount tasksAt slackCount slackAt
 table-parts t e l = parts-at t (coreCount t) (taskCount t) (slackCount t) e refl refl refl l
-
-pub task-part : (t : List ℕ) (at : ℕ) → Bytes t → at + 12 ≤ length t → taskBytes (taskIn t at) ≡ take 12 (drop at t)
-unfolding taskBytes taskIn
-task-part t at b h =
-    rw (
-      digits-number 4 t at b (omega arith),
-      digits-number 4 t (at + 4) b (omega arith),
-      digits-number 4 t (at + 8) b (omega arith),
-      ← (drop-drop 4 at t),
-      ← (drop-drop 8 at t),
-      ← (take-add 4 4 (drop at t)),
-    )
-    (sym (take-add 8 4 (drop at t)))
 
 -- one byte
 label-part : (t : List ℕ) (at : ℕ) → at < length t → byte t at ∷ [] ≡ take 1 (drop at t)
@@ -108,9 +103,9 @@ slack-read t i h o =
     (cut-below (taskCount t) (λ j. number 4 t (slackAt t + 4 * j)) 0 i
     (⊎-elim (λ (e : slackCount t ≡ 0). omega arith) (λ (e : slackCount t ≡ taskCount t). omega arith) o))
 
-module _ (t : List ℕ) (b : Bytes t) (l : length t ≡ slackAt t + 4 * slackCount t) where
+module _ (t : List ℕ) (b : Bytes t) (l : length t ≡ countedLength t) where
   pub labels-again : entries (λ i. contentIn t .label i ∷ []) (coreCount t) ≡ take (coreCount t) (drop 2 t)
-  unfolding contentIn slackAt tasksAt
+  unfolding contentIn
   labels-again =
       entries-same _ (λ i. take 1 (drop (2 + 1 * i) t)) (coreCount t)
       (λ i h.
@@ -118,19 +113,46 @@ module _ (t : List ℕ) (b : Bytes t) (l : length t ≡ slackAt t + 4 * slackCou
       ∙ entries-parts 1 2 (coreCount t) t
       ∙ rw one-mul
 
-  pub tasks-again : entries (λ i. taskBytes (contentIn t .tasks .task i)) (taskCount t) ≡ take (12 * taskCount t) (drop (tasksAt t) t)
-  unfolding contentIn taskSetIn slackAt
+  pub tasks-again : entries (λ i. taskBytes (contentIn t .tasks .task i)) (taskCount t) ≡ take (taskSize * taskCount t) (drop (tasksAt t) t)
+  unfolding contentIn taskSetIn tasksAt
   tasks-again =
-      entries-same _ (λ i. take 12 (drop (tasksAt t + 12 * i) t)) (taskCount t)
+      entries-same _ (λ i. take taskSize (drop (tasksAt t + taskSize * i) t)) (taskCount t)
       (λ i h.
-      rw (cut-below (taskCount t) (λ j. taskIn t (tasksAt t + 12 * j)) noTask i h)
-      (task-part t (tasksAt t + 12 * i) b (omega arith)))
-      ∙ entries-parts 12 (tasksAt t) (taskCount t) t
+      rw (cut-below (taskCount t) (λ j. taskIn t (tasksAt t + taskSize * j)) noTask i h)
+      (task-again t (tasksAt t + taskSize * i) b (omega arith)))
+      ∙ entries-parts taskSize (tasksAt t) (taskCount t) t
 
   pub slack-again :
       (slackCount t ≡ 0) ⊎ (slackCount t ≡ taskCount t)
       → entries (λ i. digits 4 (contentIn t .slack i)) (slackCount t) ≡ take (4 * slackCount t) (drop (slackAt t) t)
+  unfolding slackAt
   slack-again o =
       entries-same _ (λ i. take 4 (drop (slackAt t + 4 * i) t)) (slackCount t)
       (λ i h. ap (digits 4) (slack-read t i h o) ∙ digits-number 4 t (slackAt t + 4 * i) b (omega arith))
       ∙ entries-parts 4 (slackAt t) (slackCount t) t
+
+-- either row is 0 at i
+either-zero : (b : Bool) (f g : ℕ → ℕ) (i : ℕ) → f i ≡ 0 → g i ≡ 0 → cond b f g i ≡ 0
+either-zero true f g i e q = e
+either-zero false f g i e q = q
+
+pub kept-table : (t : List ℕ) → tests (contentIn t) ≡ Accepted → Kept (contentIn t)
+unfolding contentIn taskSetIn
+kept-table t a =
+    let q : Passed (contentIn t) = tests-passed (contentIn t) a in
+    record {
+      cores-high = q .limits .cores-high;
+      tasks-high = q .limits .tasks-high;
+      label-past = cut-above (coreCount t) (λ i. byte t (2 + i)) 0;
+      task-past = cut-above (taskCount t) (λ i. taskIn t (tasksAt t + taskSize * i)) noTask;
+      slack-past =
+          λ i h.
+          either-zero
+          (eqb (slackCount t) 0)
+          (row (found (taskSetIn t)))
+          (cut (taskCount t) (λ j. number 4 t (slackAt t + 4 * j)) 0)
+          i
+          (found-past (taskSetIn t) (q .limits) i h)
+          (cut-above (taskCount t) (λ j. number 4 t (slackAt t + 4 * j)) 0 i h);
+      offers = q .offers;
+    }

@@ -2,7 +2,6 @@
 --     Columns p …            a plan's separations, budgets and offsets, in arrays of their own
 --     Handing p l out₀ e …   the run has come to entry e's tick, with the entry's three numbers and the plan's columns
 --     Handed                 what the code that hands it over gives: the entry is entered, and whether it was taken
---     numberOf               an answer's number
 --     answer-20              a loop that isn't in the table
 --     answer-rest            one that is: the first of 21, 22 and 23, by the arrays
 --     hand-refused, hand-behind, hand-first      the ends of the code: it is refused; its job stands behind others, or is its loop's head
@@ -20,7 +19,6 @@ use borrow.Author.Tests.{le-leb, lt-leb}
 use Rattle.tasks.specs.declared.Task.{Task}
 use Rattle.tasks.specs.declared.Plan.{Plan}
 use Rattle.tasks.specs.declared.Answer.{Answer}
-use Rattle.tasks.specs.declared.Answer.the-variants.{Accepted, Refused}
 use Rattle.tasks.specs.TaskSet.{TaskSet, row}
 use Rattle.tasks.specs.Content.{taskOf, contentOf}
 use Rattle.machine.specs.Machine.{Machine}
@@ -55,11 +53,6 @@ pub record Handing (p : Plan) (l : List Entry) (out₀ : List ℕ) (e tick task 
   pub tick-is : tick ≡ tickAt l e
   pub task-is : task ≡ loopAt l e
   pub demand-is : demand ≡ demandAt l e
-
--- an answer's number, 0 where it is no refusal
-abbrev pub numberOf : Answer → ℕ
-numberOf Accepted = 0
-numberOf (Refused k i) = k
 
 -- 1 where entry e is taken, else 0
 abbrev pub takes : Plan → List Entry → ℕ → ℕ

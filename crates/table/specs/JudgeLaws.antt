@@ -1,25 +1,20 @@
 -- From the settling and the bounds of the plan that a table's sections fill to the table's verdict.
---     Counted      the counts are the table's, and it has the length that they give
---     loaded       the plan that the sections fill
---     tasks-place, slack-place, long-enough, loaded-from    the loaders' places, and the plan that they fill
 --     Judges       what the judging of a plan with a slack count answers
 --     answer-in, judged-from    past 1 and 2 that is the table's verdict and judgement
-use Prim.Native.Nat.{ℕ, _+_, _*_, _≤_}
-use mathlib.Core.Path.{_≡_, refl, sym, _∙_, ap, subst}
-use mathlib.Core.Bool.{Bool, true, false, not, _||_}
+--     counts-refused    a table that meets 1 or 2
+use Prim.Native.Nat.{ℕ, _≤_}
+use mathlib.Core.Path.{_≡_, refl, sym, _∙_, ap}
+use mathlib.Core.Bool.{Bool, true, false, _||_}
 use mathlib.Core.List.{List, [], _∷_}
-use native.Mathlib.Omega.{arith}
-use lib.ListN.{length}
 use lib.Dec.{eqb}
 use borrow.Author.Tests.{eqb-true, eqb-false, eq-eqb, ne-eqb, not-false}
-use Rattle.laws.specs.Tab.{tab, cut}
+use Rattle.laws.specs.Tab.{tab}
 use Rattle.laws.specs.TabLaws.{tab-ext}
-use Rattle.tasks.specs.declared.Task.{Task}
 use Rattle.tasks.specs.declared.Plan.{Plan}
 use Rattle.tasks.specs.declared.Answer.{Answer}
 use Rattle.tasks.specs.declared.Answer.the-variants.{Accepted, Refused}
 use Rattle.tasks.specs.TaskSet.{TaskSet, found, row}
-use Rattle.tasks.specs.Content.{Content, contentOf, planOf, noTask, zeroPlan}
+use Rattle.tasks.specs.Content.{Content, contentOf, planOf, zeroPlan}
 use Rattle.tasks.specs.Tests.{firstMet, orNext, test3, test4, test5, test6, test7, test8, test9, test10, test11, tests, unlessRefused}
 use Rattle.tasks.specs.AnswerLaws.{refuse-passed, orNext-passed, firstMet-passed, firstMet-append}
 use Rattle.tasks.specs.LimitsLaws.{limitTests, slackTests, tests-split, limits-passed}
@@ -28,27 +23,11 @@ use Rattle.analysis.specs.PlanTest.{boundsOf}
 use Rattle.analysis.specs.SettledLaws.{passed-on}
 use Rattle.analysis.specs.JudgingLaws.{judging, judging-tests, judging-found, judging-limits, judging-count}
 use Rattle.table.specs.declared.Judgement.{Judgement}
-use Rattle.codec.specs.Bytes.{byte, number}
-use Rattle.codec.specs.Table.{coreCount, taskCount, tasksAt, slackCount, slackAt, taskIn, taskSetIn, contentIn, test1, test2, verdict}
+use Rattle.codec.specs.Table.{coreCount, taskCount, slackCount, taskSetIn, contentIn, test1, test2, verdict}
+use Rattle.codec.specs.Counted.{countsTest}
+use Rattle.tasks.specs.ContentLaws.{content-ext, withSlack}
 use Rattle.table.specs.Judged.{refusedWith, judged}
-use Rattle.codec.specs.declared.read.Counts.the-variants.{Read, Refused as NotRead}
-use Rattle.codec.specs.Stages.{countsIn, answerOfCounts}
-use Rattle.table.specs.LoadedLaws.{planIn, tasks-in, labels-in, limits-all, offered-in}
-
-pub record Counted (t : List ℕ) (m n k : ℕ) : Type 0 where
-  pub cores : m ≡ coreCount t
-  pub tasks : n ≡ taskCount t
-  pub offers : k ≡ slackCount t
-  pub long : length t ≡ slackAt t + 4 * slackCount t
-
-unfoldable pub loaded : List ℕ → Plan
-loaded t =
-    planIn t (not (eqb (slackCount t) 0)) (tab (cut (slackCount t) (λ i. number 4 t (slackAt t + 4 * i)) 0) 16)
-
--- a plan with this slack
-unfoldable pub withSlack : Plan → List ℕ → Plan
-withSlack p x =
-    record { offered = p .offered; cores = p .cores; tasks = p .tasks; labels = p .labels; task = p .task; slack = x }
+use Rattle.table.specs.LoadedLaws.{loaded, tasks-in, labels-in, slack-in, limits-all}
 
 -- 3 to 12, and then 13 with the slack that the plan has
 unfoldable pub judgedAnswer : Plan → ℕ → Answer
@@ -59,44 +38,6 @@ judgedAnswer p k =
 pub record Judges (p : Plan) (k : ℕ) (r : Judgement) : Type 0 where
   pub answer : r .answer ≡ judgedAnswer p k
   pub plan : r .plan ≡ unlessRefused (r .answer) (withSlack p (tab (hadSlack (offering p k)) 16)) zeroPlan
-
--- the loaders' places, and the plan that they fill
-module _ (t : List ℕ) (m n k : ℕ) (g : Counted t m n k) where
-  pub tasks-place : m + 3 ≡ tasksAt t
-  unfolding tasksAt
-  tasks-place = omega (arith, g .cores)
-
-  pub slack-place : m + 12 * n + 4 ≡ slackAt t
-  unfolding slackAt tasksAt
-  slack-place = omega (arith, g .cores, g .tasks)
-
-  pub long-enough : m + 12 * n + 4 + 4 * k ≡ length t
-  long-enough = omega (arith, slack-place, g .offers, g .long)
-
-  pub loaded-from :
-      (labels : List ℕ) (task : List Task) (slack : List ℕ) →
-      labels ≡ tab (cut m (λ i. byte t (2 + i)) 0) 8 →
-      task ≡ tab (cut n (λ i. taskIn t (m + 3 + 12 * i)) noTask) 16 →
-      slack ≡ tab (cut k (λ i. number 4 t (m + 12 * n + 4 + 4 * i)) 0) 16 →
-      _≡_ {A = Plan}
-      (record { offered = not (eqb k 0); cores = m; tasks = n; labels = labels; task = task; slack = slack })
-      (loaded t)
-  unfolding loaded planIn
-  loaded-from labels task slack el et es =
-      let l = subst (λ (v : ℕ). labels ≡ tab (cut v (λ i. byte t (2 + i)) 0) 8) (g .cores) el in
-      let u =
-      subst (λ (v : ℕ). task ≡ tab (cut v (λ i. taskIn t (tasksAt t + 12 * i)) noTask) 16) (g .tasks)
-      (subst (λ (v : ℕ). task ≡ tab (cut n (λ i. taskIn t (v + 12 * i)) noTask) 16) tasks-place et)
-      in
-      let x =
-      subst (λ (v : ℕ). slack ≡ tab (cut v (λ i. number 4 t (slackAt t + 4 * i)) 0) 16) (g .offers)
-      (subst (λ (v : ℕ). slack ≡ tab (cut k (λ i. number 4 t (v + 4 * i)) 0) 16) slack-place es)
-      in
-      λ i. record { offered = not (eqb (g .offers i) 0); cores = g .cores i; tasks = g .tasks i; labels = l i; task = u i; slack = x i }
-
-pub right-length : (t : List ℕ) → test2 t ≡ Accepted → length t ≡ slackAt t + 4 * slackCount t
-unfolding test2
-right-length t e = eqb-true _ _ (not-false _ (refuse-passed 2 _ e))
 
 alone : (a : Answer) → firstMet (a ∷ []) ≡ a
 unfolding firstMet
@@ -113,8 +54,8 @@ module _ (t : List ℕ) where
   none z = z
 
   said-limits : limitTests said ≡ limitTests (contentIn t)
-  unfolding said loaded offering limitTests test3 test4 test5 test6 test7 test8 test9 test10
-  said-limits = limits-all t (not (eqb (slackCount t) 0)) (tab (cut (slackCount t) (λ i. number 4 t (slackAt t + 4 * i)) 0) 16)
+  unfolding said offering limitTests test3 test4 test5 test6 test7 test8 test9 test10
+  said-limits = limits-all t
 
   -- the slack that stands in the table's content is the slack that it has
   had-in : (i : ℕ) → contentIn t .slack i ≡ hadSlack (contentIn t) i
@@ -126,12 +67,12 @@ module _ (t : List ℕ) where
       go false e = rw e
 
   said-tasks : taskCount t ≤ 16 → said .tasks ≡ contentIn t .tasks
-  unfolding said loaded offering contentIn
-  said-tasks h = tasks-in t (not (eqb (slackCount t) 0)) (tab (cut (slackCount t) (λ i. number 4 t (slackAt t + 4 * i)) 0) 16) h
+  unfolding said offering
+  said-tasks h = tasks-in t h
 
   said-labels : coreCount t ≤ 8 → said .label ≡ contentIn t .label
-  unfolding said loaded offering
-  said-labels h = labels-in t (not (eqb (slackCount t) 0)) (tab (cut (slackCount t) (λ i. number 4 t (slackAt t + 4 * i)) 0) 16) h
+  unfolding said offering
+  said-labels h = labels-in t h
 
   said-offers : said .offers ≡ contentIn t .offers
   unfolding said offering contentIn
@@ -143,13 +84,9 @@ module _ (t : List ℕ) where
       rw (eq-eqb (said .offers) 0 (none z), eq-eqb (slackCount t) 0 z) (ap (λ (s : TaskSet). row (found s) i) (said-tasks n))
 
   -- with the offered slack the plan says what the table says
-  said-slack : coreCount t ≤ 8 → taskCount t ≤ 16 → slackCount t ≡ taskCount t → (slackCount t ≡ 0 → ⊥) → said .slack ≡ contentIn t .slack
-  unfolding said loaded offering contentOf planIn
-  said-slack m n e z = ap (λ (c : Content). c .slack) (offered-in t m n e z)
-
   said-same : coreCount t ≤ 8 → taskCount t ≤ 16 → slackCount t ≡ taskCount t → (slackCount t ≡ 0 → ⊥) → said ≡ contentIn t
-  said-same m n e z =
-      λ i. record { tasks = said-tasks n i; label = said-labels m i; offers = said-offers i; slack = said-slack m n e z i }
+  unfolding said offering
+  said-same m n e z = content-ext said (contentIn t) (said-tasks n) (said-labels m) said-offers (slack-in t n e z)
 
   -- 11 is not met
   two-counts : test11 (contentIn t) ≡ Accepted → (slackCount t ≡ 0 → ⊥) → slackCount t ≡ taskCount t
@@ -209,21 +146,11 @@ module _ (t : List ℕ) where
           ∙ sym (had-in i)
 
   plan-in : tests (contentIn t) ≡ Accepted → withSlack (loaded t) (tab (hadSlack said) 16) ≡ planOf (contentIn t)
-  unfolding withSlack loaded planIn planOf contentIn taskSetIn
-  plan-in e =
-      let x = tab-ext (hadSlack said) (contentIn t .slack) 16 (λ i h. had-said e i) in
-      λ i.
-      record {
-        offered = not (eqb (slackCount t) 0);
-        cores = coreCount t;
-        tasks = taskCount t;
-        labels = tab (cut (coreCount t) (λ i. byte t (2 + i)) 0) 8;
-        task = tab (cut (taskCount t) (λ i. taskIn t (tasksAt t + 12 * i)) noTask) 16;
-        slack = x i;
-      }
+  unfolding withSlack loaded planOf
+  plan-in e = ap (withSlack (planOf (contentIn t))) (tab-ext (hadSlack said) (contentIn t .slack) 16 (λ i h. had-said e i))
 
-  past-two : firstMet (test1 t ∷ test2 t ∷ []) ≡ Accepted → verdict t ≡ tests (contentIn t)
-  unfolding verdict
+  past-two : countsTest t ≡ Accepted → verdict t ≡ tests (contentIn t)
+  unfolding verdict countsTest
   past-two e =
       firstMet-append (test1 t ∷ test2 t ∷ []) (tests (contentIn t) ∷ [])
       ∙ passed-on _ _ e
@@ -236,53 +163,17 @@ module _ (t : List ℕ) where
   chosen (Refused j i) e = refl
 
   -- past 1 and 2 the judging of the loaded plan is the table's judgement
-  pub judged-from : firstMet (test1 t ∷ test2 t ∷ []) ≡ Accepted → (r : Judgement) → Judges (loaded t) (slackCount t) r → r ≡ judged t
+  pub judged-from : countsTest t ≡ Accepted → (r : Judgement) → Judges (loaded t) (slackCount t) r → r ≡ judged t
   unfolding judged said
   judged-from e r g =
       let a = g .answer ∙ answer-in ∙ sym (past-two e) in
       let p = g .plan ∙ ap (λ (b : Answer). unlessRefused b (withSlack (loaded t) (tab (hadSlack said) 16)) zeroPlan) a ∙ chosen (verdict t) (past-two e) in
       λ i. record { answer = a i; plan = p i }
 
--- the first stage's answer
-module _ (t : List ℕ) where
-  pub counts-passed :
-      (m n k : ℕ) → countsIn t ≡ Read m n k → Counted t m n k × (firstMet (test1 t ∷ test2 t ∷ []) ≡ Accepted)
-  unfolding countsIn
-  counts-passed m n k e = go (firstMet (test1 t ∷ test2 t ∷ [])) refl
-    where
-      long : firstMet (test1 t ∷ test2 t ∷ []) ≡ Accepted → length t ≡ slackAt t + 4 * slackCount t
-      long a = lengths (firstMet-passed (test2 t) [] (firstMet-passed (test1 t) (test2 t ∷ []) a .1) .0)
-        where
-          lengths : test2 t ≡ Accepted → length t ≡ slackAt t + 4 * slackCount t
-          lengths b = right-length t b
-
-      go : (a : Answer) → firstMet (test1 t ∷ test2 t ∷ []) ≡ a → Counted t m n k × (firstMet (test1 t ∷ test2 t ∷ []) ≡ Accepted)
-      go Accepted a =
-          let q : Read (coreCount t) (taskCount t) (slackCount t) ≡ Read m n k = rw a at e in
-          (record { cores = cc; tasks = cc; offers = cc; long = long a }, a)
-      go (Refused j i) a =
-          let q : NotRead j i ≡ Read m n k = rw a at e in
-          absurd (let z : _≡_ {A = ℕ} 0 1 = cc in omega arith)
-
-  first-refused : (j i : ℕ) → countsIn t ≡ NotRead j i → verdict t ≡ Refused j i
-  unfolding countsIn verdict
-  first-refused j i e =
-      firstMet-append (test1 t ∷ test2 t ∷ []) (tests (contentIn t) ∷ [])
-      ∙ go (firstMet (test1 t ∷ test2 t ∷ [])) refl
-    where
-      go : (a : Answer) → firstMet (test1 t ∷ test2 t ∷ []) ≡ a → orNext (firstMet (test1 t ∷ test2 t ∷ [])) (firstMet (tests (contentIn t) ∷ [])) ≡ Refused j i
-      go Accepted a =
-          let q : Read (coreCount t) (taskCount t) (slackCount t) ≡ NotRead j i = rw a at e in
-          absurd (let z : _≡_ {A = ℕ} 0 1 = cc in omega arith)
-      go (Refused k l) a =
-          let q : NotRead k l ≡ NotRead j i = rw a at e in
-          let x : k ≡ j = cc in
-          let y : l ≡ i = cc in
-          rw (a, x, y)
-
-  pub counts-refused : (a : Answer) (j i : ℕ) → countsIn t ≡ NotRead j i → a ≡ answerOfCounts (countsIn t) → refusedWith a ≡ judged t
-  unfolding refusedWith judged answerOfCounts
-  counts-refused a j i e q =
-      let v = first-refused j i e in
-      let w : a ≡ Refused j i = q ∙ ap answerOfCounts e in
-      rw (v, w)
+-- a table that meets 1 or 2
+pub counts-refused : (t : List ℕ) (j i : ℕ) → countsTest t ≡ Refused j i → refusedWith (Refused j i) ≡ judged t
+unfolding refusedWith judged verdict countsTest
+counts-refused t j i e = rw first-refused
+  where
+    first-refused : verdict t ≡ Refused j i
+    first-refused = firstMet-append (test1 t ∷ test2 t ∷ []) (tests (contentIn t) ∷ []) ∙ rw e

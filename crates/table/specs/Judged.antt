@@ -1,8 +1,9 @@
 -- What the calls offered to others answer, for every input.
 --     judged           the judgement of a table's bytes
 --     slackPart        the slack section's entries, without the count byte
---     written          the writer's answer, `writtenTo` the bytes that it leaves behind
 --     answerOfWritten, lengthOfWritten    document 01's number and index, and the length, for each case of the writer's answer
+--     writeTest        the first refusal that a plan and the room for its bytes meet: the writer's answer
+--     writtenLength    the writer's length, writtenTo the bytes that it leaves behind
 use Prim.Native.Nat.{ℕ}
 use mathlib.Core.List.{List, [], _∷_, _++_}
 use lib.ListN.{length, drop}
@@ -32,21 +33,17 @@ slackPart t = unlessRefused (verdict t) (drop (slackAt t) t) []
 unfoldable pub writeTest : Plan → ℕ → Answer
 writeTest p room = firstMet (testPlan p ∷ refuse 24 (ltb room (length (bytesOf (contentOf p)))) ∷ [])
 
-abbrev pub writtenAs : Answer → ℕ → Written
-writtenAs Accepted n = Length n
-writtenAs (Refused k i) n = NotWritten k i
-
-unfoldable pub answerOfWritten : Written → Answer
+abbrev pub answerOfWritten : Written → Answer
 answerOfWritten (Length n) = Accepted
 answerOfWritten (NotWritten k i) = Refused k i
 
--- "lengths and counts are 0" on a refusal
-unfoldable pub lengthOfWritten : Written → ℕ
+abbrev pub lengthOfWritten : Written → ℕ
 lengthOfWritten (Length n) = n
 lengthOfWritten (NotWritten k i) = 0
 
-unfoldable pub written : Plan → ℕ → Written
-written p room = writtenAs (writeTest p room) (length (bytesOf (contentOf p)))
+-- "lengths and counts are 0" on a refusal
+unfoldable pub writtenLength : Plan → ℕ → ℕ
+writtenLength p room = unlessRefused (writeTest p room) (length (bytesOf (contentOf p))) 0
 
 -- "The writer … returns the bytes written, and later bytes of its buffer stay." "Nothing lent is written" on a refusal.
 unfoldable pub writtenTo : Plan → List ℕ → List ℕ

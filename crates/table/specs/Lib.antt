@@ -1,7 +1,4 @@
-pub mod Bytes
-pub mod Table
 pub mod Judged
-pub mod ByteLaws
 pub mod WriteLaws
 pub mod LoadedLaws
 pub mod JudgeLaws

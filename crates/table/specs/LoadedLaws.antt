@@ -1,54 +1,69 @@
--- The plan that the loaders fill from a table's sections says what the table says, as far as a plan's arrays go.
---     planIn            that plan, with this mark and this slack
---     tasks-in, labels-in    its tasks and labels are the table's
---     limits-in         it meets 3 to 10 as the table does
---     limits-all        for every table, also one with more cores or tasks than a plan's arrays hold
---     past-in           so does a table with more cores or tasks than a plan's arrays hold: 3, 4 or 5
---     offered-in        with the offered slack it says what the table says
---     found-in          and so it does with the found slack, where none is offered
+-- The plan that the loaded sections of a table fill says what the table says, as far as a plan's arrays go.
+--     loaded            that plan: the table's own, with the slack that its slack section has
+--     loaded-from       it is what the loading fills
+--     tasks-in, labels-in, slack-in    its tasks and labels are the table's, and so is its slack where it is offered
+--     limits-all        it meets 3 to 10 as the table does, also one with more cores or tasks than a plan's arrays hold
 use Prim.Native.Nat.{ℕ, _+_, _*_, _≤_, _<_}
-use mathlib.Core.Path.{_≡_, refl, sym, fun-ext, _∙_}
-use mathlib.Core.Bool.{Bool, true, false, cond, _||_}
-use mathlib.Core.Logic.{_⊎_, ⊎-elim}
+use mathlib.Core.Path.{_≡_, refl, _∙_}
+use mathlib.Core.Bool.{Bool, true, false, not, _||_}
 use mathlib.Core.List.{List}
 use native.Mathlib.Omega.{arith}
-use lib.Dec.{ltb}
-use borrow.Author.Tests.{ltb-true, ltb-false, lt-ltb, eq-eqb, ne-eqb}
+use lib.Dec.{ltb, eqb}
+use borrow.Author.Tests.{ltb-true, ltb-false, lt-ltb, ne-eqb}
 use Rattle.laws.specs.Tab.{tab, cut}
-use Rattle.laws.specs.TabLaws.{cut-below, cut-above}
+use Rattle.laws.specs.TabLaws.{cut-above}
 use Rattle.tasks.specs.declared.Plan.{Plan}
-use Rattle.tasks.specs.TaskSet.{found, row}
-use Rattle.tasks.specs.Content.{Content, noTask, taskOf, contentOf}
-use Rattle.tasks.specs.ContentLaws.{cut-again}
-use Rattle.tasks.specs.Tests.{outside, firstMet, tests, testPlan, test3, test4, test5, test6, test7, test8, test9, test10}
+use Rattle.tasks.specs.Content.{Content, noTask, contentOf, planOf}
+use Rattle.tasks.specs.Tests.{outside, firstMet, test3, test4, test5, test6, test7, test8, test9, test10}
 use Rattle.tasks.specs.LimitsLaws.{limitTests}
 use Rattle.codec.specs.Bytes.{byte, number}
-use Rattle.codec.specs.Table.{coreCount, taskCount, tasksAt, slackCount, slackAt, taskIn, taskSetIn, contentIn}
+use Rattle.codec.specs.Table.{taskSize, tasksFrom, slackFrom, coreCount, taskCount, tasksAt, slackCount, slackAt, taskIn, taskSetIn, contentIn}
+use Rattle.tasks.specs.ContentLaws.{plan-ext, withSlack, kept-tasks, kept-labels, kept-slack}
+use Rattle.codec.specs.CountedLaws.{CountsIn}
 
-unfoldable pub planIn : List ℕ → Bool → List ℕ → Plan
-planIn t offered x =
-    record {
-      offered = offered;
-      cores = coreCount t;
-      tasks = taskCount t;
-      labels = tab (cut (coreCount t) (λ i. byte t (2 + i)) 0) 8;
-      task = tab (cut (taskCount t) (λ i. taskIn t (tasksAt t + 12 * i)) noTask) 16;
-      slack = x;
-    }
+unfoldable pub loaded : List ℕ → Plan
+loaded t = withSlack (planOf (contentIn t)) (tab (cut (slackCount t) (λ i. number 4 t (slackAt t + 4 * i)) 0) 16)
 
-module _ (t : List ℕ) (o : Bool) (x : List ℕ) where
-  pub tasks-in : taskCount t ≤ 16 → contentOf (planIn t o x) .tasks ≡ taskSetIn t
-  unfolding contentOf planIn taskSetIn taskOf
-  tasks-in h =
-      λ i. record {
-        cores = coreCount t;
-        count = taskCount t;
-        task = λ k. cut-again (λ j. taskIn t (tasksAt t + 12 * j)) noTask (taskCount t) 16 h k i;
-      }
+module _ (t : List ℕ) (m n k : ℕ) (g : CountsIn t m n k) where
+  tasks-place : tasksFrom m + 1 ≡ tasksAt t
+  unfolding tasksAt
+  tasks-place = omega (arith, g .cores)
 
-  pub labels-in : coreCount t ≤ 8 → contentOf (planIn t o x) .label ≡ contentIn t .label
-  unfolding contentOf planIn contentIn row
-  labels-in h = fun-ext (cut-again (λ j. byte t (2 + j)) 0 (coreCount t) 8 h)
+  slack-place : slackFrom m n + 1 ≡ slackAt t
+  unfolding slackAt
+  slack-place = omega (arith, g .cores, g .tasks)
+
+  pub loaded-from :
+      (p : Plan) → p .offered ≡ not (eqb k 0) → p .cores ≡ m → p .tasks ≡ n
+      → p .labels ≡ tab (cut m (λ i. byte t (2 + i)) 0) 8
+      → p .task ≡ tab (cut n (λ i. taskIn t (tasksFrom m + 1 + taskSize * i)) noTask) 16
+      → p .slack ≡ tab (cut k (λ i. number 4 t (slackFrom m n + 1 + 4 * i)) 0) 16
+      → p ≡ loaded t
+  unfolding loaded withSlack planOf contentIn taskSetIn
+  loaded-from p o em en el et ex =
+      plan-ext p (loaded t)
+      (o ∙ rw (g .offers))
+      (em ∙ g .cores)
+      (en ∙ g .tasks)
+      (el ∙ rw (g .cores))
+      (et ∙ rw (tasks-place, g .tasks))
+      (ex ∙ rw (slack-place, g .offers))
+
+module _ (t : List ℕ) where
+  pub tasks-in : taskCount t ≤ 16 → contentOf (loaded t) .tasks ≡ contentIn t .tasks
+  unfolding loaded contentIn taskSetIn
+  tasks-in h = kept-tasks (contentIn t) _ h (cut-above (taskCount t) (λ i. taskIn t (tasksAt t + taskSize * i)) noTask)
+
+  pub labels-in : coreCount t ≤ 8 → contentOf (loaded t) .label ≡ contentIn t .label
+  unfolding loaded contentIn taskSetIn
+  labels-in h = kept-labels (contentIn t) _ h (cut-above (coreCount t) (λ i. byte t (2 + i)) 0)
+
+  pub slack-in : taskCount t ≤ 16 → slackCount t ≡ taskCount t → (slackCount t ≡ 0 → ⊥) → contentOf (loaded t) .slack ≡ contentIn t .slack
+  unfolding loaded withSlack planOf contentOf contentIn taskSetIn
+  slack-in h e z =
+      rw (ne-eqb (slackCount t) 0 z, e)
+      (kept-slack (cut (taskCount t) (λ i. number 4 t (slackAt t + 4 * i)) 0) (taskCount t) h
+      (cut-above (taskCount t) (λ i. number 4 t (slackAt t + 4 * i)) 0))
 
 -- 3 to 10 look at the tasks and labels only
 limits-same : (c d : Content) → c .tasks ≡ d .tasks → c .label ≡ d .label → limitTests c ≡ limitTests d
@@ -63,75 +78,20 @@ outside-past low high x h = rw (lt-ltb high x h) (either (ltb x low))
     either true = refl
     either false = refl
 
-module _ (t : List ℕ) (o : Bool) (x : List ℕ) where
-  pub limits-in : coreCount t ≤ 8 → taskCount t ≤ 16 → limitTests (contentOf (planIn t o x)) ≡ limitTests (contentIn t)
-  unfolding contentIn
-  limits-in m n = limits-same (contentOf (planIn t o x)) (contentIn t) (tasks-in t o x n) (labels-in t o x m)
-
-  -- the same of 3 to 10 alone, for a table with more cores or tasks than a plan's arrays hold
-  cores-over : 8 < coreCount t → limitTests (contentOf (planIn t o x)) ≡ limitTests (contentIn t)
-  unfolding limitTests test3 firstMet contentOf planIn contentIn taskSetIn
+module _ (t : List ℕ) where
+  cores-over : 8 < coreCount t → limitTests (contentOf (loaded t)) ≡ limitTests (contentIn t)
+  unfolding limitTests test3 firstMet contentOf loaded withSlack planOf contentIn taskSetIn
   cores-over h = rw (outside-past 2 8 (coreCount t) h)
 
-  tasks-over : coreCount t ≤ 8 → 16 < taskCount t → limitTests (contentOf (planIn t o x)) ≡ limitTests (contentIn t)
-  unfolding limitTests test3 test4 test5 firstMet contentOf planIn contentIn taskSetIn
-  tasks-over m h = rw (outside-past (coreCount t + 1) 16 (taskCount t) h, labels-in t o x m)
+  tasks-over : coreCount t ≤ 8 → 16 < taskCount t → limitTests (contentOf (loaded t)) ≡ limitTests (contentIn t)
+  unfolding limitTests test3 test4 test5 firstMet contentOf loaded withSlack planOf contentIn taskSetIn
+  tasks-over m h = rw (outside-past (coreCount t + 1) 16 (taskCount t) h, labels-in t m)
 
-  -- for every table
-  pub limits-all : limitTests (contentOf (planIn t o x)) ≡ limitTests (contentIn t)
+  pub limits-all : limitTests (contentOf (loaded t)) ≡ limitTests (contentIn t)
   limits-all = go (ltb 8 (coreCount t)) refl (ltb 16 (taskCount t)) refl
     where
-      go : (a : Bool) → ltb 8 (coreCount t) ≡ a → (b : Bool) → ltb 16 (taskCount t) ≡ b → limitTests (contentOf (planIn t o x)) ≡ limitTests (contentIn t)
+      go : (a : Bool) → ltb 8 (coreCount t) ≡ a → (b : Bool) → ltb 16 (taskCount t) ≡ b → limitTests (contentOf (loaded t)) ≡ limitTests (contentIn t)
       go true e b f = cores-over (ltb-true _ _ e)
       go false e true f = tasks-over (ltb-false _ _ e) (ltb-true _ _ f)
-      go false e false f = limits-in (ltb-false _ _ e) (ltb-false _ _ f)
-
-  cores-past : 8 < coreCount t → testPlan (planIn t o x) ≡ tests (contentIn t)
-  unfolding testPlan tests test3 firstMet contentOf planIn contentIn taskSetIn
-  cores-past h = rw (outside-past 2 8 (coreCount t) h)
-
-  tasks-past : coreCount t ≤ 8 → 16 < taskCount t → testPlan (planIn t o x) ≡ tests (contentIn t)
-  unfolding testPlan tests test3 test4 test5 firstMet contentOf planIn contentIn taskSetIn
-  tasks-past m h = rw (outside-past (coreCount t + 1) 16 (taskCount t) h, labels-in t o x m)
-
-  pub past-in : (8 < coreCount t) ⊎ (16 < taskCount t) → testPlan (planIn t o x) ≡ tests (contentIn t)
-  past-in h = go (ltb 8 (coreCount t)) refl h
-    where
-      go : (b : Bool) → ltb 8 (coreCount t) ≡ b → (8 < coreCount t) ⊎ (16 < taskCount t) → testPlan (planIn t o x) ≡ tests (contentIn t)
-      go true e q = cores-past (ltb-true _ _ e)
-      go false e q =
-          ⊎-elim
-          (λ (l : 8 < coreCount t). absurd (omega (arith, ltb-false 8 (coreCount t) e)))
-          (λ (l : 16 < taskCount t). tasks-past (ltb-false _ _ e) l)
-          q
-
--- the mark and the slack agree too
-loaded-in :
-    (t : List ℕ) (o : Bool) (x : List ℕ) → coreCount t ≤ 8 → taskCount t ≤ 16 → cond o (taskCount t) 0 ≡ slackCount t
-    → ((i : ℕ) → cut (taskCount t) (row x) 0 i ≡ contentIn t .slack i)
-    → contentOf (planIn t o x) ≡ contentIn t
-unfolding contentOf planIn contentIn
-loaded-in t o x m n e s =
-    λ i. record { tasks = tasks-in t o x n i; label = labels-in t o x m i; offers = e i; slack = λ k. s k i }
-
-pub offered-in :
-    (t : List ℕ) → coreCount t ≤ 8 → taskCount t ≤ 16 → slackCount t ≡ taskCount t → (slackCount t ≡ 0 → ⊥)
-    → contentOf (planIn t true (tab (cut (slackCount t) (λ i. number 4 t (slackAt t + 4 * i)) 0) 16)) ≡ contentIn t
-unfolding contentIn row
-offered-in t m n e z =
-    loaded-in t true (tab (cut (slackCount t) (λ i. number 4 t (slackAt t + 4 * i)) 0) 16) m n (sym e)
-    (λ i. rw (ne-eqb (slackCount t) 0 z, e) (cut-again (λ j. number 4 t (slackAt t + 4 * j)) 0 (taskCount t) 16 n i))
-
-pub found-in :
-    (t x : List ℕ) → coreCount t ≤ 8 → taskCount t ≤ 16 → slackCount t ≡ 0
-    → ((i : ℕ) → i < taskCount t → row x i ≡ row (found (taskSetIn t)) i)
-    → ((i : ℕ) → taskCount t ≤ i → row (found (taskSetIn t)) i ≡ 0)
-    → contentOf (planIn t false x) ≡ contentIn t
-unfolding contentIn
-found-in t x m n z same past =
-    loaded-in t false x m n (sym z)
-    (λ i. rw (eq-eqb (slackCount t) 0 z) (go i (ltb i (taskCount t)) refl))
-  where
-    go : (i : ℕ) (b : Bool) → ltb i (taskCount t) ≡ b → cut (taskCount t) (row x) 0 i ≡ row (found (taskSetIn t)) i
-    go i true e = cut-below (taskCount t) (row x) 0 i (ltb-true _ _ e) ∙ same i (ltb-true _ _ e)
-    go i false e = cut-above (taskCount t) (row x) 0 i (ltb-false _ _ e) ∙ sym (past i (ltb-false _ _ e))
+      go false e false f =
+          limits-same (contentOf (loaded t)) (contentIn t) (tasks-in t (ltb-false _ _ f)) (labels-in t (ltb-false _ _ e))

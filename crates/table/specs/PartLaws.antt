@@ -1,7 +1,7 @@
 -- The slack part of a judged table.
 --     part-place    where the slack section's entries begin, from the plan of an accepted judgement
 --     part-rest     the part from there on, part-none of a refused table
-use Prim.Native.Nat.{ℕ, _+_, _*_, _-_, _≤_}
+use Prim.Native.Nat.{ℕ, _+_, _-_, _≤_}
 use mathlib.Core.Path.{_≡_, sym, _∙_, ap}
 use mathlib.Core.List.{List, []}
 use native.Mathlib.Omega.{arith}
@@ -12,9 +12,9 @@ use Rattle.tasks.specs.declared.Answer.the-variants.{Accepted, Refused}
 use Rattle.tasks.specs.Content.{planOf}
 use Rattle.tasks.specs.AnswerLaws.{firstMet-passed}
 use Rattle.table.specs.declared.Judgement.{Judgement}
-use Rattle.codec.specs.Table.{tasksAt, slackCount, slackAt, taskSetIn, contentIn, test1, test2, verdict}
+use Rattle.codec.specs.Table.{slackFrom, countedLength, slackAt, taskSetIn, contentIn, test1, test2, verdict}
 use Rattle.table.specs.Judged.{judged, slackPart}
-use Rattle.table.specs.JudgeLaws.{right-length}
+use Rattle.codec.specs.CountedLaws.{right-length}
 
 module _ (t : List ℕ) (j : Judgement) (e : j ≡ judged t) where
   verdict-is : j .answer ≡ verdict t
@@ -29,19 +29,20 @@ module _ (t : List ℕ) (j : Judgement) (e : j ≡ judged t) where
     accepted : verdict t ≡ Accepted
     accepted = sym verdict-is ∙ a
 
-    long : length t ≡ slackAt t + 4 * slackCount t
+    long : length t ≡ countedLength t
     unfolding verdict
     long = right-length t (firstMet-passed (test2 t) _ (firstMet-passed (test1 t) _ accepted .1) .0)
 
-    pub part-place : j .plan .cores + 12 * j .plan .tasks + 4 ≡ slackAt t
-    unfolding judged planOf contentIn taskSetIn slackAt tasksAt
+    pub part-place : slackFrom (j .plan .cores) (j .plan .tasks) + 1 ≡ slackAt t
+    unfolding judged planOf contentIn taskSetIn slackAt
     part-place = rw (e, accepted) (omega arith)
 
-    pub part-within : j .plan .cores + 12 * j .plan .tasks + 4 ≤ length t
+    pub part-within : slackFrom (j .plan .cores) (j .plan .tasks) + 1 ≤ length t
+    unfolding slackAt
     part-within = omega (arith, part-place, long)
 
     pub part-rest :
-        take (length t - (j .plan .cores + 12 * j .plan .tasks + 4)) (drop (j .plan .cores + 12 * j .plan .tasks + 4) t) ≡ slackPart t
+        take (length t - (slackFrom (j .plan .cores) (j .plan .tasks) + 1)) (drop (slackFrom (j .plan .cores) (j .plan .tasks) + 1) t) ≡ slackPart t
     unfolding slackPart
     part-rest =
         rw (part-place, accepted) (take-all (length t - slackAt t) (drop (slackAt t) t) (le-of-eq (length-drop (slackAt t) t)))

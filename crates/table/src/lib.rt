@@ -6,7 +6,6 @@ mod put;
 mod verdict;
 mod writer;
 
-pub use put::put4;
 pub use verdict::judge;
 pub use verdict::slack_part;
 pub use writer::write;

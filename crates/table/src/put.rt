@@ -1,5 +1,11 @@
 // The writer's bytes. Document 01, "Bytes of a show table".
 use analysis::slack_count;
+use codec::entry::TASK_SIZE;
+use codec::entry::put_task;
+use codec::numbers::put4;
+use codec::places::slack_from;
+use codec::places::table_length;
+use codec::places::tasks_from;
 use tasks::Plan;
 use tasks::Task;
 ghost use mathlib.Core.Path.{_≡_};
@@ -10,28 +16,7 @@ ghost use lib.Seq.{sets};
 ghost use Rattle.tasks.specs.TaskSet.{row};
 ghost use Rattle.tasks.specs.Content.{contentOf, taskOf};
 ghost use Rattle.codec.specs.Bytes.{digits, entries};
-ghost use Rattle.codec.specs.Table.{taskBytes, bytesOf};
-
-// A number's four bytes, low byte first, from `at` on.
-pub fn put4(out: &mut [u8], at: usize, v: u32)
-    requires { ⌜ at + 4 ≤ length (now out) ⌝ }
-    ensures { λ r. ⌜ now (out .exit) ≡ sets (now (out .entry)) at (digits 4 v) ⌝ }
-{
-    out[at] = (v % 256) as u8;
-    out[at + 1] = (v / 256 % 256) as u8;
-    out[at + 2] = (v / 256 / 256 % 256) as u8;
-    out[at + 3] = (v / 256 / 256 / 256 % 256) as u8;
-}
-
-// A task's entry of 12 bytes, from `at` on.
-pub fn put_task(out: &mut [u8], at: usize, task: Task)
-    requires { ⌜ at + 12 ≤ length (now out) ⌝ }
-    ensures { λ r. ⌜ now (out .exit) ≡ sets (now (out .entry)) at (taskBytes task) ⌝ }
-{
-    put4(out, at, task.separation);
-    put4(out, at + 4, task.budget);
-    put4(out, at + 8, task.offset);
-}
+ghost use Rattle.codec.specs.Table.{taskSize, taskBytes, bytesOf};
 
 // The cores' section: the count at `at`, and then the labels.
 pub fn put_labels(out: &mut [u8], at: usize, labels: &[u8; 8], count: usize)
@@ -49,14 +34,14 @@ pub fn put_labels(out: &mut [u8], at: usize, labels: &[u8; 8], count: usize)
 
 // The loops' section.
 pub fn put_tasks(out: &mut [u8], at: usize, task: [Task; 16], count: usize)
-    requires { ⌜ (count ≤ 16) × (at + 1 + 12 * count ≤ length (now out)) ⌝ }
+    requires { ⌜ (count ≤ 16) × (at + 1 + taskSize * count ≤ length (now out)) ⌝ }
     ensures { λ r. ⌜ now (out .exit) ≡ sets (now (out .entry)) at (count ∷ entries (λ i. taskBytes (taskOf task i)) count) ⌝ }
 {
     out[at] = count as u8;
     let from = at + 1;
     let mut i = 0;
     while i < count {
-        put_task(out, from + 12 * i, task[i]);
+        put_task(out, from + TASK_SIZE * i, task[i]);
         i += 1;
     }
 }
@@ -83,10 +68,9 @@ pub fn put_plan(out: &mut [u8], plan: Plan) -> usize
     let cores = plan.cores;
     let tasks = plan.tasks;
     let count = slack_count(plan.offered, tasks);
-    let from = cores + 3 + 12 * tasks;
     out[0] = 1;
     put_labels(out, 1, &plan.labels, cores);
-    put_tasks(out, cores + 2, plan.task, tasks);
-    put_slack(out, from, &plan.slack, count);
-    from + 1 + 4 * count
+    put_tasks(out, tasks_from(cores), plan.task, tasks);
+    put_slack(out, slack_from(cores, tasks), &plan.slack, count);
+    table_length(cores, tasks, count)
 }

@@ -2,6 +2,8 @@
 use crate::Judgement;
 use analysis::plan_bounds;
 use analysis::settle::settle;
+use codec::places::slack_from;
+use codec::places::tasks_from;
 use codec::read::Counts;
 use codec::read::load_labels;
 use codec::read::load_slack;
@@ -9,40 +11,30 @@ use codec::read::load_tasks;
 use codec::read::read_counts;
 use tasks::Answer;
 use tasks::Plan;
-use tasks::Task;
+use tasks::no_plan;
 ghost use mathlib.Core.Path.{_≡_};
 ghost use Rattle.table.specs.Judged.{judged, refusedWith, slackPart};
-ghost use Rattle.codec.specs.Stages.{answerOfCounts};
-ghost use Rattle.table.specs.JudgeLaws.{Counted, loaded, Judges};
+ghost use Rattle.codec.specs.Counted.{answerOfCounts};
+ghost use Rattle.codec.specs.CountedLaws.{CountsIn};
+ghost use Rattle.table.specs.LoadedLaws.{loaded};
+ghost use Rattle.table.specs.JudgeLaws.{Judges};
 
 // "A refused judgement … hands back a plan … of zeros"
 fn refused(answer: Answer) -> Judgement
     ensures { λ r. ⌜ r ≡ refusedWith answer ⌝ }
 {
-    let none = Task {
-        separation: 0,
-        budget: 0,
-        offset: 0,
-    };
-    let plan = Plan {
-        offered: false,
-        cores: 0,
-        tasks: 0,
-        labels: [0; 8],
-        task: [none; 16],
-        slack: [0; 16],
-    };
+    let plan = no_plan();
     Judgement { answer, plan }
 }
 
 // The plan that the table's sections fill.
 fn load(table: &[u8], cores: usize, tasks: usize, offers: usize) -> Plan
-    requires { ⌜ Counted (now table) cores tasks offers ⌝ }
+    requires { ⌜ CountsIn (now table) cores tasks offers ⌝ }
     ensures { λ r. ⌜ r ≡ loaded (now (table .entry)) ⌝ }
 {
     let labels = load_labels(table, cores);
-    let task = load_tasks(table, cores + 3, tasks);
-    let slack = load_slack(table, cores + 12 * tasks + 4, offers);
+    let task = load_tasks(table, tasks_from(cores) + 1, tasks);
+    let slack = load_slack(table, slack_from(cores, tasks) + 1, offers);
     Plan {
         offered: offers != 0,
         cores,
@@ -92,7 +84,7 @@ pub fn judge(table: &[u8]) -> Judgement
     judge_plan(plan, offers)
 }
 
-// The refusal of the first stage.
+// The refusal of the reader's stage.
 fn uncounted(counts: Counts) -> Answer
     ensures { λ r. ⌜ r ≡ answerOfCounts counts ⌝ }
 {
@@ -115,6 +107,6 @@ pub fn slack_part(table: &[u8]) -> &[u8]
     let Answer::Accepted = answer else {
         return &table[..0];
     };
-    let at = judgement.plan.cores + 12 * judgement.plan.tasks + 4;
+    let at = slack_from(judgement.plan.cores, judgement.plan.tasks) + 1;
     &table[at..]
 }

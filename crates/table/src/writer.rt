@@ -3,16 +3,17 @@ use crate::Written;
 use crate::put::put_plan;
 use analysis::slack_count;
 use analysis::test;
+use codec::places::table_length;
 use tasks::Answer;
 use tasks::Plan;
 use tasks::refusal;
 ghost use mathlib.Core.Path.{_≡_};
 ghost use lib.ListN.{length};
-ghost use Rattle.table.specs.Judged.{writtenAs, written, writtenTo};
+ghost use Rattle.table.specs.Judged.{answerOfWritten, lengthOfWritten, writeTest, writtenLength, writtenTo};
 
 // The answer of a refused test, passed on.
 fn unwritten(answer: Answer) -> Written
-    ensures { λ r. ⌜ r ≡ writtenAs answer 0 ⌝ }
+    ensures { λ r. ⌜ (answerOfWritten r ≡ answer) × (lengthOfWritten r ≡ 0) ⌝ }
 {
     match answer {
         Answer::Accepted => Written::Length(0),
@@ -22,14 +23,18 @@ fn unwritten(answer: Answer) -> Written
 
 // "The writer … returns the bytes written, and later bytes of its buffer stay."
 pub fn write(plan: Plan, out: &mut [u8]) -> Written
-    ensures { λ r. ⌜ (r ≡ written plan (length (now (out .entry)))) × (now (out .exit) ≡ writtenTo plan (now (out .entry))) ⌝ }
+    ensures { λ r. ⌜
+        (answerOfWritten r ≡ writeTest plan (length (now (out .entry))))
+        × (lengthOfWritten r ≡ writtenLength plan (length (now (out .entry))))
+        × (now (out .exit) ≡ writtenTo plan (now (out .entry)))
+        ⌝ }
 {
     let tested = test(plan);
     let Answer::Accepted = tested else {
         return unwritten(tested);
     };
     let offers = slack_count(plan.offered, plan.tasks);
-    if out.len() < plan.cores + 12 * plan.tasks + 4 + 4 * offers {
+    if out.len() < table_length(plan.cores, plan.tasks, offers) {
         return Written::Refused {
             number: refusal::BUFFER,
             index: 0,

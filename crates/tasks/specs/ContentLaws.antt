@@ -1,14 +1,17 @@
 -- A plan cut at its used places, and the contents that a plan keeps: the plan of such a content says that content again.
---     content-ext     contents with the same numbers and rows are the same
+--     plan-ext        plans with equal fields are the same
+--     content-ext     contents with the same tasks, labels, slack count and slack are the same
+--     withSlack       a plan with this slack in place of its own
 --     Kept            the content's counts are within a plan's arrays, and its rows are zero past the counts
 --     kept-row        a row that is zero past n, kept in a list and read below n; cut-again: a row cut off at n
+--     kept-tasks, kept-labels, kept-slack    the plan of a content whose rows are zero past the counts, with whatever slack, says its tasks and labels
 --     kept            the plan of such a content says it; kept-plan: what a plan says is kept
 --     content-tidy    so a plan with zeros in its unused places says what the plan says; tidy-tidy: and has no more to lose
 --     mark-kept       the mark of a plan with tasks comes back from its slack count
 --     tidied-code     the tidied plan, array by array
 --     zero-task       a task that the test of zeros passes is the task of zeros; no-task: and back
 use Prim.Native.Nat.{ℕ, _≤_}
-use mathlib.Core.Path.{_≡_, refl, sym, ap, _∙_}
+use mathlib.Core.Path.{_≡_, refl, sym, ap, fun-ext, _∙_}
 use mathlib.Core.Bool.{Bool, true, false, cond, not, _&&_, false≢true}
 use mathlib.Core.List.{List}
 use mathlib.Core.Logic.{_⊎_, inl, inr, ⊎-elim}
@@ -20,18 +23,24 @@ use Rattle.laws.specs.Tab.{tab, cut}
 use Rattle.laws.specs.TabLaws.{getD-tab, cut-below, cut-above}
 use Rattle.tasks.specs.declared.Task.{Task}
 use Rattle.tasks.specs.declared.Plan.{Plan}
-use Rattle.tasks.specs.TaskSet.{row}
+use Rattle.tasks.specs.TaskSet.{TaskSet, row}
 use Rattle.tasks.specs.Content.{Content, noTask, zeroTask, taskOf, contentOf, planOf, tidy}
 
+pub plan-ext :
+    (p q : Plan) → p .offered ≡ q .offered → p .cores ≡ q .cores → p .tasks ≡ q .tasks
+    → p .labels ≡ q .labels → p .task ≡ q .task → p .slack ≡ q .slack → p ≡ q
+plan-ext p q o m n l t x = λ i. record { offered = o i; cores = m i; tasks = n i; labels = l i; task = t i; slack = x i }
+
+set-ext : (s u : TaskSet) → s .cores ≡ u .cores → s .count ≡ u .count → ((i : ℕ) → s .task i ≡ u .task i) → s ≡ u
+set-ext s u m n t = λ i. record { cores = m i; count = n i; task = λ k. t k i }
+
 pub content-ext :
-    (c d : Content) → c .tasks .cores ≡ d .tasks .cores → c .tasks .count ≡ d .tasks .count
-    → ((i : ℕ) → c .tasks .task i ≡ d .tasks .task i)
-    → ((i : ℕ) → c .label i ≡ d .label i)
-    → c .offers ≡ d .offers
-    → ((i : ℕ) → c .slack i ≡ d .slack i)
-    → c ≡ d
-content-ext c d m n t l o s =
-    λ i. record { tasks = record { cores = m i; count = n i; task = λ k. t k i }; label = λ k. l k i; offers = o i; slack = λ k. s k i }
+    (c d : Content) → c .tasks ≡ d .tasks → c .label ≡ d .label → c .offers ≡ d .offers → c .slack ≡ d .slack → c ≡ d
+content-ext c d t l o s = λ i. record { tasks = t i; label = l i; offers = o i; slack = s i }
+
+unfoldable pub withSlack : Plan → List ℕ → Plan
+withSlack p x =
+    record { offered = p .offered; cores = p .cores; tasks = p .tasks; labels = p .labels; task = p .task; slack = x }
 
 pub record Kept (c : Content) : Type 0 where
   pub cores-high : c .tasks .cores ≤ 8
@@ -64,18 +73,32 @@ kept-offers x n h = go (eqb x 0) refl h
     go true e q = rw e (sym (eqb-true x 0 e))
     go false e q = rw e (⊎-elim (λ (z : x ≡ 0). absurd (eqb-false x 0 e z)) (λ (w : x ≡ n). sym w) q)
 
+pub kept-slack : (x : ℕ → ℕ) (n : ℕ) → n ≤ 16 → ((i : ℕ) → n ≤ i → x i ≡ 0) → cut n (row (tab x 16)) 0 ≡ x
+unfolding row
+kept-slack x n h past = fun-ext (kept-row x 0 n 16 h past)
+
+module _ (c : Content) (x : List ℕ) where
+  pub kept-tasks :
+      c .tasks .count ≤ 16 → ((i : ℕ) → c .tasks .count ≤ i → c .tasks .task i ≡ noTask)
+      → contentOf (withSlack (planOf c) x) .tasks ≡ c .tasks
+  unfolding contentOf withSlack planOf taskOf
+  kept-tasks h past =
+      set-ext (contentOf (withSlack (planOf c) x) .tasks) (c .tasks) refl refl
+      (kept-row (c .tasks .task) noTask (c .tasks .count) 16 h past)
+
+  pub kept-labels :
+      c .tasks .cores ≤ 8 → ((i : ℕ) → c .tasks .cores ≤ i → c .label i ≡ 0) → contentOf (withSlack (planOf c) x) .label ≡ c .label
+  unfolding contentOf withSlack planOf row
+  kept-labels h past = fun-ext (kept-row (c .label) 0 (c .tasks .cores) 8 h past)
+
 pub kept : (c : Content) → Kept c → contentOf (planOf c) ≡ c
-unfolding contentOf planOf row taskOf
+unfolding contentOf planOf withSlack
 kept c k =
-    content-ext
-    (contentOf (planOf c))
-    c
-    refl
-    refl
-    (kept-row (c .tasks .task) noTask (c .tasks .count) 16 (k .tasks-high) (k .task-past))
-    (kept-row (c .label) 0 (c .tasks .cores) 8 (k .cores-high) (k .label-past))
+    content-ext (contentOf (planOf c)) c
+    (kept-tasks c (tab (c .slack) 16) (k .tasks-high) (k .task-past))
+    (kept-labels c (tab (c .slack) 16) (k .cores-high) (k .label-past))
     (kept-offers (c .offers) (c .tasks .count) (k .offers))
-    (kept-row (c .slack) 0 (c .tasks .count) 16 (k .tasks-high) (k .slack-past))
+    (kept-slack (c .slack) (c .tasks .count) (k .tasks-high) (k .slack-past))
 
 module _ (p : Plan) (m : p .cores ≤ 8) (n : p .tasks ≤ 16) where
   pub kept-plan : Kept (contentOf p)
@@ -113,16 +136,7 @@ pub tidied-code :
     → slack ≡ tab (cut (p .tasks) (row (p .slack)) 0) 16
     → _≡_ {A = Plan} (record { offered = p .offered; cores = p .cores; tasks = p .tasks; labels = labels; task = task; slack = slack }) (tidy p)
 unfolding tidy planOf contentOf
-tidied-code p labels slack task n e f g =
-    λ i.
-    record {
-      offered = sym (mark-kept (p .offered) (p .tasks) n) i;
-      cores = p .cores;
-      tasks = p .tasks;
-      labels = e i;
-      task = f i;
-      slack = g i;
-    }
+tidied-code p labels slack task n e f g = plan-ext _ (tidy p) (sym (mark-kept (p .offered) (p .tasks) n)) refl refl e f g
 
 -- ---- a task of zeros
 

@@ -7,22 +7,31 @@
 --     found-exists    found slack is that, with one entry for each loop
 --     found-is-only   and is the only one
 --     late-from-point     the bound is Y and then late
-use Prim.Native.Nat.{ℕ, _+_, _-_, _%_, _≤_, _<_}
-use mathlib.Core.Path.{_≡_}
-use mathlib.Core.Bool.{true}
-use mathlib.Core.List.{List}
+--     offered-exactly    offered slack passes 11 to 13 exactly if it is compliant and every bound is at most 16 × T
+use Prim.Native.Nat.{ℕ, _+_, _-_, _*_, _%_, _≤_, _<_}
+use mathlib.Core.Path.{_≡_, refl, ap, _∙_}
+use mathlib.Core.Bool.{true, not}
+use mathlib.Core.Logic.{_↔_}
+use mathlib.Core.List.{List, [], _∷_}
 use native.Mathlib.Nat.{le-of-eq}
 use native.Mathlib.Omega.{arith}
 use lib.ListN.{length}
+use lib.Dec.{ltb}
+use borrow.Author.Tests.{le-ltb, eq-eqb, ne-eqb}
 use Rattle.laws.specs.Sum.{sumOver}
 use Rattle.laws.specs.SumLaws.{sumOver-members, count-members}
 use Rattle.laws.specs.Member.{member, Distinct}
 use Rattle.tasks.specs.declared.Answer.the-variants.{Accepted}
-use Rattle.tasks.specs.TaskSet.{TaskSet, hyperperiod, weight, counted, Compliant, found, bound, late, row}
+use Rattle.tasks.specs.TaskSet.{TaskSet, hyperperiod, weight, counted, Compliant, covers, found, bound, late, row}
 use Rattle.tasks.specs.Content.{Content}
-use Rattle.tasks.specs.LimitsLaws.{limitTests, limits-passed}
+use Rattle.tasks.specs.Limits.{Bounded}
+use Rattle.tasks.specs.Tests.{firstMet, test11, test12, test13, tests}
+use Rattle.tasks.specs.AnswerLaws.{pass-lowest, pass-firstMet}
+use Rattle.tasks.specs.LimitsLaws.{limitTests, slackTests, tests-split, limits-passed}
 use Rattle.tasks.specs.ShareLaws.{timed, hyperperiod-low, hyperperiod-divided, hyperperiod-least}
 use Rattle.tasks.specs.AmountLaws.{counted-below, counted-distinct, counted-length, counted-best}
+use Rattle.tasks.specs.SlackLaws.{compliant-covers}
+use Rattle.tasks.specs.TestsLaws.{tests-compliant, tests-bounded}
 use Rattle.tasks.specs.FoundLaws.{found-compliant, found-least, found-length, found-unique}
 
 pub record Common (s : TaskSet) (h : ℕ) : Type 0 where
@@ -72,6 +81,32 @@ module _ (c : Content) (passed : limitTests c ≡ Accepted) where
 
   pub found-is-only : (x : List ℕ) → length x ≡ c .tasks .count → Least (c .tasks) (row x) → x ≡ found (c .tasks)
   found-is-only x l m = found-unique (c .tasks) (limits-passed c passed .0) x l (m .compliant) (m .least)
+
+  -- "Offered slack isn't compliant"; "A bound is above 16 × T.": of a content with a slack count of n
+  pub offered-exactly : c .offers ≡ c .tasks .count → (tests c ≡ Accepted) ↔ (Compliant (c .tasks) (c .slack) × Bounded (c .tasks) (c .slack))
+  unfolding slackTests firstMet test11 test12 test13 Bounded
+  offered-exactly n = (λ a. (tests-compliant c a, tests-bounded c a), λ h. accepted (h .0) (h .1))
+    where
+      some : c .offers ≡ 0 → ⊥
+      some z = omega (arith, limits-passed c passed .0 .more-tasks)
+
+      eleven : test11 c ≡ Accepted
+      eleven = rw (ne-eqb (c .offers) 0 some, eq-eqb (c .offers) (c .tasks .count) n)
+
+      twelve : Compliant (c .tasks) (c .slack) → test12 c ≡ Accepted
+      twelve h =
+          rw (ne-eqb (c .offers) 0 some)
+          (pass-lowest 12 (λ k. not (covers (c .tasks) (c .slack) k)) (c .tasks .count) (λ k l. ap not (compliant-covers (c .tasks) (c .slack) h k l)))
+
+      thirteen : Bounded (c .tasks) (c .slack) → test13 c ≡ Accepted
+      thirteen b = pass-lowest 13 (λ i. ltb (16 * c .tasks .task i .separation) (bound (c .tasks) (c .slack) i)) (c .tasks .count) (λ i l. le-ltb _ _ (b i l))
+
+      accepted : Compliant (c .tasks) (c .slack) → Bounded (c .tasks) (c .slack) → tests c ≡ Accepted
+      accepted h b =
+          tests-split c
+          ∙ rw passed
+          (pass-firstMet (test11 c) (test12 c ∷ test13 c ∷ []) eleven
+          (pass-firstMet (test12 c) (test13 c ∷ []) (twelve h) (pass-firstMet (test13 c) [] (thirteen b) refl)))
 
 -- The bound is "counted from release", late "from the priority point", which is Y ticks after the release.
 pub late-from-point : (s : TaskSet) (x : ℕ → ℕ) (i : ℕ) → bound s x i ≡ s .task i .offset + late s x i

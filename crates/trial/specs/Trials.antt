@@ -12,17 +12,16 @@ use Rattle.laws.specs.Tab.{tab}
 use Rattle.tasks.specs.declared.Task.{Task}
 use Rattle.tasks.specs.declared.Plan.{Plan}
 use Rattle.tasks.specs.declared.Answer.{Answer}
-use Rattle.tasks.specs.declared.Answer.the-variants.{Accepted, Refused}
 use Rattle.tasks.specs.TaskSet.{row}
 use Rattle.tasks.specs.Content.{taskOf}
+use Rattle.tasks.specs.Tests.{numberOf, indexOf}
 use Rattle.state.specs.declared.State.{State}
 use Rattle.state.specs.declared.Released.{Released}
 use Rattle.state.specs.declared.Stepped.{Stepped}
 use Rattle.state.specs.Calls.{stepOf}
 
 unfoldable pub answerCode : Answer → ℕ
-answerCode Accepted = 0
-answerCode (Refused k i) = 4294967296 * k + i
+answerCode a = 4294967296 * numberOf a + indexOf a
 
 unfoldable pub entry : List ℕ → List ℕ → List ℕ → ℕ → Task
 entry T C Y i = record { separation = row T i; budget = row C i; offset = row Y i }

@@ -7,6 +7,7 @@ use state::Stepped;
 use tasks::Answer;
 use tasks::Plan;
 use tasks::Task;
+use tasks::no_task;
 ghost use mathlib.Core.Path.{_≡_};
 ghost use Rattle.state.specs.Calls.{releaseOf};
 ghost use Rattle.trial.specs.Trials.{answerCode, separationsOf, budgetsOf, offsetsOf, stepsOf, tasksIn, planIn, stateIn, TasksLeft, PlanLeft, StateLeft, ReleaseLeaves, StepsLeave};
@@ -33,11 +34,8 @@ fn code(answer: Answer) -> u64
 fn entries(separation: &[u32; 16], budget: &[u32; 16], offset: &[u32; 16]) -> [Task; 16]
     ensures { λ r. ⌜ r ≡ tasksIn (now (separation .entry)) (now (budget .entry)) (now (offset .entry)) ⌝ }
 {
-    let mut task = [Task {
-        separation: 0,
-        budget: 0,
-        offset: 0,
-    }; 16];
+    let none = no_task();
+    let mut task = [none; 16];
     let mut i = 0;
     while i < 16 {
         let t = Task {

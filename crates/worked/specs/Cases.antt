@@ -34,10 +34,10 @@ use Rattle.history.specs.Report.{Report, finished, refusal, finishTick, report}
 use Rattle.demand.specs.Demand3.{runOn, demand-machine}
 use Rattle.logs.specs.LogBytes.{entryCount, entryIn, entriesIn, test14, test15, logTest}
 use Rattle.laws.specs.Member.{member}
-use Rattle.table.specs.Bytes.{byte, number, digits, entries}
+use Rattle.codec.specs.Bytes.{byte, number, digits, entries}
 use Rattle.decimal.specs.Decimal.{words, digitsIn, decimal, said}
 use Rattle.text.specs.Printed.{pairLine, countsLine, taskLine, refusalLine, lineOf, planText, printed}
-use Rattle.table.specs.Table.{coreCount, taskCount, tasksAt, slackCount, slackAt, taskIn, taskSetIn, contentIn, test1, test2, verdict, taskBytes}
+use Rattle.codec.specs.Table.{coreCount, taskCount, tasksAt, slackCount, slackAt, taskIn, taskSetIn, contentIn, test1, test2, verdict, taskBytes}
 
 -- a loop (T, C, Y)
 abbrev loop : ℕ → ℕ → ℕ → Task

@@ -1,34 +1,25 @@
+-- `dahomike::dahomike_judge` meets its contract.
 use mathlib.Core.Path.{_∙_, ap}
 use Rattle.tasks.specs.declared.Answer.{Answer}
 use Rattle.dahomike.specs.Answers.{answerNumber}
 use Rattle.dahomike.specs.AnswerLaws.{judge-refused, judge-short, judge-done, reportable, few-tasks}
 use native.Mathlib.Omega.{arith}
-use mathlib.Core.Path.{ap, _∙_}
 use borrow.Author.Needs.{needs}
 use Rattle.dahomike.proofs.dahomike_judge.Statement.{statement}
 use Rattle.dahomike.proofs.dahomike_judge.Tie as tie
-use Rattle.dahomike.proofs.dahomike_judge.Reads as reads
-use Rattle.dahomike.proofs.dahomike_judge.Lts as lts
-use Rattle.dahomike.proofs.refused.Reads as refused-reads
-use Rattle.dahomike.proofs.report.Reads as report-reads
-use Rattle.table.proofs.judge.Reads as judge-reads
 
--- src/lib.rt:57:9
 judge-requires : tie.Need-judge-requires
 judge-requires c κs = search needs
 
 enum-told : tie.Need-enum-told
 enum-told c = search needs
 
--- src/lib.rt:60:9
 enum-told-2 : tie.Need-enum-told-2
 enum-told-2 c = search needs
 
--- src/lib.rt:60:9
 refused-requires : tie.Need-refused-requires
 refused-requires c κs = search needs
 
--- src/lib.rt:60:9
 returns : tie.Need-returns
 returns c =
     let s = c .before .before .before .before .before .before in
@@ -36,34 +27,28 @@ returns c =
     let r = judge-refused (s .args .table .now) (s .args .out .now) _ (c .before .before .before .judge .ensures) _ _ e in
     (c .refused .ensures ∙ ap (λ (a : Answer). answerNumber a 0) e ∙ r .0, r .1)
 
--- src/lib.rt:64:20
 mul-if1 : tie.Need-mul-if1
 mul-if1 c =
     let s = c .before .before .before .before .before .before in
     omega (arith, few-tasks (s .args .table .now) (s .args .out .now) _ (c .before .before .before .judge .ensures) (c .before .enum-told .given .1))
 
--- src/lib.rt:65:9
 refused-requires-2 : tie.Need-refused-requires-2
 refused-requires-2 c κs = search needs
 
--- src/lib.rt:65:9
 returns-2 : tie.Need-returns-2
 returns-2 c =
     let s = c .before .before .before .before .before .before .before .before in
     let r = judge-short (s .args .table .now) (s .args .out .now) _ (c .before .before .before .before .before .judge .ensures) (c .before .before .before .enum-told .given .1) (c .before .if1 .taken) in
     (c .refused2 .ensures ∙ r .0, r .1)
 
--- src/lib.rt:70:5
 report-requires : tie.Need-report-requires
 report-requires c κs =
     let s = c .before .before .before .before .before .before .before .before in
     reportable (s .args .table .now) (s .args .out .now) _ (c .before .before .before .before .before .judge .ensures) (c .before .before .before .enum-told .given .1) (c .before .if1 .left)
 
--- src/lib.rt:53:1
 same-length : tie.Need-same-length
 same-length c = search needs
 
--- src/lib.rt:53:1
 returns-3 : tie.Need-returns-3
 returns-3 c =
     let s = c .before .before .before .before .before .before .before .before .before .before .before in

@@ -2,7 +2,6 @@
 use Rattle.tasks.specs.declared.Answer.{Answer}
 use Rattle.dahomike.specs.Answers.{answerNumber}
 use Rattle.dahomike.specs.AnswerLaws.{run-refused, run-done}
-use native.Mathlib.Omega.{arith}
 use mathlib.Core.Path.{ap, _∙_}
 use borrow.Author.Needs.{needs}
 use Rattle.dahomike.proofs.dahomike_run_log.Statement.{statement}

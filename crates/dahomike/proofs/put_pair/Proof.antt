@@ -1,41 +1,31 @@
-use mathlib.Core.List.{_++_}
-use mathlib.Core.List.{List}
+-- `dahomike::put_pair` meets its contract.
+use mathlib.Core.List.{_++_, List}
 use Prim.Native.Nat.{ℕ, _+_}
 use lib.Seq.{sets}
-use Rattle.table.specs.Bytes.{digits}
+use Rattle.codec.specs.Bytes.{digits}
 use mathlib.Core.Path.{_≡_, _∙_}
-use Rattle.table.specs.WriteLaws.{sets-next}
-use Rattle.table.specs.ByteLaws.{length-digits}
+use Rattle.codec.specs.StoreLaws.{sets-next}
+use Rattle.codec.specs.ByteLaws.{length-digits}
 use native.Mathlib.Omega.{arith}
-use Prim.Native.Nat.{ℕ, _+_}
-use mathlib.Core.Path.{_≡_, _∙_}
 use borrow.Author.Needs.{needs}
 use Rattle.dahomike.proofs.put_pair.Statement.{statement}
 use Rattle.dahomike.proofs.put_pair.Tie as tie
-use Rattle.dahomike.proofs.put_pair.Reads as reads
-use Rattle.dahomike.proofs.put_pair.Lts as lts
-use Rattle.table.proofs.put4.Reads as put4-reads
 
 joined : (l u v : List ℕ) (at a b : ℕ) → u ≡ sets l at (digits 4 a) → v ≡ sets u (at + 4) (digits 4 b) → v ≡ sets l at (digits 4 a ++ digits 4 b)
 joined l u v at a b e q = q ∙ rw e (sets-next l at (at + 4) (digits 4 a) (digits 4 b) (omega (arith, length-digits 4 a)))
 
--- src/lib.rt:32:5
 put4-requires : tie.Need-put4-requires
 put4-requires c κs = search needs
 
--- src/lib.rt:33:15
 add-put4 : tie.Need-add-put4
 add-put4 c = search needs
 
--- src/lib.rt:33:5
 put4-requires-2 : tie.Need-put4-requires-2
 put4-requires-2 c κs = search needs
 
--- src/lib.rt:28:1
 same-length : tie.Need-same-length
 same-length c = search needs
 
--- src/lib.rt:28:1
 returns : tie.Need-returns
 returns c =
     let s = c .before .before .before .before .before .before .before .before .before in

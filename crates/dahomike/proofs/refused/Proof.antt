@@ -1,43 +1,33 @@
+-- `dahomike::refused` meets its contract.
 use mathlib.Core.Path.{sym, ap}
 use Rattle.tasks.specs.declared.Answer.{Answer}
 use Rattle.dahomike.specs.Answers.{answerNumber}
-use mathlib.Core.Path.{ap, sym}
 use borrow.Author.Needs.{needs}
 use Rattle.dahomike.proofs.refused.Statement.{statement}
 use Rattle.dahomike.proofs.refused.Tie as tie
-use Rattle.dahomike.proofs.refused.Reads as reads
-use Rattle.dahomike.proofs.refused.Lts as lts
 
--- src/lib.rt:22:29
 enum-told : tie.Need-enum-told
 enum-told c = search needs
 
--- src/lib.rt:23:27
 enum-known-answer : tie.Need-enum-known-answer
 enum-known-answer c = search needs
 
--- src/lib.rt:23:60
 cast-result : tie.Need-cast-result
 cast-result c = search needs
 
--- src/lib.rt:23:46
 mul-result : tie.Need-mul-result
 mul-result c = search needs
 
--- src/lib.rt:23:78
 cast-result-2 : tie.Need-cast-result-2
 cast-result-2 c = search needs
 
--- src/lib.rt:23:46
 add-result : tie.Need-add-result
 add-result c = search needs
 
--- src/lib.rt:18:1
 returns : tie.Need-returns
 unfolding answerNumber
 returns c = sym (ap (λ (a : Answer). answerNumber a 0) (c .enum-told .given .1))
 
--- src/lib.rt:18:1
 returns-2 : tie.Need-returns-2
 unfolding answerNumber
 returns-2 c = sym (ap (λ (a : Answer). answerNumber a 0) (c .before .answer .given .1))

@@ -1,22 +1,19 @@
-use lib.ListN.{length-append}
+-- `dahomike::report` meets its contract.
+use lib.ListN.{length-append, length}
 use mathlib.Core.List.{_++_}
 use lib.Seq.{sets}
 use Rattle.tasks.specs.TaskSet.{row}
 use Rattle.tasks.specs.Content.{taskOf, noTask}
-use Rattle.table.specs.Bytes.{digits, entries}
-use Rattle.table.specs.ByteLaws.{length-digits}
-use Rattle.table.specs.WriteLaws.{sets-entry}
+use Rattle.codec.specs.Bytes.{digits, entries}
+use Rattle.codec.specs.ByteLaws.{length-digits}
+use Rattle.codec.specs.StoreLaws.{sets-entry}
 use Rattle.dahomike.specs.Answers.{pairOf, boundIn}
 use borrow.Author.Needs.{needs}
 use native.Mathlib.Omega.{arith}
 use Prim.Native.Nat.{ℕ, _≤_, _+_, _-_}
 use mathlib.Core.Path.{_≡_, refl, _∙_}
-use lib.ListN.{length}
 use Rattle.dahomike.proofs.report.Statement.{statement}
 use Rattle.dahomike.proofs.report.Tie as tie
-use Rattle.dahomike.proofs.report.Reads as reads
-use Rattle.dahomike.proofs.report.Lts as lts
-use Rattle.dahomike.proofs.put_pair.Reads as put-pair-reads
 
 size : (a b : ℕ) → length (digits 4 a ++ digits 4 b) ≡ 8
 size a b = length-append (digits 4 a) (digits 4 b) ∙ rw (length-digits 4 a, length-digits 4 b)
@@ -30,62 +27,48 @@ Inv-loop out₀ tasks task slack i₀ out i =
 abbrev μ-loop : tie.MeasureT-loop
 μ-loop out₀ tasks task slack i₀ out i = tasks - i
 
--- src/lib.rt:45:5
 loop-holds : tie.Need-loop-holds Inv-loop μ-loop
 unfolding entries
 loop-holds c = (omega arith, refl, refl)
 
--- src/lib.rt:46:17
 mul-t : tie.Need-mul-t Inv-loop μ-loop
 mul-t c = search needs
 
--- src/lib.rt:46:17
 array-copy-out-t : tie.Need-array-copy-out-t Inv-loop μ-loop
 array-copy-out-t c = search needs
 
--- src/lib.rt:47:23
 mul-put-pair : tie.Need-mul-put-pair Inv-loop μ-loop
 mul-put-pair c = search needs
 
--- src/lib.rt:47:30
 mul-put-pair-2 : tie.Need-mul-put-pair-2 Inv-loop μ-loop
 mul-put-pair-2 c = search needs
 
--- src/lib.rt:47:30
 array-read-put-pair : tie.Need-array-read-put-pair Inv-loop μ-loop
 array-read-put-pair c = search needs
 
--- src/lib.rt:47:51
 mul-put-pair-3 : tie.Need-mul-put-pair-3 Inv-loop μ-loop
 mul-put-pair-3 c = search needs
 
--- src/lib.rt:47:51
 array-read-put-pair-2 : tie.Need-array-read-put-pair-2 Inv-loop μ-loop
 array-read-put-pair-2 c = search needs
 
--- src/lib.rt:47:40
 add-put-pair : tie.Need-add-put-pair Inv-loop μ-loop
 unfolding boundIn taskOf noTask row
 add-put-pair c = omega (arith, c .before .before .before .before .before .before .before .before .pre .small (c .before .before .before .before .loop .i) (omega arith))
 
--- src/lib.rt:47:40
 add-put-pair-2 : tie.Need-add-put-pair-2 Inv-loop μ-loop
 unfolding boundIn taskOf noTask row
 add-put-pair-2 c = omega (arith, c .before .before .before .before .before .before .before .before .before .pre .small (c .before .before .before .before .before .loop .i) (omega arith))
 
--- src/lib.rt:47:9
 put-pair-requires : tie.Need-put-pair-requires Inv-loop μ-loop
 put-pair-requires c κs = omega (arith, c .before .before .before .before .before .before .before .before .before .pre .fits, c .before .before .before .before .before .loop .inv .1)
 
--- src/lib.rt:48:9
 add-i : tie.Need-add-i Inv-loop μ-loop
 add-i c = search needs
 
--- src/lib.rt:45:5
 loop-less : tie.Need-loop-less Inv-loop μ-loop
 loop-less c = search needs
 
--- src/lib.rt:45:5
 loop-again : tie.Need-loop-again Inv-loop μ-loop
 unfolding taskOf noTask row
 loop-again c =
@@ -95,11 +78,9 @@ loop-again c =
       c .before .before .put-pair .ensures ∙ sets-entry 8 _ (λ j. size _ _) _ 0 (l .i) _ _ _ (l .inv .2) (omega arith) refl,
     )
 
--- src/lib.rt:37:1
 same-length : tie.Need-same-length Inv-loop μ-loop
 same-length c = c .before .loop .inv .1
 
--- src/lib.rt:37:1
 returns : tie.Need-returns Inv-loop μ-loop
 unfolding pairOf boundIn
 returns c =

@@ -17,9 +17,11 @@ Inv-loop separation budget offset task₀ i₀ task i = (i ≤ 16) × (task ≡ 
 abbrev μ-loop : tie.MeasureT-loop
 μ-loop separation budget offset task₀ i₀ task i = 16 - i
 
+no-task-requires : tie.Need-no-task-requires Inv-loop μ-loop
+no-task-requires c κs = search needs
+
 loop-holds : tie.Need-loop-holds Inv-loop μ-loop
-unfolding noTask
-loop-holds c = (omega arith, filled-none _ noTask 16)
+loop-holds c = (omega arith, rw (c .no-task .ensures) (filled-none _ noTask 16))
 
 mul-t9 : tie.Need-mul-t9 Inv-loop μ-loop
 mul-t9 c = search needs
@@ -55,7 +57,7 @@ loop-again : tie.Need-loop-again Inv-loop μ-loop
 unfolding entry row
 loop-again c =
     let l = c .before .before .before .before .loop in
-    let a = c .before .before .before .before .before .args in (
+    let a = c .before .before .before .before .before .before .args in (
       omega arith,
       rw (l .inv .1) (filled-next (entry (a .separation .now) (a .budget .now) (a .offset .now)) noTask (l .i) 16 (omega arith)),
     )
@@ -73,6 +75,7 @@ entries-spec =
     (tie.spec
     Inv-loop
     μ-loop
+    no-task-requires
     loop-holds
     mul-t9
     element-copy-out-t12

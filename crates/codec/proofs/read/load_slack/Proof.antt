@@ -1,4 +1,4 @@
--- `table::read::load_slack` meets its contract. The loop's invariant: the array is filled up to i, and holds zeros after it.
+-- `codec::read::load_slack` meets its contract. The loop's invariant: the array is filled up to i, and holds zeros after it.
 use Prim.Native.Nat.{_≤_, _+_, _*_, _-_}
 use native.Mathlib.Omega.{arith}
 use mathlib.Core.Path.{_≡_}
@@ -6,7 +6,7 @@ use borrow.Author.Needs.{needs}
 use Rattle.laws.specs.Tab.{tab, cut}
 use Rattle.laws.specs.TabLaws.{filled-none}
 use Rattle.codec.specs.Bytes.{number}
-use Rattle.codec.specs.StageLaws.{filled-step, filled-end}
+use Rattle.codec.specs.LoadLaws.{filled-step, filled-end}
 use Rattle.codec.proofs.read.load_slack.Statement.{statement}
 use Rattle.codec.proofs.read.load_slack.Tie as tie
 

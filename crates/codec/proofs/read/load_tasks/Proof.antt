@@ -1,4 +1,4 @@
--- `table::read::load_tasks` meets its contract. The loop's invariant: the array is filled up to i, and holds zeros after it.
+-- `codec::read::load_tasks` meets its contract. The loop's invariant: the array is filled up to i, and holds zeros after it.
 use Prim.Native.Nat.{_≤_, _+_, _*_, _-_}
 use native.Mathlib.Omega.{arith}
 use mathlib.Core.Path.{_≡_}
@@ -6,23 +6,25 @@ use borrow.Author.Needs.{needs}
 use Rattle.laws.specs.Tab.{tab, cut}
 use Rattle.laws.specs.TabLaws.{filled-none}
 use Rattle.tasks.specs.Content.{noTask}
-use Rattle.codec.specs.Table.{taskIn}
-use Rattle.codec.specs.StageLaws.{filled-step, filled-end}
+use Rattle.codec.specs.Table.{taskSize, taskIn}
+use Rattle.codec.specs.LoadLaws.{filled-step, filled-end}
 use Rattle.codec.proofs.read.load_tasks.Statement.{statement}
 use Rattle.codec.proofs.read.load_tasks.Tie as tie
 
 abbrev Inv-loop : tie.InvT-loop
-Inv-loop t from count tasks₀ end i₀ tasks i = (i ≤ end) × (tasks ≡ tab (cut i (λ j. taskIn t (from + 12 * j)) noTask) 16)
+Inv-loop t from count tasks₀ end i₀ tasks i = (i ≤ end) × (tasks ≡ tab (cut i (λ j. taskIn t (from + taskSize * j)) noTask) 16)
 
 abbrev μ-loop : tie.MeasureT-loop
 μ-loop t from count tasks₀ end i₀ tasks i = end - i
+
+no-task-requires : tie.Need-no-task-requires Inv-loop μ-loop
+no-task-requires c κs = search needs
 
 lesser-requires : tie.Need-lesser-requires Inv-loop μ-loop
 lesser-requires c κs = search needs
 
 loop-holds : tie.Need-loop-holds Inv-loop μ-loop
-unfolding noTask
-loop-holds c = (search needs, filled-none _ noTask 16)
+loop-holds c = (search needs, rw (c .before .no-task .ensures) (filled-none _ noTask 16))
 
 mul-task-at : tie.Need-mul-task-at Inv-loop μ-loop
 mul-task-at c = search needs
@@ -57,6 +59,7 @@ load-tasks-spec =
     (tie.spec
     Inv-loop
     μ-loop
+    no-task-requires
     lesser-requires
     loop-holds
     mul-task-at

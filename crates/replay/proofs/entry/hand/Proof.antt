@@ -1,8 +1,9 @@
 -- `replay::entry::hand` meets its contract.
-use Rattle.running.specs.HandLaws.{numberOf, hand-room, hand-small, hand-low, hand-offset, answer-20, hand-answer, hand-refused, hand-behind, hand-place, hand-rises, hand-first}
+use Rattle.running.specs.HandLaws.{hand-room, hand-small, hand-low, hand-offset, answer-20, hand-answer, hand-refused, hand-behind, hand-place, hand-rises, hand-first}
 use Rattle.history.specs.Engine.{outcomeOf}
 use Rattle.state.specs.CallLaws.{admission-room}
 use Rattle.tasks.specs.TaskSet.{row}
+use Rattle.tasks.specs.Tests.{numberOf}
 use Rattle.history.specs.Report.{refusal}
 use Rattle.logs.specs.LogBytes.{reportBytes}
 use native.Mathlib.Omega.{arith}

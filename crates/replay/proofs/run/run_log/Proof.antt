@@ -5,10 +5,8 @@ use Rattle.tasks.specs.declared.Plan.{Plan}
 use Rattle.codec.specs.Table.{verdict}
 use Rattle.table.specs.declared.Judgement.{Judgement}
 use Rattle.table.specs.Judged.{judged}
-use Rattle.logs.specs.declared.read.Entries.{Entries}
-use Rattle.logs.specs.declared.read.Entries.the-variants.{Read}
 use Rattle.logs.specs.LogBytes.{entriesIn}
-use Rattle.logs.specs.LogStages.{Small, answerOfEntries}
+use Rattle.logs.specs.LogStages.{answerOfEntries}
 use Rattle.logs.specs.LogLaws.{entries-length, log-length, read-accepted, read-refused}
 use Rattle.running.specs.Entered.{Fitting}
 use Rattle.running.specs.RunCode.{taken-few}
@@ -30,9 +28,6 @@ verdict-is t j b e q = sym (ap (λ (x : Judgement). x .answer) e) ∙ q
 
 accepts : (t : List ℕ) (j : Judgement) → j ≡ judged t → j .answer ≡ Accepted → verdict t ≡ Accepted
 accepts t j = verdict-is t j Accepted
-
-small-count : (e : Entries) (n : ℕ) → e ≡ Read n → Small e → n < 65536
-small-count e n q w = subst Small q w
 
 few-none : (r : Ran) (b : Answer) → _≡_ {A = Ran} r (record { answer = b; taken = 0; refused = 0 }) → r .taken + r .refused < 65536
 few-none r b q = rw q (omega arith)
@@ -78,9 +73,9 @@ returns-2 : tie.Need-returns-2
 unfolding answerOfEntries
 returns-2 c =
     let a = c .before .before .before .before .before .before .before .before .before .before .before .args in
-    let e = c .before .before .before .before .read-entries .ensures .0 in
+    let e = c .before .before .before .before .read-entries .ensures in
     let q = c .before .before .enum-told3 .given .1 in
-    let f = run-refused-log (a .table .now) (a .log .now) (a .out .now) (accepts (a .table .now) _ (c .before .before .before .before .before .before .before .judge .ensures) (c .before .before .before .before .before .enum-told .given .1)) _ _ (read-refused (a .log .now) _ _ (sym e ∙ q)) in (
+    let f = run-refused-log (a .table .now) (a .log .now) (a .out .now) (accepts (a .table .now) _ (c .before .before .before .before .before .before .before .judge .ensures) (c .before .before .before .before .before .enum-told .given .1)) _ _ (read-refused (a .log .now) _ e _ _ q) in (
       c .refused2 .ensures
           ∙ ap (λ (b : Answer). record { answer = b; taken = 0; refused = 0 }) (c .before .unread .ensures ∙ ap answerOfEntries q)
           ∙ f .ran,
@@ -91,7 +86,7 @@ returns-2 c =
 mul-if1 : tie.Need-mul-if1
 mul-if1 c =
     let r = c .before .before .before .read-entries .ensures in
-    omega (arith, small-count _ _ (c .before .entries .given .1) (r .1))
+    omega (arith, read-accepted _ _ r _ (c .before .entries .given .1) .2)
 
 refused-requires-3 : tie.Need-refused-requires-3
 refused-requires-3 c κs = search needs
@@ -102,7 +97,7 @@ returns-3 c =
     let r = c .before .before .before .before .before .read-entries .ensures in
     let g = c .before .before .before .entries .given .1 in
     let t = accepts (a .table .now) _ (c .before .before .before .before .before .before .before .before .judge .ensures) (c .before .before .before .before .before .before .enum-told .given .1) in
-    let l = read-accepted (a .log .now) _ (sym (r .0) ∙ g) in
+    let l = read-accepted (a .log .now) _ r _ g in
     let f = run-short (a .table .now) (a .log .now) (a .out .now) t (l .1) (omega (arith, l .0, c .before .if1 .taken)) in
     (c .refused3 .ensures ∙ f .ran, f .leaves, few-none _ _ (c .refused3 .ensures))
 
@@ -113,8 +108,8 @@ replay-requires c κs =
     let r = c .before .before .before .before .before .read-entries .ensures in
     let g = c .before .before .before .entries .given .1 in
     let t = accepts (a .table .now) _ (c .before .before .before .before .before .before .before .before .judge .ensures) (c .before .before .before .before .before .before .enum-told .given .1) in
-    let l = read-accepted (a .log .now) _ (sym (r .0) ∙ g) in
-    let small = small-count _ _ g (r .1) in (
+    let l = read-accepted (a .log .now) _ r _ g in
+    let small = l .2 in (
       subst (λ (p : Plan). Fitting p (entriesIn (a .log .now)) (a .out .now)) (sym (ap (λ (j : Judgement). j .plan) (c .before .before .before .before .before .before .before .before .judge .ensures)))
           (run-fitting (a .table .now) (a .log .now) (a .out .now) t (l .1) (omega (arith, l .0, c .before .if1 .left)) (omega (arith, l .0, small))),
       l .0 ∙ sym (entries-length (a .log .now)),
@@ -127,7 +122,7 @@ sub-t10 c =
     let r = c .before .before .before .before .before .before .before .before .read-entries .ensures in
     let g = c .before .before .before .before .before .before .entries .given .1 in
     let t = accepts (a .table .now) _ (c .before .before .before .before .before .before .before .before .before .before .before .judge .ensures) (c .before .before .before .before .before .before .before .before .before .enum-told .given .1) in
-    let l = read-accepted (a .log .now) _ (sym (r .0) ∙ g) in
+    let l = read-accepted (a .log .now) _ r _ g in
     omega (arith, c .before .before .replay .ensures .0, taken-few (c .before .before .before .before .before .before .before .before .before .before .before .judge .result .plan) (entriesIn (a .log .now)) (length (entriesIn (a .log .now))), entries-length (a .log .now), l .0)
 
 same-length : tie.Need-same-length
@@ -139,11 +134,11 @@ returns-4 c =
     let r = c .before .before .before .before .before .before .before .before .read-entries .ensures in
     let g = c .before .before .before .before .before .before .entries .given .1 in
     let t = accepts (a .table .now) _ (c .before .before .before .before .before .before .before .before .before .before .before .judge .ensures) (c .before .before .before .before .before .before .before .before .before .enum-told .given .1) in
-    let l = read-accepted (a .log .now) _ (sym (r .0) ∙ g) in
+    let l = read-accepted (a .log .now) _ r _ g in
     let p = ap (λ (j : Judgement). j .plan) (c .before .before .before .before .before .before .before .before .before .before .before .judge .ensures) in
     let e = rw p at (c .before .before .replay .ensures) in
     let n = run-taken (a .table .now) (a .log .now) (a .out .now) t (l .1) (omega (arith, l .0, c .before .before .before .before .if1 .left)) _ _ (e .0) (e .1) _ (l .0) in
-    let small = small-count _ _ g (r .1) in (
+    let small = l .2 in (
       n .0,
       n .1,
       part _ (c .before .before .replay .result)

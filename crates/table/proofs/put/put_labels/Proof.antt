@@ -1,4 +1,4 @@
--- `table::write::put_labels` meets its contract. The loop's invariant: the first i entries are stored behind the count.
+-- `table::put::put_labels` meets its contract. The loop's invariant: the first i entries are stored behind the count.
 use Prim.Native.Nat.{_≤_, _-_}
 use native.Mathlib.Nat.{le-antisymm}
 use native.Mathlib.Omega.{arith}
@@ -9,7 +9,7 @@ use lib.ListN.{length, length-set}
 use borrow.Author.Needs.{needs}
 use Rattle.tasks.specs.TaskSet.{row}
 use Rattle.codec.specs.Bytes.{entries}
-use Rattle.table.specs.WriteLaws.{sets-entry, sets-section}
+use Rattle.codec.specs.StoreLaws.{sets-entry, sets-section}
 use Rattle.table.proofs.put.put_labels.Statement.{statement}
 use Rattle.table.proofs.put.put_labels.Tie as tie
 

@@ -1,4 +1,4 @@
--- `table::write::put_slack` meets its contract. The loop's invariant: the first i entries are stored behind the count.
+-- `table::put::put_slack` meets its contract. The loop's invariant: the first i entries are stored behind the count.
 use Prim.Native.Nat.{_≤_, _-_}
 use native.Mathlib.Nat.{le-antisymm}
 use native.Mathlib.Omega.{arith}
@@ -8,7 +8,7 @@ use lib.ListN.{length, length-set}
 use borrow.Author.Needs.{needs}
 use Rattle.tasks.specs.TaskSet.{row}
 use Rattle.codec.specs.Bytes.{digits, entries}
-use Rattle.table.specs.WriteLaws.{sets-entry, sets-section}
+use Rattle.codec.specs.StoreLaws.{sets-entry, sets-section}
 use Rattle.codec.specs.ByteLaws.{length-digits}
 use Rattle.table.proofs.put.put_slack.Statement.{statement}
 use Rattle.table.proofs.put.put_slack.Tie as tie

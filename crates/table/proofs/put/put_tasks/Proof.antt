@@ -1,4 +1,4 @@
--- `table::write::put_tasks` meets its contract. The loop's invariant: the first i entries are stored behind the count.
+-- `table::put::put_tasks` meets its contract. The loop's invariant: the first i entries are stored behind the count.
 use Prim.Native.Nat.{_≤_, _-_}
 use native.Mathlib.Nat.{le-antisymm}
 use native.Mathlib.Omega.{arith}
@@ -8,8 +8,9 @@ use lib.ListN.{length, length-set}
 use borrow.Author.Needs.{needs}
 use Rattle.tasks.specs.Content.{noTask, taskOf}
 use Rattle.codec.specs.Bytes.{entries}
-use Rattle.codec.specs.Table.{taskBytes}
-use Rattle.table.specs.WriteLaws.{sets-entry, sets-section, length-task}
+use Rattle.codec.specs.Table.{taskSize, taskBytes}
+use Rattle.codec.specs.StoreLaws.{sets-entry, sets-section}
+use Rattle.codec.specs.TaskLaws.{length-task}
 use Rattle.table.proofs.put.put_tasks.Statement.{statement}
 use Rattle.table.proofs.put.put_tasks.Tie as tie
 
@@ -61,7 +62,7 @@ loop-again c =
     let l = c .before .before .before .before .before .before .loop .inv in (
       search needs,
       c .before .before .put-task .kept .0 ∙ l .1,
-      c .before .before .put-task .ensures ∙ sets-entry 12 _ (λ j. length-task _) _ _ _ _ _ _ (l .2) refl refl,
+      c .before .before .put-task .ensures ∙ sets-entry taskSize _ (λ j. length-task _) _ _ _ _ _ _ (l .2) refl refl,
     )
 
 same-length : tie.Need-same-length Inv-loop μ-loop

@@ -1,3 +1,4 @@
+-- `table::verdict::judge_plan` meets its contract.
 use Prim.Native.Nat.{ℕ, _≤_}
 use mathlib.Core.Path.{_≡_, sym, _∙_, ap}
 use Rattle.tasks.specs.declared.Plan.{Plan}
@@ -11,17 +12,11 @@ use Rattle.analysis.specs.PlanTest.{boundsOf}
 use Rattle.analysis.specs.PlanTestLaws.{few-tasks}
 use Rattle.table.specs.declared.Judgement.{Judgement}
 use Rattle.table.specs.Judged.{refusedWith}
-use Rattle.table.specs.JudgeLaws.{Judges, judgedAnswer, withSlack}
-use Prim.Native.Nat.{ℕ, _≤_}
-use mathlib.Core.Path.{_≡_, ap, sym, _∙_}
+use Rattle.tasks.specs.ContentLaws.{withSlack}
+use Rattle.table.specs.JudgeLaws.{Judges, judgedAnswer}
 use borrow.Author.Needs.{needs}
 use Rattle.table.proofs.verdict.judge_plan.Statement.{statement}
 use Rattle.table.proofs.verdict.judge_plan.Tie as tie
-use Rattle.table.proofs.verdict.judge_plan.Reads as reads
-use Rattle.table.proofs.verdict.judge_plan.Lts as lts
-use Rattle.analysis.proofs.plan_bounds.Reads as plan-bounds-reads
-use Rattle.analysis.proofs.settle.settle.Reads as settle-reads
-use Rattle.table.proofs.verdict.refused.Reads as refused-reads
 
 module _ (p : Plan) (k : ℕ) (t : Settled) (g : Settles p k t) where
   -- a refusal hands back a plan of zeros
@@ -46,28 +41,23 @@ module _ (p : Plan) (k : ℕ) (t : Settled) (g : Settles p k t) where
     accepted : (b : Answer) → b ≡ boundsOf p (t .slack) → b ≡ Accepted → Judges p k (record { answer = Accepted; plan = withSlack p (t .slack) })
     accepted b q v = record { answer = sym v ∙ bounded b q; plan = ap (withSlack p) (g .slack e) }
 
--- src/verdict.rt:60:9
 settle-requires : tie.Need-settle-requires
 settle-requires c κs = search needs
 
 enum-told : tie.Need-enum-told
 enum-told c = search needs
 
--- src/verdict.rt:63:9
 enum-told-2 : tie.Need-enum-told-2
 enum-told-2 c = search needs
 
--- src/verdict.rt:63:9
 refused-requires : tie.Need-refused-requires
 refused-requires c κs = search needs
 
--- src/verdict.rt:63:9
 returns : tie.Need-returns
 returns c =
     let s = c .before .before .before .before in
     unsettled (s .args .plan) (s .args .offers) _ (c .before .before .before .settle .ensures) _ _ _ (c .refused .ensures) (c .before .enum-told2 .given .1)
 
--- src/verdict.rt:66:9
 plan-bounds-requires : tie.Need-plan-bounds-requires
 plan-bounds-requires c κs =
     let s = c .before .before .before .before in
@@ -76,15 +66,12 @@ plan-bounds-requires c κs =
 enum-told-3 : tie.Need-enum-told-3
 enum-told-3 c = search needs
 
--- src/verdict.rt:68:9
 enum-told-4 : tie.Need-enum-told-4
 enum-told-4 c = search needs
 
--- src/verdict.rt:68:9
 refused-requires-2 : tie.Need-refused-requires-2
 refused-requires-2 c κs = search needs
 
--- src/verdict.rt:68:9
 returns-2 : tie.Need-returns-2
 returns-2 c =
     let s = c .before .before .before .before .before .before .before .before in
@@ -92,7 +79,6 @@ returns-2 c =
     refused (s .args .plan) (s .args .offers) _ g _ _ _ _ (c .refused2 .ensures) (c .before .enum-told4 .given .1)
     (bounded (s .args .plan) (s .args .offers) _ g (c .before .before .before .before .before .enum-told .given .1) _ (c .before .before .before .plan-bounds .ensures))
 
--- src/verdict.rt:57:1
 returns-3 : tie.Need-returns-3
 unfolding withSlack
 returns-3 c =

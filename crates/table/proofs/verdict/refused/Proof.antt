@@ -1,15 +1,15 @@
-use Rattle.tasks.specs.Content.{noTask, zeroPlan}
+-- `table::verdict::refused` meets its contract.
+use borrow.Author.Needs.{needs}
 use Rattle.table.specs.Judged.{refusedWith}
-use mathlib.Core.Path.{refl}
 use Rattle.table.proofs.verdict.refused.Statement.{statement}
 use Rattle.table.proofs.verdict.refused.Tie as tie
-use Rattle.table.proofs.verdict.refused.Reads as reads
-use Rattle.table.proofs.verdict.refused.Lts as lts
 
--- src/verdict.rt:19:1
+no-plan-requires : tie.Need-no-plan-requires
+no-plan-requires c κs = search needs
+
 returns : tie.Need-returns
-unfolding refusedWith zeroPlan noTask
-returns c = refl
+unfolding refusedWith
+returns c = rw (c .no-plan .ensures)
 
 pub refused-spec : {M : Type 1} → statement M
-refused-spec = tie.close (tie.spec returns)
+refused-spec = tie.close (tie.spec no-plan-requires returns)

@@ -1,13 +1,13 @@
--- `table::write::put_task` meets its contract: three numbers, one behind the other.
+-- `codec::entry::put_task` meets its contract: three numbers, one behind the other.
 use Prim.Native.Nat.{_+_}
 use native.Mathlib.Omega.{arith}
 use borrow.Author.Needs.{needs}
 use Rattle.codec.specs.Table.{taskBytes}
 use Rattle.codec.specs.ByteLaws.{length-digits}
-use Rattle.table.specs.WriteLaws.{sets-three}
+use Rattle.codec.specs.StoreLaws.{sets-three}
 use Rattle.codec.specs.Bytes.{digits}
-use Rattle.table.proofs.put.put_task.Statement.{statement}
-use Rattle.table.proofs.put.put_task.Tie as tie
+use Rattle.codec.proofs.entry.put_task.Statement.{statement}
+use Rattle.codec.proofs.entry.put_task.Tie as tie
 
 put4-requires : tie.Need-put4-requires
 put4-requires c κs = search needs

@@ -1,8 +1,8 @@
--- `table::read::task_at` meets its contract.
+-- `codec::entry::task_at` meets its contract.
 use borrow.Author.Needs.{needs}
 use Rattle.codec.specs.Table.{taskIn}
-use Rattle.codec.proofs.read.task_at.Statement.{statement}
-use Rattle.codec.proofs.read.task_at.Tie as tie
+use Rattle.codec.proofs.entry.task_at.Statement.{statement}
+use Rattle.codec.proofs.entry.task_at.Tie as tie
 
 number4-requires : tie.Need-number4-requires
 number4-requires c κs = search needs
