@@ -14,7 +14,7 @@ use lib.ListN.{set}
 use lib.Dec.{eqb}
 use borrow.Author.Tests.{eq-eqb, ne-eqb, le-leb, lt-leb}
 use Rattle.tasks.specs.TaskSet.{row}
-use Rattle.state.specs.Pick.{noKey}
+use Rattle.state.specs.Key.{noKey}
 use Rattle.state.specs.Serve.{moved, lastTick, workAfter, releaseAfter, jobsAfter, ran, turnJobs, turnWork, turnRelease, turnResponses, Arrays, turnOf, turns}
 
 module _ (finish i key : ℕ) (jobs work release responses : List ℕ) where

@@ -12,6 +12,8 @@ pub mod AdmitLaws
 pub mod Serve
 pub mod MoveLaws
 pub mod ServeLaws
+pub mod Key
+pub mod KeyLaws
 pub mod Pick
 pub mod PickLaws
 pub mod RankPickLaws

@@ -1,6 +1,6 @@
 -- `engine::advance::tick` meets its contract.
 use Rattle.state.specs.StepLaws.{sound-limits, sound-few, sound-jobless, TickCode, tick-code}
-use Rattle.state.specs.RestLaws.{keys-rest}
+use Rattle.state.specs.PickLaws.{keys-rest}
 use Rattle.state.specs.FitLaws.{in-cores}
 use Rattle.state.specs.Fit.{Shaped, length-mapped}
 use Rattle.state.specs.Pick.{Jobless}

@@ -1,5 +1,6 @@
 // From one clock to a later one, by leaps: who runs depends only on the heads and their priority points, so as long as no running job finishes
 // and nothing is released every tick is the same tick.
+use choice::head_key;
 use heads::insert;
 use heads::least;
 use heads::settle;
@@ -9,6 +10,7 @@ use service::move_down;
 ghost use mathlib.Core.Path.{_≡_};
 ghost use Prim.Native.Nat.{_≤_, _<_, min};
 ghost use lib.ListN.{length};
+ghost use Rattle.running.specs.Running.{arrays};
 ghost use Rattle.running.specs.Leap.{Standing, Ready, Leapt, Advanced};
 ghost use Rattle.running.specs.FinishCode.{Finishing, Finished};
 ghost use Rattle.running.specs.AllCode.{AllFinishing, AllFinished};
@@ -35,13 +37,14 @@ fn finish(
 ) -> usize
     requires { ⌜
         (length (now key) ≡ 16) × (length (now left) ≡ 16)
-        × Finishing i clock (now log) (now offsets) (now jobs) (now owners) (now key) (now left) heads (now out)
+        × Finishing i clock (now log) (now offsets)
+        (arrays (now jobs) (now owners) (now key) (now left) heads (now out))
         ⌝ }
     ensures { λ r. ⌜
         (length (now (key .exit)) ≡ 16) × (length (now (left .exit)) ≡ 16)
         × Finished i clock (now (log .entry)) (now (offsets .entry))
-        (now (jobs .entry)) (now (owners .entry)) (now (key .entry)) (now (left .entry)) heads (now (out .entry))
-        (now (jobs .exit)) (now (owners .exit)) (now (key .exit)) (now (left .exit)) r (now (out .exit))
+        (arrays (now (jobs .entry)) (now (owners .entry)) (now (key .entry)) (now (left .entry)) heads (now (out .entry)))
+        (arrays (now (jobs .exit)) (now (owners .exit)) (now (key .exit)) (now (left .exit)) r (now (out .exit)))
         ⌝ }
 {
     put_finished(out, owners[16 * i] as usize, clock);
@@ -52,8 +55,13 @@ fn finish(
         return heads;
     }
     let next = release_at(log, owners[16 * i] as usize);
-    let point = next.tick as u64 + offsets[i] as u64;
-    insert(key, left, heads, 16 * point + i as u64, next.demand);
+    insert(
+        key,
+        left,
+        heads,
+        head_key(next.tick, offsets[i], i),
+        next.demand,
+    );
     heads + 1
 }
 
@@ -73,13 +81,14 @@ fn finish_all(
 ) -> usize
     requires { ⌜
         (finished ≤ 16) × (length (now key) ≡ 16) × (length (now left) ≡ 16)
-        × AllFinishing (now done) finished clock (now log) (now offsets) (now jobs) (now owners) (now key) (now left) heads (now out)
+        × AllFinishing (now done) finished clock (now log) (now offsets)
+        (arrays (now jobs) (now owners) (now key) (now left) heads (now out))
         ⌝ }
     ensures { λ r. ⌜
         (length (now (key .exit)) ≡ 16) × (length (now (left .exit)) ≡ 16)
         × AllFinished (now (done .entry)) finished clock (now (log .entry)) (now (offsets .entry))
-        (now (jobs .entry)) (now (owners .entry)) (now (key .entry)) (now (left .entry)) heads (now (out .entry)) finished
-        (now (jobs .exit)) (now (owners .exit)) (now (key .exit)) (now (left .exit)) r (now (out .exit))
+        (arrays (now (jobs .entry)) (now (owners .entry)) (now (key .entry)) (now (left .entry)) heads (now (out .entry))) finished
+        (arrays (now (jobs .exit)) (now (owners .exit)) (now (key .exit)) (now (left .exit)) r (now (out .exit)))
         ⌝ }
 {
     let mut count = heads;
@@ -127,13 +136,14 @@ fn leap(
 ) -> Stop
     requires { ⌜
         (length (now key) ≡ 16) × (length (now left) ≡ 16) × (clock < to)
-        × ((x : Standing) × Ready x (now log) cores (now offsets) clock to (now jobs) (now owners) (now key) (now left) heads (now out))
+        × ((x : Standing) × Ready x (now log) cores (now offsets) clock to
+        (arrays (now jobs) (now owners) (now key) (now left) heads (now out)))
         ⌝ }
     ensures { λ r. ⌜
         (length (now (key .exit)) ≡ 16) × (length (now (left .exit)) ≡ 16)
         × Leapt (now (log .entry)) cores (now (offsets .entry)) clock to
-        (now (jobs .entry)) (now (owners .entry)) (now (key .entry)) (now (left .entry)) heads (now (out .entry)) (r .clock)
-        (now (jobs .exit)) (now (owners .exit)) (now (key .exit)) (now (left .exit)) (r .heads) (now (out .exit))
+        (arrays (now (jobs .entry)) (now (owners .entry)) (now (key .entry)) (now (left .entry)) heads (now (out .entry))) (r .clock)
+        (arrays (now (jobs .exit)) (now (owners .exit)) (now (key .exit)) (now (left .exit)) (r .heads) (now (out .exit)))
         ⌝ }
 {
     let ticks = least(left, fewer(cores, heads), to - clock);
@@ -175,13 +185,14 @@ pub fn advance(
 ) -> usize
     requires { ⌜
         (length (now key) ≡ 16) × (length (now left) ≡ 16) × (from ≤ to)
-        × ((x : Standing) × Ready x (now log) cores (now offsets) from to (now jobs) (now owners) (now key) (now left) heads (now out))
+        × ((x : Standing) × Ready x (now log) cores (now offsets) from to
+        (arrays (now jobs) (now owners) (now key) (now left) heads (now out)))
         ⌝ }
     ensures { λ r. ⌜
         (length (now (key .exit)) ≡ 16) × (length (now (left .exit)) ≡ 16)
         × Advanced (now (log .entry)) cores (now (offsets .entry)) from to
-        (now (jobs .entry)) (now (owners .entry)) (now (key .entry)) (now (left .entry)) heads (now (out .entry)) to
-        (now (jobs .exit)) (now (owners .exit)) (now (key .exit)) (now (left .exit)) r (now (out .exit))
+        (arrays (now (jobs .entry)) (now (owners .entry)) (now (key .entry)) (now (left .entry)) heads (now (out .entry))) to
+        (arrays (now (jobs .exit)) (now (owners .exit)) (now (key .exit)) (now (left .exit)) r (now (out .exit)))
         ⌝ }
 {
     let mut clock = from;

@@ -1,5 +1,6 @@
--- `replay::onward::advance` meets its contract; the loop's invariant says where the leaps so far have led, its measure that they
+-- `onward::advance` meets its contract; the loop's invariant says where the leaps so far have led, its measure that they
 -- are at most one more than the jobs that finish.
+use Rattle.running.specs.Running.{arrays}
 use Rattle.running.specs.Leap.{pendingIn, Advanced}
 use Rattle.running.specs.ReadyLaws.{advanced-none, advanced-ready, advanced-more}
 use borrow.Author.Needs.{needs}
@@ -7,8 +8,8 @@ use native.Mathlib.Omega.{arith}
 use Prim.Native.Nat.{ℕ, _+_, _≤_, _-_, min}
 use mathlib.Core.Path.{_≡_, refl}
 use lib.ListN.{length}
-use Rattle.replay.proofs.onward.advance.Statement.{statement}
-use Rattle.replay.proofs.onward.advance.Tie as tie
+use Rattle.onward.proofs.advance.Statement.{statement}
+use Rattle.onward.proofs.advance.Tie as tie
 
 abbrev Inv-loop : tie.InvT-loop
 Inv-loop from to cores log offsets jobs₀ owners₀ key₀ left₀ heads out₀ clock₀ count₀ jobs owners key left out clock count =
@@ -17,7 +18,7 @@ Inv-loop from to cores log offsets jobs₀ owners₀ key₀ left₀ heads out₀
     × (length out ≡ length out₀)
     × (length key ≡ 16)
     × (length left ≡ 16)
-    × Advanced log cores offsets from to jobs₀ owners₀ key₀ left₀ heads out₀ clock jobs owners key left count out
+    × Advanced log cores offsets from to (arrays jobs₀ owners₀ key₀ left₀ heads out₀) clock (arrays jobs owners key left count out)
 
 abbrev μ-loop : tie.MeasureT-loop
 μ-loop from to cores log offsets jobs₀ owners₀ key₀ left₀ heads out₀ clock₀ count₀ jobs owners key left out clock count =
@@ -26,18 +27,13 @@ abbrev μ-loop : tie.MeasureT-loop
 loop-holds : tie.Need-loop-holds Inv-loop μ-loop
 loop-holds c =
     let P = c .before .before .pre in
-    (omega arith, omega arith, refl, P .0, P .1, advanced-none _ _ _ _ _ _ _ _ _ _ _)
+    (omega arith, omega arith, refl, P .0, P .1, advanced-none)
 
 leap-requires : tie.Need-leap-requires Inv-loop μ-loop
 leap-requires c κs =
-    let a = c .before .before .before .before .before .before .before .before .before .args in
-    let l = c .before .before .before .before .before .before .loop in (
-      l .inv .3,
-      l .inv .4,
-      omega arith,
-      advanced-ready (a .log .now) (a .cores) (a .offsets .now) (a .from) (a .to) (a .jobs .now) (a .owners .now) (a .key .now) (a .left .now) (a .heads) (a .out .now)
-          (l .clock) (l .jobs) (l .owners) (l .key) (l .left) (l .count) (l .out) (l .inv .0) (l .inv .5) (c .before .before .before .before .before .before .before .before .before .pre .3),
-    )
+    let l = c .before .before .before .before .before .before .loop in
+    let P = c .before .before .before .before .before .before .before .before .before .pre in
+    (l .inv .3, l .inv .4, omega arith, advanced-ready (l .inv .0) (l .inv .5) (P .3))
 
 loop-less : tie.Need-loop-less Inv-loop μ-loop
 loop-less c =
@@ -46,17 +42,9 @@ loop-less c =
 
 loop-again : tie.Need-loop-again Inv-loop μ-loop
 loop-again c =
-    let a = c .before .before .before .before .before .before .before .before .before .before .before .before .args in
     let l = c .before .before .before .before .before .before .before .before .before .loop in
-    let g = c .before .before .leap .ensures in (
-      omega (arith, g .2 .onward),
-      g .2 .within,
-      search needs,
-      g .0,
-      g .1,
-      advanced-more (a .log .now) (a .cores) (a .offsets .now) (a .from) (a .to) (a .jobs .now) (a .owners .now) (a .key .now) (a .left .now) (a .heads) (a .out .now)
-          (l .clock) (l .jobs) (l .owners) (l .key) (l .left) (l .count) (l .out) (l .inv .0) (l .inv .5) _ _ _ _ _ _ _ (g .2),
-    )
+    let g = c .before .before .leap .ensures in
+    (omega (arith, g .2 .onward), g .2 .within, search needs, g .0, g .1, advanced-more (l .inv .0) (l .inv .5) (g .2))
 
 same-length : tie.Need-same-length Inv-loop μ-loop
 same-length c = search needs

@@ -1,4 +1,5 @@
--- `replay::onward::finish_all` meets its contract; the loop's invariant says which tasks are noted so far.
+-- `onward::finish_all` meets its contract; the loop's invariant says which tasks are noted so far.
+use Rattle.running.specs.Running.{arrays}
 use Rattle.running.specs.AllCode.{AllFinished, all-none, all-one, all-more}
 use Rattle.tasks.specs.TaskSet.{row}
 use borrow.Author.Needs.{needs}
@@ -6,8 +7,8 @@ use native.Mathlib.Omega.{arith}
 use Prim.Native.Nat.{ℕ, _≤_, _-_}
 use mathlib.Core.Path.{_≡_, refl}
 use lib.ListN.{length}
-use Rattle.replay.proofs.onward.finish_all.Statement.{statement}
-use Rattle.replay.proofs.onward.finish_all.Tie as tie
+use Rattle.onward.proofs.finish_all.Statement.{statement}
+use Rattle.onward.proofs.finish_all.Tie as tie
 
 abbrev Inv-loop : tie.InvT-loop
 Inv-loop done finished clock log offsets jobs₀ owners₀ key₀ left₀ heads out₀ count₀ a₀ jobs owners key left out count a =
@@ -15,13 +16,13 @@ Inv-loop done finished clock log offsets jobs₀ owners₀ key₀ left₀ heads 
     × (length out ≡ length out₀)
     × (length key ≡ 16)
     × (length left ≡ 16)
-    × AllFinished done finished clock log offsets jobs₀ owners₀ key₀ left₀ heads out₀ a jobs owners key left count out
+    × AllFinished done finished clock log offsets (arrays jobs₀ owners₀ key₀ left₀ heads out₀) a (arrays jobs owners key left count out)
 
 abbrev μ-loop : tie.MeasureT-loop
 μ-loop done finished clock log offsets jobs₀ owners₀ key₀ left₀ heads out₀ count₀ a₀ jobs owners key left out count a = finished - a
 
 loop-holds : tie.Need-loop-holds Inv-loop μ-loop
-loop-holds c = (omega arith, refl, c .before .before .pre .1, c .before .before .pre .2, all-none _ _ _ _ _ _ _ _ _ _ _)
+loop-holds c = (omega arith, refl, c .before .before .pre .1, c .before .before .pre .2, all-none)
 
 mul-finish : tie.Need-mul-finish Inv-loop μ-loop
 mul-finish c = search needs
@@ -32,13 +33,9 @@ element-copy-out-finish c = search needs
 finish-requires : tie.Need-finish-requires Inv-loop μ-loop
 unfolding row
 finish-requires c κs =
-    let a = c .before .before .before .before .before .before .before .before .before .before .args in
-    let l = c .before .before .before .before .before .before .before .loop in (
-      l .inv .2,
-      l .inv .3,
-      all-one (a .done .now) (a .finished) (a .clock) (a .log .now) (a .offsets .now) (a .jobs .now) (a .owners .now) (a .key .now) (a .left .now)
-          (a .heads) (a .out .now) (l .a) (l .jobs) (l .owners) (l .key) (l .left) (l .count) (l .out) (omega arith) (l .inv .4) (c .before .before .before .before .before .before .before .before .before .before .pre .3),
-    )
+    let P = c .before .before .before .before .before .before .before .before .before .before .pre in
+    let l = c .before .before .before .before .before .before .before .loop in
+    (l .inv .2, l .inv .3, all-one (omega arith) (l .inv .4) (P .3))
 
 add-a : tie.Need-add-a Inv-loop μ-loop
 add-a c = search needs
@@ -49,16 +46,9 @@ loop-less c = search needs
 loop-again : tie.Need-loop-again Inv-loop μ-loop
 unfolding row
 loop-again c =
-    let a = c .before .before .before .before .before .before .before .before .before .before .before .before .before .args in
     let l = c .before .before .before .before .before .before .before .before .before .before .loop in
-    let g = c .before .before .finish .ensures in (
-      omega arith,
-      search needs,
-      g .0,
-      g .1,
-      all-more (a .done .now) (a .finished) (a .clock) (a .log .now) (a .offsets .now) (a .jobs .now) (a .owners .now) (a .key .now) (a .left .now)
-          (a .heads) (a .out .now) (l .a) (l .jobs) (l .owners) (l .key) (l .left) (l .count) (l .out) (omega arith) (l .inv .4) _ _ _ _ _ _ (g .2),
-    )
+    let g = c .before .before .finish .ensures in
+    (omega arith, search needs, g .0, g .1, all-more (omega arith) (l .inv .4) (g .2))
 
 same-length : tie.Need-same-length Inv-loop μ-loop
 same-length c = search needs

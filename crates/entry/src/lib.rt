@@ -1,9 +1,10 @@
 // One entry of a log: up to its tick, and its release handed over.
-use crate::onward::advance;
+use choice::head_key;
 use engine::admission_test;
 use heads::insert;
 use logs::read::release_at;
 use logs::report::put_refused;
+use onward::advance;
 use tasks::Answer;
 use tasks::refusal;
 ghost use mathlib.Core.Path.{_≡_};
@@ -12,9 +13,10 @@ ghost use Prim.Native.Nat.{ℕ};
 ghost use lib.ListN.{length};
 ghost use Rattle.tasks.specs.declared.Plan.{Plan};
 ghost use Rattle.history.specs.Log.{Entry};
+ghost use Rattle.running.specs.Running.{arrays};
 ghost use Rattle.running.specs.HandLaws.{Handing, Handed, numberOf};
 ghost use Rattle.running.specs.EnterCode.{Entering, Enters};
-ghost use Rattle.replay.specs.declared.entry.Place.{Place};
+ghost use Rattle.entry.specs.declared.Place.{Place};
 
 // The clock after an entry, how many tasks have a job that may run, and 1 where the entry was taken.
 pub struct Place {
@@ -65,16 +67,16 @@ fn hand(
     requires { ⌜
         (length (now key) ≡ 16) × (length (now left) ≡ 16)
         × ((p : Plan) × ((l : List Entry) × ((out₀ : List ℕ)
-        × Handing p l out₀ e tick task demand tasks (now separations) (now budgets) (now offsets) (now jobs) (now released) (now last) (now owners)
-        (now key) (now left) heads (now out))))
+        × Handing p l out₀ e tick task demand tasks (now separations) (now budgets) (now offsets)
+        (arrays (now jobs) (now owners) (now key) (now left) heads (now out)) (now released) (now last))))
         ⌝ }
     ensures { λ r. ⌜
         (length (now (key .exit)) ≡ 16) × (length (now (left .exit)) ≡ 16) × (r .clock ≡ tick)
         × Handed e tick task demand tasks (now (separations .entry)) (now (budgets .entry)) (now (offsets .entry))
-        (now (jobs .entry)) (now (released .entry)) (now (last .entry)) (now (owners .entry)) (now (key .entry)) (now (left .entry)) heads
-        (now (out .entry)) (r .taken)
-        (now (jobs .exit)) (now (released .exit)) (now (last .exit)) (now (owners .exit)) (now (key .exit)) (now (left .exit)) (r .heads)
-        (now (out .exit))
+        (arrays (now (jobs .entry)) (now (owners .entry)) (now (key .entry)) (now (left .entry)) heads (now (out .entry)))
+        (now (released .entry)) (now (last .entry)) (r .taken)
+        (arrays (now (jobs .exit)) (now (owners .exit)) (now (key .exit)) (now (left .exit)) (r .heads) (now (out .exit)))
+        (now (released .exit)) (now (last .exit))
         ⌝ }
 {
     if tasks <= task {
@@ -102,8 +104,13 @@ fn hand(
     if held != 0 {
         return stay(tick, heads, 1);
     }
-    let point = tick as u64 + offsets[task] as u64;
-    insert(key, left, heads, 16 * point + task as u64, demand);
+    insert(
+        key,
+        left,
+        heads,
+        head_key(tick, offsets[task], task),
+        demand,
+    );
     stay(tick, heads + 1, 1)
 }
 
@@ -130,16 +137,16 @@ pub fn enter(
     requires { ⌜
         (length (now key) ≡ 16) × (length (now left) ≡ 16)
         × ((p : Plan) × ((out₀ : List ℕ)
-        × Entering p out₀ (now log) e clock cores tasks (now separations) (now budgets) (now offsets) (now jobs) (now released) (now last)
-        (now owners) (now key) (now left) heads (now out)))
+        × Entering p out₀ (now log) e clock cores tasks (now separations) (now budgets) (now offsets)
+        (arrays (now jobs) (now owners) (now key) (now left) heads (now out)) (now released) (now last)))
         ⌝ }
     ensures { λ r. ⌜
         (length (now (key .exit)) ≡ 16) × (length (now (left .exit)) ≡ 16)
         × Enters (now (log .entry)) e clock cores tasks (now (separations .entry)) (now (budgets .entry)) (now (offsets .entry))
-        (now (jobs .entry)) (now (released .entry)) (now (last .entry)) (now (owners .entry)) (now (key .entry)) (now (left .entry)) heads
-        (now (out .entry)) (r .clock) (r .taken)
-        (now (jobs .exit)) (now (released .exit)) (now (last .exit)) (now (owners .exit)) (now (key .exit)) (now (left .exit)) (r .heads)
-        (now (out .exit))
+        (arrays (now (jobs .entry)) (now (owners .entry)) (now (key .entry)) (now (left .entry)) heads (now (out .entry)))
+        (now (released .entry)) (now (last .entry)) (r .clock) (r .taken)
+        (arrays (now (jobs .exit)) (now (owners .exit)) (now (key .exit)) (now (left .exit)) (r .heads) (now (out .exit)))
+        (now (released .exit)) (now (last .exit))
         ⌝ }
 {
     let entry = release_at(log, e);
