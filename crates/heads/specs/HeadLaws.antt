@@ -14,7 +14,7 @@ use borrow.Author.Tests.{ltb-true, ltb-false, eqb-true, eqb-false, eq-eqb}
 use Rattle.tasks.specs.TaskSet.{TaskSet, row}
 use Rattle.machine.specs.Machine.{Job, job, Machine, pending, waiting, runs, leftOf}
 use Rattle.machine.specs.Choice.{earliest}
-use Rattle.state.specs.Key.{keyOf}
+use Rattle.choice.specs.Key.{keyOf}
 use Rattle.heads.specs.Order.{headWork, Head, Heads, workAfter, Settles, Inserted}
 use Rattle.heads.specs.OrderLaws.{owns-key, place-runs, place-idle}
 

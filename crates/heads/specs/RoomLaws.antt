@@ -12,7 +12,7 @@ use Rattle.laws.specs.SumLaws.{count-le, count-not, count-pos, count-members}
 use Rattle.laws.specs.Member.{member, Distinct}
 use Rattle.tasks.specs.TaskSet.{TaskSet}
 use Rattle.machine.specs.Machine.{Machine, waiting}
-use Rattle.state.specs.Key.{keyOf}
+use Rattle.choice.specs.Key.{keyOf}
 use Rattle.heads.specs.Order.{Rises, Heads}
 use Rattle.heads.specs.OrderLaws.{later, later-in, not-again, loopIn, loop-at, all-rise}
 

@@ -21,12 +21,11 @@ use Rattle.laws.specs.Member.{member}
 use Rattle.laws.specs.MemberLaws.{member-cases}
 use Rattle.tasks.specs.declared.Plan.{Plan}
 use Rattle.tasks.specs.TaskSet.{TaskSet}
-use Rattle.tasks.specs.Content.{contentOf}
 use Rattle.machine.specs.Machine.{Job, job, runs, served, advanced, tick}
 use Rattle.machine.specs.Sound.{Rising, reached-sound}
 use Rattle.machine.specs.Choice.{earliest}
 use Rattle.state.specs.Fit.{Fit}
-use Rattle.history.specs.Engine.{refused, Engine, Call, step, clock, state, named, Ends}
+use Rattle.history.specs.Engine.{refused, Call, step, clock, state, named, Ends}
 use Rattle.history.specs.EngineLaws.{ends-step}
 use Rattle.history.specs.Log.{Entry, loopAt, wait, outcome, Taken, owed}
 use Rattle.history.specs.Report.{finished, refusal}

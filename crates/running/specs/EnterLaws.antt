@@ -18,10 +18,9 @@ use Rattle.laws.specs.Member.{member}
 use Rattle.laws.specs.MemberLaws.{member-append, member-here}
 use Rattle.tasks.specs.declared.Plan.{Plan}
 use Rattle.tasks.specs.TaskSet.{TaskSet}
-use Rattle.tasks.specs.Content.{contentOf}
 use Rattle.machine.specs.Machine.{Job, job, admitted, joined}
 use Rattle.state.specs.State.{releasedIn, lastIn}
-use Rattle.history.specs.Engine.{refused, Engine, Call, ask, clock, state, verdict, named, Ends}
+use Rattle.history.specs.Engine.{refused, Call, ask, clock, state, verdict, named, Ends}
 use Rattle.history.specs.EngineLaws.{ends-ask}
 use Rattle.history.specs.Log.{Entry, tickAt, loopAt, demandAt, until, calls, outcome, Taken, owed}
 use Rattle.history.specs.LogLaws.{taken-call, clock-entry}

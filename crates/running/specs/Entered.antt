@@ -19,19 +19,19 @@ use borrow.Author.Tests.{leb-false, eqb-true, eq-eqb}
 use Rattle.laws.specs.TabLaws.{tab-ext}
 use Rattle.tasks.specs.declared.Plan.{Plan}
 use Rattle.tasks.specs.declared.Answer.the-variants.{Accepted}
-use Rattle.tasks.specs.TaskSet.{TaskSet, row}
+use Rattle.tasks.specs.TaskSet.{row}
 use Rattle.tasks.specs.Content.{taskOf, contentOf, tidy}
 use Rattle.tasks.specs.Tests.{testPlan}
 use Rattle.machine.specs.Machine.{Job, job, Machine, full, joined, admitted, pending, waiting, headRelease}
 use Rattle.state.specs.State.{flagOf, tickOf, releasedIn, lastIn}
 use Rattle.state.specs.FitLaws.{plan-limits}
 use Rattle.state.specs.AdmitLaws.{admitted-released, admitted-last}
-use Rattle.state.specs.Key.{headKey, keyOf}
+use Rattle.choice.specs.Key.{headKey, keyOf}
 use Rattle.heads.specs.Order.{headWork, Heads, Inserted}
 use Rattle.heads.specs.HeadLaws.{SameHead, heads-same, inserted}
 use Rattle.heads.specs.RoomLaws.{room-for}
 use Rattle.history.specs.Engine as history
-use Rattle.history.specs.Engine.{taken, refused, Engine, Call, ask, state, verdict, named}
+use Rattle.history.specs.Engine.{taken, refused, Call, ask, state, verdict, named}
 use Rattle.history.specs.EngineLaws.{ends-ask}
 use Rattle.history.specs.Log.{Entry, tickAt, loopAt, demandAt, back, wait, until, calls, outcome}
 use Rattle.history.specs.LogLaws.{largest-least, clock-calls, clock-entry}

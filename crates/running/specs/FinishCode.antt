@@ -9,8 +9,8 @@ use mathlib.Core.List.{List}
 use lib.ListN.{length, set}
 use lib.Seq.{sets}
 use Rattle.tasks.specs.TaskSet.{row}
-use Rattle.state.specs.Serve.{moved}
-use Rattle.state.specs.Key.{headKey}
+use Rattle.service.specs.Serve.{moved}
+use Rattle.choice.specs.Key.{headKey}
 use Rattle.history.specs.Engine.{Call}
 use Rattle.history.specs.Report.{finished}
 use Rattle.logs.specs.declared.read.Release.{Release}

@@ -21,7 +21,7 @@ use Rattle.machine.specs.Sound.{Rising, reached-sound}
 use Rattle.state.specs.Fit.{Fit}
 use Rattle.state.specs.KeptLaws.{reached-fit}
 use Rattle.state.specs.FitLaws.{in-task, in-count, plan-limits}
-use Rattle.state.specs.Serve.{moved}
+use Rattle.service.specs.Serve.{moved}
 use Rattle.history.specs.Engine as history
 use Rattle.history.specs.Engine.{Engine, Call, step, state}
 use Rattle.history.specs.Log.{Entry, noEntry, tickAt, demandAt}
@@ -33,7 +33,7 @@ use Rattle.logs.specs.declared.read.Release.{Release}
 use Rattle.logs.specs.LogStages.{Releases}
 use Rattle.logs.specs.LogBytes.{entryCount, entryIn, reportBytes}
 use Rattle.logs.specs.LogLaws.{entries-length, entry-at}
-use Rattle.state.specs.Key.{headKey, keyOf}
+use Rattle.choice.specs.Key.{headKey, keyOf}
 use Rattle.heads.specs.Order.{headWork, Heads, Inserted}
 use Rattle.heads.specs.HeadLaws.{without, inserted, left-out}
 use Rattle.heads.specs.RoomLaws.{room-for}

@@ -37,7 +37,7 @@ use Rattle.history.specs.Report.{refusal}
 use Rattle.history.specs.OnMachine.{answerOf, machineEngine}
 use Rattle.history.specs.Balance.{machine-clock}
 use Rattle.history.specs.Owners.{owned-length}
-use Rattle.state.specs.Key.{headKey}
+use Rattle.choice.specs.Key.{headKey}
 use Rattle.heads.specs.Order.{Inserted}
 use Rattle.logs.specs.LogBytes.{reportBytes}
 use Rattle.demand.specs.Delivered.{outcomeOf}

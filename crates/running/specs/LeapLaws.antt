@@ -28,7 +28,7 @@ use Rattle.history.specs.Log.{wait}
 use Rattle.history.specs.OnMachine.{machineEngine}
 use Rattle.history.specs.Balance.{reached}
 use Rattle.history.specs.Owners.{finishing}
-use Rattle.state.specs.Key.{keyOf}
+use Rattle.choice.specs.Key.{keyOf}
 use Rattle.heads.specs.Order.{headWork, Heads, lowest, workAfter, Settles, Finishes}
 use Rattle.heads.specs.OrderLaws.{loopIn, loop-at, owns-key, runs-place}
 use Rattle.heads.specs.HeadLaws.{Ticks, over, settled, after-here, over-here}

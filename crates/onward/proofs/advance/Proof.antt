@@ -5,7 +5,7 @@ use Rattle.running.specs.Leap.{pendingIn, Advanced}
 use Rattle.running.specs.ReadyLaws.{advanced-none, advanced-ready, advanced-more}
 use borrow.Author.Needs.{needs}
 use native.Mathlib.Omega.{arith}
-use Prim.Native.Nat.{ℕ, _+_, _≤_, _-_, min}
+use Prim.Native.Nat.{_+_, _≤_, _-_, min}
 use mathlib.Core.Path.{_≡_, refl}
 use lib.ListN.{length}
 use Rattle.onward.proofs.advance.Statement.{statement}

@@ -4,7 +4,7 @@ use Rattle.running.specs.AllCode.{AllFinished, all-none, all-one, all-more}
 use Rattle.tasks.specs.TaskSet.{row}
 use borrow.Author.Needs.{needs}
 use native.Mathlib.Omega.{arith}
-use Prim.Native.Nat.{ℕ, _≤_, _-_}
+use Prim.Native.Nat.{_≤_, _-_}
 use mathlib.Core.Path.{_≡_, refl}
 use lib.ListN.{length}
 use Rattle.onward.proofs.finish_all.Statement.{statement}

@@ -3,7 +3,7 @@ use Rattle.running.specs.Running.{arrays}
 use Rattle.running.specs.RunCode.{EntersTo, enters-none, enters-ready, enters-more, enters-few}
 use borrow.Author.Needs.{needs}
 use native.Mathlib.Omega.{arith}
-use Prim.Native.Nat.{ℕ, _≤_, _-_}
+use Prim.Native.Nat.{_≤_, _-_}
 use mathlib.Core.Path.{_≡_, refl}
 use lib.ListN.{length}
 use Rattle.replay.proofs.run.enter_all.Statement.{statement}

@@ -13,11 +13,11 @@ use borrow.Author.Tests.{eqb-true, eqb-false, eq-eqb, ne-eqb, lt-leb}
 use Rattle.laws.specs.TabLaws.{length-tab, set-tab, tab-ext}
 use Rattle.tasks.specs.TaskSet.{row}
 use Rattle.machine.specs.Machine.{Job, job, releaseTick, remaining, Machine, served, response}
 use Rattle.state.specs.State.{noJob, jobAt, jobsIn, remainingIn, releaseIn}
-use Rattle.state.specs.Serve.{moved, lastTick, workAfter, releaseAfter, jobsAfter, responseAfter}
-use Rattle.state.specs.MoveLaws.{movedRow, moved-row}
+use Rattle.service.specs.Serve.{moved, lastTick, workAfter, releaseAfter, jobsAfter, responseAfter}
+use Rattle.service.specs.MoveLaws.{movedRow, moved-row}
 use Rattle.state.specs.AllLaws.{by-place, loop-of, place-in}
 use Rattle.state.specs.ViewLaws.{job-at, row-jobs, row-remaining, row-release}
 
 pub record Serves (i : ℕ) (M N : Machine) : Type 0 where
   pub low : i < 16

@@ -14,8 +14,8 @@ use borrow.Author.Tests.{ltb-true, ltb-false, lt-ltb, le-ltb, eqb-true, eqb-fals
 use Rattle.laws.specs.Tab.{tab}
 use Rattle.laws.specs.TabLaws.{getD-tab, ext-tab, set-tab, tab-ext}
 use Rattle.tasks.specs.TaskSet.{row}
-use Rattle.state.specs.Serve.{movedTo, moved}
+use Rattle.service.specs.Serve.{movedTo, moved}
 use Rattle.state.specs.AllLaws.{by-place, loop-of, place-in}
 
 unfoldable pub movedRow : ℕ → List ℕ → ℕ → ℕ
 movedRow i l k = cond (eqb (k / 16) i) (cond (eqb (k % 16) 15) 0 (row l (k + 1))) (row l k)

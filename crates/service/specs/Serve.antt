@@ -11,7 +11,7 @@ use mathlib.Core.List.{List}
 use lib.ListN.{set}
 use lib.Dec.{leb, eqb}
 use Rattle.tasks.specs.TaskSet.{row}
-use Rattle.state.specs.Key.{noKey}
+use Rattle.choice.specs.Key.{noKey}
 
 -- the first p of them moved, one after the other
 unfoldable pub movedTo : ℕ → List ℕ → ℕ → List ℕ

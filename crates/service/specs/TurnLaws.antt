@@ -20,14 +20,14 @@ use Rattle.tasks.specs.TaskSet.{TaskSet, row}
 use Rattle.tasks.specs.Content.{contentOf}
 use Rattle.machine.specs.Machine.{Job, job, Machine, pending, waiting, runs, served, advanced, tick, responses}
 use Rattle.machine.specs.Choice.{earliest}
 use Rattle.state.specs.State.{jobsIn, releasedIn, lastIn, remainingIn, releaseIn, stateOf}
-use Rattle.state.specs.Pick.{keysAfter, keysOf}
-use Rattle.state.specs.Serve.{ran, lastTick, responseAfter, jobsAfter, workAfter, releaseAfter, turnJobs, turnWork, turnRelease, turnResponses, turnOf, turns}
-use Rattle.state.specs.ServeLaws.{Serves, same-work, same-release, same-jobs, served-work, served-release, served-jobs, served-response}
+use Rattle.choice.specs.Pick.{keysAfter, keysOf}
+use Rattle.service.specs.Serve.{ran, lastTick, responseAfter, jobsAfter, workAfter, releaseAfter, turnJobs, turnWork, turnRelease, turnResponses, turnOf, turns}
+use Rattle.service.specs.ServeLaws.{Serves, same-work, same-release, same-jobs, served-work, served-release, served-jobs, served-response}
 use Rattle.state.specs.Fit.{Fit}
 use Rattle.state.specs.FitLaws.{in-count, fit-tasks, known-lane}
 use Rattle.state.specs.ViewLaws.{row-jobs}
-use Rattle.state.specs.TickLaws.{run-picked}
+use Rattle.choice.specs.TickLaws.{run-picked}
 
 unfoldable pub turned : Plan → Machine → ℕ → Machine
 turned p M i = advanced (λ j. runs (contentOf p .tasks) M j && ltb j i) M

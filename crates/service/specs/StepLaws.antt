@@ -18,20 +18,20 @@ use Rattle.tasks.specs.Content.{contentOf}
 use Rattle.tasks.specs.Limits.{Limits}
 use Rattle.machine.specs.Machine as machine
 use Rattle.machine.specs.Machine.{Machine, admitted}
 use Rattle.state.specs.declared.State.{State}
 use Rattle.state.specs.declared.Stepped.{Stepped}
 use Rattle.state.specs.State.{jobsIn, releasedIn, lastIn, remainingIn, releaseIn, stateOf, machineOf}
 use Rattle.state.specs.SoundState.{soundOf}
 use Rattle.state.specs.Calls.{tasksOf, tickedOf}
-use Rattle.state.specs.Pick.{keysAfter, pickAt, keysOf, Jobless}
-use Rattle.state.specs.Serve.{turns}
-use Rattle.state.specs.CodeLaws.{Are}
+use Rattle.choice.specs.Pick.{keysAfter, pickAt, keysOf, Jobless}
+use Rattle.service.specs.Serve.{turns}
+use Rattle.service.specs.CodeLaws.{Are}
 use Rattle.state.specs.Fit.{Shaped, Fit}
 use Rattle.state.specs.FitLaws.{plan-limits, few-tasks, idle, machine-back, state-back, sound-fit}
 use Rattle.state.specs.ViewLaws.{row-jobs}
-use Rattle.state.specs.TickLaws.{runs-picked}
-use Rattle.state.specs.TurnLaws.{turned, ticked-state, all-responses, turns-are}
+use Rattle.choice.specs.TickLaws.{runs-picked}
+use Rattle.service.specs.TurnLaws.{turned, ticked-state, all-responses, turns-are}
 use Rattle.state.specs.AdmitLaws.{admitted-state}
 
 pub sound-limits : (s : State) → Shaped s → soundOf s ≡ true → Limits (contentOf (s .plan) .tasks)
 sound-limits s S e = plan-limits (s .plan) (sound-fit s S e .accepted)

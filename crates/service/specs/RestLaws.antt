@@ -11,8 +11,8 @@ use lib.ListN.{getD, set}
 use lib.Seq.{getD-set-other}
 use borrow.Author.Tests.{eq-eqb}
 use Rattle.tasks.specs.TaskSet.{row}
-use Rattle.state.specs.Pick.{Jobless}
-use Rattle.state.specs.Serve.{lastTick, jobsAfter, ran, turnJobs, turnWork, turnRelease, turnResponses, Arrays, turnOf, turns}
+use Rattle.choice.specs.Pick.{Jobless}
+use Rattle.service.specs.Serve.{lastTick, jobsAfter, ran, turnJobs, turnWork, turnRelease, turnResponses, Arrays, turnOf, turns}
 
 module _ (finish : ℕ) (keys : List ℕ) (x : Arrays) where
   -- a turn changes no other loop's job count

@@ -20,14 +20,14 @@ use Rattle.tasks.specs.declared.Plan.{Plan}
 use Rattle.tasks.specs.TaskSet.{TaskSet, row}
 use Rattle.tasks.specs.Content.{contentOf, taskOf}
 use Rattle.machine.specs.Machine.{Job, job, releaseTick, Lane, Machine, opened, waiting, before, chosen, onCore, runs}
 use Rattle.state.specs.State.{jobsIn, releaseIn}
-use Rattle.state.specs.Key.{noKey, headKey, keyOf, sooner}
-use Rattle.state.specs.KeyLaws.{key-small, key-of-task, ranked-keys}
-use Rattle.state.specs.Pick.{keysAfter, pickAt, keyAt, keysOf}
-use Rattle.state.specs.RankPickLaws.{keyIf, Keyed, picks-rank, picks-taken}
+use Rattle.choice.specs.Key.{noKey, headKey, keyOf, sooner}
+use Rattle.choice.specs.KeyLaws.{key-small, key-of-task, ranked-keys}
+use Rattle.choice.specs.Pick.{keysAfter, pickAt, keyAt, keysOf}
+use Rattle.choice.specs.RankPickLaws.{keyIf, Keyed, picks-rank, picks-taken}
 use Rattle.state.specs.Fit.{Fit}
 use Rattle.state.specs.FitLaws.{in-task, in-count, in-cores, fit-tasks, fit-limits, idle-lane, known-lane}
 use Rattle.state.specs.ViewLaws.{job-at, row-jobs, row-release}
 
 module _ (p : Plan) (M : Machine) (F : Fit p M) where
   abbrev s : TaskSet
