@@ -33,7 +33,7 @@ put-finished-requires c κs = finishing-room (c .before .before .before .before 
 
 move-down-requires : tie.Need-move-down-requires
 unfolding row
-move-down-requires c κs = low (c .before .before .before .before .before .before .before .before) .0
+move-down-requires c κs = omega (arith, low (c .before .before .before .before .before .before .before .before) .0)
 
 mul-more : tie.Need-mul-more
 unfolding row
