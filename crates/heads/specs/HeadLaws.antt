@@ -2,7 +2,7 @@
 --     Ticks, over       the machine some ticks later, in which the same loops ran and none finished before the last; the loops that finished then
 --     settled           the places that are left are that machine's heads, but for the loops that finished
 --     inserted          a loop that was out is in; left-out: one without a job may count as in
-use Prim.Native.Nat.{ℕ, zero, suc, _+_, _-_, _*_, _≤_, _<_}
+use Prim.Native.Nat.{ℕ, zero, suc, _+_, _-_, _≤_, _<_}
 use mathlib.Core.Bool.{Bool, true, false, cond, not, _&&_, true≢false, false≢true, and-false}
 use mathlib.Core.Path.{_≡_, refl, sym, ap, subst, _∙_}
 use mathlib.Core.Logic.{_≢_, _⊎_, inl, inr, ⊎-elim}
@@ -12,10 +12,11 @@ use native.Mathlib.Omega.{arith}
 use lib.Dec.{ltb, eqb}
 use borrow.Author.Tests.{ltb-true, ltb-false, eqb-true, eqb-false, eq-eqb}
 use Rattle.tasks.specs.TaskSet.{TaskSet, row}
-use Rattle.machine.specs.Machine.{Job, job, Machine, pending, waiting, point, runs, leftOf}
+use Rattle.machine.specs.Machine.{Job, job, Machine, pending, waiting, runs, leftOf}
 use Rattle.machine.specs.Choice.{earliest}
-use Rattle.heads.specs.Order.{keyOf, headWork, Head, Heads, workAfter, Settles, Inserted}
-use Rattle.heads.specs.OrderLaws.{key-loop, loop-at, place-runs, place-idle}
+use Rattle.choice.specs.Key.{keyOf}
+use Rattle.heads.specs.Order.{headWork, Head, Heads, workAfter, Settles, Inserted}
+use Rattle.heads.specs.OrderLaws.{owns-key, place-runs, place-idle}
 
 -- N is M after d ticks in which the same loops run and none finishes before the last
 pub record Ticks (s : TaskSet) (M N : Machine) (d : ℕ) : Type 0 where
@@ -28,7 +29,7 @@ pub record Ticks (s : TaskSet) (M N : Machine) (d : ℕ) : Type 0 where
 unfoldable pub over : TaskSet → Machine → ℕ → ℕ → Bool
 over s M d i = runs s M i && eqb (headWork (M .lane i .queue)) d
 
-module _ (s : TaskSet) (M N : Machine) (d : ℕ) (T : Ticks s M N d) where
+module _ {s : TaskSet} {M N : Machine} {d : ℕ} (T : Ticks s M N d) where
   -- a loop that waits and does not finish: its head's key stays, and its work
   record Still (i : ℕ) : Type 0 where
     waits : waiting N i ≡ true
@@ -36,7 +37,7 @@ module _ (s : TaskSet) (M N : Machine) (d : ℕ) (T : Ticks s M N d) where
     work-same : headWork (N .lane i .queue) ≡ cond (runs s M i) (headWork (M .lane i .queue) - d) (headWork (M .lane i .queue))
 
   still : (i : ℕ) → waiting M i ≡ true → over s M d i ≡ false → Still i
-  unfolding waiting keyOf point over
+  unfolding waiting keyOf over
   still i w o = go (M .lane i .queue) refl (runs s M i) refl
     where
       one : (r v : ℕ) (q : List Job) → 1 ≤ v → leftOf r v q ≡ job r v ∷ q
@@ -66,9 +67,9 @@ module _ (s : TaskSet) (M N : Machine) (d : ℕ) (T : Ticks s M N d) where
       go true r = earliest s M .heads i r .1
       go false r = sym (ap pending (T .idle i r)) ∙ w
 
-  module _ (key left : List ℕ) (n : ℕ) (few : s .count ≤ 16) (known : (i : ℕ) → waiting M i ≡ true → i < s .count)
+  module _ {key left : List ℕ} {n : ℕ} (few : s .count ≤ 16) (known : (i : ℕ) → waiting M i ≡ true → i < s .count)
       (busy : (i : ℕ) → waiting M i ≡ true → 1 ≤ headWork (M .lane i .queue)) (A : Heads s M (λ i. false) key left n)
-      (key′ left′ : List ℕ) (c : ℕ) (S : Settles key left n (s .cores) d key′ left′ c) where
+      {key′ left′ : List ℕ} {c : ℕ} (S : Settles key left n (s .cores) d key′ left′ c) where
     -- whether place b's loop runs, and what it has left
     module _ (b : ℕ) (h : b < n) where
       abbrev i : ℕ
@@ -82,10 +83,10 @@ module _ (s : TaskSet) (M N : Machine) (d : ℕ) (T : Ticks s M N d) where
         where
           go : (x : Bool) → ltb b (s .cores) ≡ x → runs s M (A .sound b h .0) ≡ ltb b (s .cores)
           go true e =
-              place-runs s M key left n few known A b (A .sound b h .0) h (ltb-true _ _ e) (A .sound b h .1 .key-is)
+              place-runs few known A b (A .sound b h .0) h (ltb-true _ _ e) (A .sound b h .1 .key-is)
               (omega (arith, known (A .sound b h .0) (A .sound b h .1 .waits)))
               ∙ sym e
-          go false e = place-idle s M key left n few known A b (A .sound b h .0) h (ltb-false _ _ e) (A .sound b h .1 .key-is) ∙ sym e
+          go false e = place-idle few known A b (A .sound b h .0) h (ltb-false _ _ e) (A .sound b h .1 .key-is) ∙ sym e
 
       pub after-here :
           workAfter left (s .cores) d b
@@ -122,9 +123,7 @@ module _ (s : TaskSet) (M N : Machine) (d : ℕ) (T : Ticks s M N d) where
     place-of : (i : ℕ) → waiting M i ≡ true → over s M d i ≡ false → (b : ℕ) × (b < n) × (row key b ≡ keyOf s M i) × (1 ≤ workAfter left (s .cores) d b)
     place-of i w o =
         let r = A .complete i w refl in
-        let e : A .sound (r .0) (r .1) .0 ≡ i =
-        sym (loop-at s M key left n few known A (r .0) (r .1))
-        ∙ key-loop s M key left n few known A (row key (r .0)) i (r .2) (omega (arith, known i w)) in
+        let e : A .sound (r .0) (r .1) .0 ≡ i = owns-key (λ j v. omega (arith, known j v)) A (r .0) i (r .1) (omega (arith, known i w)) (r .2) in
         (r .0, r .1, r .2, over-here (r .0) (r .1) false (ap (over s M d) e ∙ o))
 
     pub settled : Heads s N (over s M d) key′ left′ c
@@ -158,7 +157,7 @@ module _ (s : TaskSet) (M N : Machine) (d : ℕ) (T : Ticks s M N d) where
 abbrev pub without : (ℕ → Bool) → ℕ → ℕ → Bool
 without out i j = out j && not (eqb j i)
 
-module _ (s : TaskSet) (M : Machine) (out : ℕ → Bool) (key left : List ℕ) (n i : ℕ) (A : Heads s M out key left n) where
+module _ {s : TaskSet} {M : Machine} {out : ℕ → Bool} {key left : List ℕ} {n : ℕ} (i : ℕ) (A : Heads s M out key left n) where
   still-out : (j : ℕ) → out j ≡ false → without out i j ≡ false
   still-out j e = rw e
 
@@ -180,16 +179,13 @@ module _ (s : TaskSet) (M : Machine) (out : ℕ → Bool) (key left : List ℕ) 
             ⊎-elim (λ (q : out j ≡ false). A .complete j v q) (λ (q : j ≡ i). absurd (true≢false (sym v ∙ ap (waiting M) q ∙ w))) (came-in j o);
       }
 
-  module _ (low : (j : ℕ) → waiting M j ≡ true → j < 16) (w : waiting M i ≡ true) (o : out i ≡ true) (key′ left′ : List ℕ)
+  module _ (low : (j : ℕ) → waiting M j ≡ true → j < 16) (w : waiting M i ≡ true) (o : out i ≡ true) {key′ left′ : List ℕ}
       (I : Inserted key left n (keyOf s M i) (headWork (M .lane i .queue)) key′ left′) where
     -- no place has i's key yet
     other : (a : ℕ) → a < n → row key a ≢ keyOf s M i
-    unfolding keyOf
     other a h e =
         let x = A .sound a h in
-        let k : row key a ≡ 16 * point s M (x .0) + x .0 = x .1 .key-is in
-        let same : x .0 ≡ i = omega (arith, low (x .0) (x .1 .waits), low i w) in
-        true≢false (sym o ∙ ap out (sym same) ∙ x .1 .inside)
+        true≢false (sym o ∙ ap out (sym (owns-key low A a i h (low i w) e)) ∙ x .1 .inside)
 
     less-key : (a : ℕ) → a < I .at → row key a < keyOf s M i
     less-key a h =
@@ -279,9 +275,9 @@ pub record SameHead (s : TaskSet) (M N : Machine) (j : ℕ) : Type 0 where
   pub work : headWork (N .lane j .queue) ≡ headWork (M .lane j .queue)
 
 pub heads-same :
-    (s : TaskSet) (M N : Machine) (out : ℕ → Bool) (key left : List ℕ) (n : ℕ) → ((j : ℕ) → out j ≡ false → SameHead s M N j)
+    {s : TaskSet} {M N : Machine} {out : ℕ → Bool} {key left : List ℕ} {n : ℕ} → ((j : ℕ) → out j ≡ false → SameHead s M N j)
     → ((j : ℕ) → waiting M j ≡ true → out j ≡ false) → Heads s M (λ j. false) key left n → Heads s N out key left n
-heads-same s M N out key left n same inside A =
+heads-same same inside A =
     record {
       rises = A .rises;
       sound = λ a h.

@@ -1,6 +1,4 @@
 // The run of a release log. Document 01, "Release logs".
-mod entry;
-mod onward;
 mod run;
 
 pub use run::Ran;

@@ -1,10 +1,10 @@
 // The run of a log's bytes on a table's.
-use crate::entry::Place;
-use crate::entry::enter;
-use crate::onward::advance;
+use entry::Place;
+use entry::enter;
 use fields::columns::split;
 use logs::read::Entries;
 use logs::read::read_entries;
+use onward::advance;
 use table::judge;
 use tasks::Answer;
 use tasks::Plan;
@@ -18,6 +18,7 @@ ghost use Rattle.history.specs.Report.{report};
 ghost use Rattle.history.specs.OnMachine.{machineEngine};
 ghost use Rattle.logs.specs.LogBytes.{entriesIn, reportsTo};
 ghost use Rattle.logs.specs.LogStages.{answerOfEntries};
+ghost use Rattle.running.specs.Running.{arrays};
 ghost use Rattle.running.specs.Entered.{Fitting};
 ghost use Rattle.running.specs.RunCode.{takenTo, Begun, EntersTo};
 ghost use Rattle.replay.specs.declared.run.Ran.{Ran};
@@ -53,16 +54,16 @@ fn enter_all(
     requires { ⌜
         (length (now key) ≡ 16) × (length (now left) ≡ 16)
         × ((p : Plan) × ((out₀ : List ℕ)
-        × Begun p out₀ (now log) count cores tasks (now separations) (now budgets) (now offsets) (now jobs) (now released) (now last) (now owners)
-        (now key) (now left) 0 (now out)))
+        × Begun p out₀ (now log) count cores tasks (now separations) (now budgets) (now offsets)
+        (arrays (now jobs) (now owners) (now key) (now left) 0 (now out)) (now released) (now last)))
         ⌝ }
     ensures { λ r. ⌜
         (length (now (key .exit)) ≡ 16) × (length (now (left .exit)) ≡ 16)
         × EntersTo (now (log .entry)) count cores tasks (now (separations .entry)) (now (budgets .entry)) (now (offsets .entry))
-        (now (jobs .entry)) (now (released .entry)) (now (last .entry)) (now (owners .entry)) (now (key .entry)) (now (left .entry)) 0
-        (now (out .entry)) count (r .clock) (r .taken)
-        (now (jobs .exit)) (now (released .exit)) (now (last .exit)) (now (owners .exit)) (now (key .exit)) (now (left .exit)) (r .heads)
-        (now (out .exit))
+        (arrays (now (jobs .entry)) (now (owners .entry)) (now (key .entry)) (now (left .entry)) 0 (now (out .entry)))
+        (now (released .entry)) (now (last .entry)) count (r .clock) (r .taken)
+        (arrays (now (jobs .exit)) (now (owners .exit)) (now (key .exit)) (now (left .exit)) (r .heads) (now (out .exit)))
+        (now (released .exit)) (now (last .exit))
         ⌝ }
 {
     let mut clock = 0u32;

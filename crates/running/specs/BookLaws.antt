@@ -21,12 +21,11 @@ use Rattle.laws.specs.Member.{member}
 use Rattle.laws.specs.MemberLaws.{member-cases}
 use Rattle.tasks.specs.declared.Plan.{Plan}
 use Rattle.tasks.specs.TaskSet.{TaskSet}
-use Rattle.tasks.specs.Content.{contentOf}
 use Rattle.machine.specs.Machine.{Job, job, runs, served, advanced, tick}
 use Rattle.machine.specs.Sound.{Rising, reached-sound}
 use Rattle.machine.specs.Choice.{earliest}
 use Rattle.state.specs.Fit.{Fit}
-use Rattle.history.specs.Engine.{refused, Engine, Call, step, clock, state, named, Ends}
+use Rattle.history.specs.Engine.{refused, Call, step, clock, state, named, Ends}
 use Rattle.history.specs.EngineLaws.{ends-step}
 use Rattle.history.specs.Log.{Entry, loopAt, wait, outcome, Taken, owed}
 use Rattle.history.specs.Report.{finished, refusal}
@@ -39,7 +38,7 @@ use Rattle.logs.specs.ReportLaws.{Said, said-length, said-beyond, said-here, sa
 use Rattle.heads.specs.Order.{headWork}
 use Rattle.running.specs.Lower.{lowerHead, lowered}
 use Rattle.running.specs.LowerLaws.{MoreThan, lowered-runs, wait-lowered}
-use Rattle.running.specs.Running.{Below, Whole, Rooted, Book}
+use Rattle.running.specs.Running.{tasksOn, engineOn, Below, Whole, Rooted, Book}
 
 pub whole-rooted : (l : List Entry) (os : List ℕ) (q : List Job) → Whole l os q → Rooted l os q
 whole-rooted l [] [] w = tt
@@ -59,21 +58,38 @@ rooted-tick l T C t r (o ∷ os) (job a zero ∷ q) true c p = absurd (omega ari
 rooted-tick l T C t r (o ∷ os) (job a (suc zero) ∷ q) true c p = whole-rooted l os q (p .1)
 rooted-tick l T C t r (o ∷ os) (job a (suc (suc w)) ∷ q) true c p = rw (lt-leb (suc (suc w)) 1 (omega arith)) (p .0, p .1)
 
+-- whether loop i's head finishes in the tick after g
+unfoldable pub ended : TaskSet → List Call → ℕ → Bool
+ended s g i = runs s (state (machineEngine s) g) i && finishing (state (machineEngine s) g .lane i .queue)
+
+-- the owners without the first ones of the loops in `gone`
+abbrev pub ownersNow : (ℕ → List ℕ) → (ℕ → Bool) → ℕ → List ℕ
+ownersNow O gone j = cond (gone j) (drop 1 (O j)) (O j)
+
+-- one loop more
+abbrev pub andOne : (ℕ → Bool) → ℕ → ℕ → Bool
+andOne gone i j = gone j || eqb j i
+
 module _ (p : Plan) (l : List Entry) (out₀ : List ℕ) where
-  abbrev s : TaskSet
-  s = contentOf p .tasks
+  -- the loops in `gone` are noted in o
+  pub record Stage (e : ℕ) (g : List Call) (O : ℕ → List ℕ) (gone : ℕ → Bool) (o : List ℕ) : Type 0 where
+    pub long : length o ≡ length out₀
+    pub beyond : (j : ℕ) → 8 * e ≤ j → byte o j ≡ byte out₀ j
+    pub refusals : (k n : ℕ) → k < e → outcome (engineOn p) l k ≡ refused n → Said o k (refusal n)
+    pub each :
+        (k : ℕ) → k < e → Taken (engineOn p) l k
+        → (member k (ownersNow O gone (loopAt l k)) ≡ true)
+        ⊎ ((f : ℕ) × Ends (engineOn p) (step ∷ g) (loopAt l k) (owed (engineOn p) l (loopAt l k) (suc k)) f × Said o k (finished f))
 
-  abbrev E : Engine
-  E = machineEngine s
-
+module _ (s : TaskSet) (l : List Entry) where
   -- ---- nobody finishes
 
-  module _ (h : List Call) (k : ℕ) (more : MoreThan s (state E h) (suc k)) where
-    none-ends : (i : ℕ) → runs s (state E (wait k h)) i && finishing (state E (wait k h) .lane i .queue) ≡ false
+  module _ (h : List Call) (k : ℕ) (more : MoreThan s (state (machineEngine s) h) (suc k)) where
+    none-ends : (i : ℕ) → runs s (state (machineEngine s) (wait k h)) i && finishing (state (machineEngine s) (wait k h) .lane i .queue) ≡ false
     unfolding lowered
     none-ends i =
-        rw (wait-lowered s h k (λ j r. omega (arith, more j r)), lowered-runs s (state E h) (runs s (state E h)) k i)
-        (go (runs s (state E h) i) (state E h .lane i .queue) (more i))
+        rw (wait-lowered s h k (λ j r. omega (arith, more j r)), lowered-runs s (state (machineEngine s) h) (runs s (state (machineEngine s) h)) k i)
+        (go (runs s (state (machineEngine s) h) i) (state (machineEngine s) h .lane i .queue) (more i))
       where
         go : (b : Bool) (q : List Job) → (b ≡ true → suc k < headWork q) → b && finishing (cond b (lowerHead k q) q) ≡ false
         go true [] m = refl
@@ -81,40 +97,41 @@ module _ (p : Plan) (l : List Entry) (out₀ : List ℕ) where
         go false q m = refl
 
   owned-wait :
-      (h : List Call) (k i : ℕ) (os : List ℕ) → i < s .count → MoreThan s (state E h) k
-      → Owned E l i (named E h i (clock h)) os (state E h .lane i .queue)
-      → Owned E l i (named E (wait k h) i (clock (wait k h))) os (state E (wait k h) .lane i .queue)
+      (h : List Call) (k i : ℕ) (os : List ℕ) → i < s .count → MoreThan s (state (machineEngine s) h) k
+      → Owned (machineEngine s) l i (named (machineEngine s) h i (clock h)) os (state (machineEngine s) h .lane i .queue)
+      → Owned (machineEngine s) l i (named (machineEngine s) (wait k h) i (clock (wait k h))) os (state (machineEngine s) (wait k h) .lane i .queue)
   owned-wait h zero i os less more w = w
   owned-wait h (suc k) i os less more w =
       rw (none-ends h k more i) at
       (owners-tick s l (wait k h) i os less (owned-wait h k i os less (λ j r. omega (arith, more j r)) w))
 
   rooted-step :
-      (g : List Call) (i : ℕ) (os : List ℕ) → i < s .count → Rooted l os (state E g .lane i .queue)
-      → Rooted l (cond (runs s (state E g) i && finishing (state E g .lane i .queue)) (drop 1 os) os) (state E (step ∷ g) .lane i .queue)
+      (g : List Call) (i : ℕ) (os : List ℕ) → i < s .count → Rooted l os (state (machineEngine s) g .lane i .queue)
+      → Rooted l (cond (runs s (state (machineEngine s) g) i && finishing (state (machineEngine s) g .lane i .queue)) (drop 1 os) os) (state (machineEngine s) (step ∷ g) .lane i .queue)
   unfolding tick advanced
   rooted-step g i os less w =
-      rooted-tick l (s .task i .separation) (s .task i .budget) (state E g .clock) 0 os (state E g .lane i .queue) (runs s (state E g) i)
+      rooted-tick l (s .task i .separation) (s .task i .budget) (state (machineEngine s) g .clock) 0 os (state (machineEngine s) g .lane i .queue) (runs s (state (machineEngine s) g) i)
       (reached-sound s (reached s g) .lanes i less .rising) w
 
   rooted-wait :
-      (h : List Call) (k i : ℕ) (os : List ℕ) → i < s .count → MoreThan s (state E h) k → Rooted l os (state E h .lane i .queue)
-      → Rooted l os (state E (wait k h) .lane i .queue)
+      (h : List Call) (k i : ℕ) (os : List ℕ) → i < s .count → MoreThan s (state (machineEngine s) h) k → Rooted l os (state (machineEngine s) h .lane i .queue)
+      → Rooted l os (state (machineEngine s) (wait k h) .lane i .queue)
   rooted-wait h zero i os less more w = w
   rooted-wait h (suc k) i os less more w =
       rw (none-ends h k more i) at (rooted-step (wait k h) i os less (rooted-wait h k i os less (λ j r. omega (arith, more j r)) w))
 
-  ends-wait : (h : List Call) (k i d f : ℕ) → Ends E h i d f → Ends E (wait k h) i d f
+  ends-wait : (h : List Call) (k i d f : ℕ) → Ends (machineEngine s) h i d f → Ends (machineEngine s) (wait k h) i d f
   ends-wait h zero i d f x = x
-  ends-wait h (suc k) i d f x = ends-step E (wait k h) i d f (ends-wait h k i d f x)
+  ends-wait h (suc k) i d f x = ends-step (machineEngine s) (wait k h) i d f (ends-wait h k i d f x)
 
+module _ {p : Plan} {l : List Entry} {out₀ : List ℕ} where
   pub book-wait :
-      (e : ℕ) (h : List Call) (O : ℕ → List ℕ) (out : List ℕ) (k : ℕ) → MoreThan s (state E h) k → Book p l out₀ e h O out
+      {e : ℕ} {h : List Call} {O : ℕ → List ℕ} {out : List ℕ} (k : ℕ) → MoreThan (tasksOn p) (state (engineOn p) h) k → Book p l out₀ e h O out
       → Book p l out₀ e (wait k h) O out
-  book-wait e h O out k more B =
+  book-wait {h = h} {O = O} {out = out} k more B =
       record {
-        owned = λ i less. owned-wait h k i (O i) less more (B .owned i less);
-        rooted = λ i less. rooted-wait h k i (O i) less more (B .rooted i less);
+        owned = λ i less. owned-wait (tasksOn p) l h k i (O i) less more (B .owned i less);
+        rooted = λ i less. rooted-wait (tasksOn p) l h k i (O i) less more (B .rooted i less);
         unowned = B .unowned;
         small = B .small;
         long = B .long;
@@ -123,45 +140,25 @@ module _ (p : Plan) (l : List Entry) (out₀ : List ℕ) where
         each = λ n less t.
             ⊎-elim
             (λ (m : member n (O (loopAt l n)) ≡ true). inl m)
-            (λ (x : (f : ℕ) × Ends E h (loopAt l n) (owed E l (loopAt l n) (suc n)) f × Said out n (finished f)).
-            inr (x .0, ends-wait h k (loopAt l n) (owed E l (loopAt l n) (suc n)) (x .0) (x .1), x .2))
+            (λ (x : (f : ℕ) × Ends (engineOn p) h (loopAt l n) (owed (engineOn p) l (loopAt l n) (suc n)) f × Said out n (finished f)).
+            inr (x .0, ends-wait (tasksOn p) l h k (loopAt l n) (owed (engineOn p) l (loopAt l n) (suc n)) (x .0) (x .1), x .2))
             (B .each n less t);
       }
 
   pub book-few :
-      (e : ℕ) (h : List Call) (O : ℕ → List ℕ) (out : List ℕ) → Fit p (state E h) → Book p l out₀ e h O out
+      {e : ℕ} {h : List Call} {O : ℕ → List ℕ} {out : List ℕ} → Fit p (state (engineOn p) h) → Book p l out₀ e h O out
       → (i : ℕ) → length (O i) ≤ 16
-  book-few e h O out F B i = go (ltb i (s .count)) refl
+  book-few {O = O} F B i = go (ltb i ((tasksOn p) .count)) refl
     where
-      go : (b : Bool) → ltb i (s .count) ≡ b → length (O i) ≤ 16
+      go : (b : Bool) → ltb i ((tasksOn p) .count) ≡ b → length (O i) ≤ 16
       go true q =
-          rw (owned-length E l i _ (O i) _ (B .owned i (ltb-true _ _ q))) (F .holds i)
+          rw (owned-length (engineOn p) l i _ (O i) _ (B .owned i (ltb-true _ _ q))) (F .holds i)
       go false q = rw (B .unowned i (ltb-false _ _ q)) (omega arith)
 
   -- ---- a tick
 
-  unfoldable pub ended : List Call → ℕ → Bool
-  ended g i = runs s (state E g) i && finishing (state E g .lane i .queue)
-
-  abbrev pub ownersNow : (ℕ → List ℕ) → (ℕ → Bool) → ℕ → List ℕ
-  ownersNow O gone j = cond (gone j) (drop 1 (O j)) (O j)
-
-  -- one more
-  abbrev pub andOne : (ℕ → Bool) → ℕ → ℕ → Bool
-  andOne gone i j = gone j || eqb j i
-
-  -- the loops in `gone` are noted in o
-  pub record Stage (e : ℕ) (g : List Call) (O : ℕ → List ℕ) (gone : ℕ → Bool) (o : List ℕ) : Type 0 where
-    pub long : length o ≡ length out₀
-    pub beyond : (j : ℕ) → 8 * e ≤ j → byte o j ≡ byte out₀ j
-    pub refusals : (k n : ℕ) → k < e → outcome E l k ≡ refused n → Said o k (refusal n)
-    pub each :
-        (k : ℕ) → k < e → Taken E l k
-        → (member k (ownersNow O gone (loopAt l k)) ≡ true)
-        ⊎ ((f : ℕ) × Ends E (step ∷ g) (loopAt l k) (owed E l (loopAt l k) (suc k)) f × Said o k (finished f))
-
-  module _ (e : ℕ) (g : List Call) (O : ℕ → List ℕ) (out : List ℕ) (room : 8 * e ≤ length out₀) (B : Book p l out₀ e g O out) where
-    pub stage-none : Stage e g O (λ i. false) out
+  module _ {e : ℕ} {g : List Call} {O : ℕ → List ℕ} {out : List ℕ} (room : 8 * e ≤ length out₀) (B : Book p l out₀ e g O out) where
+    pub stage-none : Stage p l out₀ e g O (λ i. false) out
     stage-none =
         record {
           long = B .long;
@@ -170,50 +167,50 @@ module _ (p : Plan) (l : List Entry) (out₀ : List ℕ) where
           each = λ k less t.
               ⊎-elim
               (λ (m : member k (O (loopAt l k)) ≡ true). inl m)
-              (λ (x : (f : ℕ) × Ends E g (loopAt l k) (owed E l (loopAt l k) (suc k)) f × Said out k (finished f)).
-              inr (x .0, ends-step E g (loopAt l k) (owed E l (loopAt l k) (suc k)) (x .0) (x .1), x .2))
+              (λ (x : (f : ℕ) × Ends (engineOn p) g (loopAt l k) (owed (engineOn p) l (loopAt l k) (suc k)) f × Said out k (finished f)).
+              inr (x .0, ends-step (engineOn p) g (loopAt l k) (owed (engineOn p) l (loopAt l k) (suc k)) (x .0) (x .1), x .2))
               (B .each k less t);
         }
 
     -- a loop whose head finishes: its first owner
-    module _ (i : ℕ) (fin : ended g i ≡ true) where
+    module _ (i : ℕ) (fin : ended (tasksOn p) g i ≡ true) where
       abbrev pub firstOwner : ℕ
       firstOwner = getD (O i) 0 0
 
-      runs-now : runs s (state E g) i ≡ true
+      runs-now : runs (tasksOn p) (state (engineOn p) g) i ≡ true
       unfolding ended
-      runs-now = and-eq-true-iff (runs s (state E g) i) (finishing (state E g .lane i .queue)) .0 fin .0
+      runs-now = and-eq-true-iff (runs (tasksOn p) (state (engineOn p) g) i) (finishing (state (engineOn p) g .lane i .queue)) .0 fin .0
 
-      last-now : finishing (state E g .lane i .queue) ≡ true
+      last-now : finishing (state (engineOn p) g .lane i .queue) ≡ true
       unfolding ended
-      last-now = and-eq-true-iff (runs s (state E g) i) (finishing (state E g .lane i .queue)) .0 fin .1
+      last-now = and-eq-true-iff (runs (tasksOn p) (state (engineOn p) g) i) (finishing (state (engineOn p) g .lane i .queue)) .0 fin .1
 
-      pub ended-known : i < s .count
-      ended-known = earliest s (state E g) .heads i runs-now .0
+      pub ended-known : i < (tasksOn p) .count
+      ended-known = earliest (tasksOn p) (state (engineOn p) g) .heads i runs-now .0
 
-      owner : (loopAt l firstOwner ≡ i) × Taken E l firstOwner × (owed E l i (suc firstOwner) ≡ named E g i (clock g) + 1)
+      owner : (loopAt l firstOwner ≡ i) × Taken (engineOn p) l firstOwner × (owed (engineOn p) l i (suc firstOwner) ≡ named (engineOn p) g i (clock g) + 1)
       owner =
-          owned-head E l i (s .task i .separation) (s .task i .budget) (state E g .clock) 0 (named E g i (clock g)) (O i)
-          (state E g .lane i .queue) (reached-sound s (reached s g) .lanes i ended-known .rising) (B .owned i ended-known) last-now
+          owned-head (engineOn p) l i ((tasksOn p) .task i .separation) ((tasksOn p) .task i .budget) (state (engineOn p) g .clock) 0 (named (engineOn p) g i (clock g)) (O i)
+          (state (engineOn p) g .lane i .queue) (reached-sound (tasksOn p) (reached (tasksOn p) g) .lanes i ended-known .rising) (B .owned i ended-known) last-now
 
-      ends : Ends E (step ∷ g) i (owed E l i (suc firstOwner)) (suc (clock g))
-      ends = owner-ends s l g i (O i) ended-known (B .owned i ended-known) runs-now last-now
+      ends : Ends (engineOn p) (step ∷ g) i (owed (engineOn p) l i (suc firstOwner)) (suc (clock g))
+      ends = owner-ends (tasksOn p) l g i (O i) ended-known (B .owned i ended-known) runs-now last-now
 
-      split : (os : List ℕ) → O i ≡ os → (q : List Job) → state E g .lane i .queue ≡ q → O i ≡ firstOwner ∷ drop 1 (O i)
+      split : (os : List ℕ) → O i ≡ os → (q : List Job) → state (engineOn p) g .lane i .queue ≡ q → O i ≡ firstOwner ∷ drop 1 (O i)
       split [] z [] y = absurd (false≢true (rw y at last-now))
       split [] z (j ∷ q) y = absurd (rw (z, y) at (B .owned i ended-known))
       split (a ∷ os) z q y = rw z
 
       pub some-owner : O i ≡ firstOwner ∷ drop 1 (O i)
-      some-owner = split (O i) refl (state E g .lane i .queue) refl
+      some-owner = split (O i) refl (state (engineOn p) g .lane i .queue) refl
 
       pub first-early : firstOwner < e
       first-early = (rw some-owner at (B .small i)) .0
 
       pub stage-more :
-          (gone : ℕ → Bool) (o : List ℕ) → gone i ≡ false → Stage e g O gone o
-          → Stage e g O (andOne gone i) (sets o (8 * firstOwner) (reportBytes (finished (suc (clock g)))))
-      stage-more gone o new S =
+          {gone : ℕ → Bool} {o : List ℕ} → gone i ≡ false → Stage p l out₀ e g O gone o
+          → Stage p l out₀ e g O (andOne gone i) (sets o (8 * firstOwner) (reportBytes (finished (suc (clock g)))))
+      stage-more {gone} {o} new S =
           record {
             long = said-length o firstOwner (finished (suc (clock g))) ∙ S .long;
             beyond = λ j h. said-beyond o firstOwner (finished (suc (clock g))) j (omega (arith, first-early)) ∙ S .beyond j h;
@@ -225,18 +222,18 @@ module _ (p : Plan) (l : List Entry) (out₀ : List ℕ) where
           fits : 8 * firstOwner + 8 ≤ length o
           fits = omega (arith, first-early, S .long)
 
-          not-taken : (k n : ℕ) → outcome E l k ≡ refused n → firstOwner ≡ k → ⊥
-          not-taken k n r q = not-refused (sym r ∙ ap (outcome E l) (sym q) ∙ owner .1)
+          not-taken : (k n : ℕ) → outcome (engineOn p) l k ≡ refused n → firstOwner ≡ k → ⊥
+          not-taken k n r q = not-refused (sym r ∙ ap (outcome (engineOn p) l) (sym q) ∙ owner .1)
 
           done : Said (sets o (8 * firstOwner) (reportBytes (finished (suc (clock g))))) firstOwner (finished (suc (clock g)))
           done = said-here o firstOwner (finished (suc (clock g))) fits
 
           now :
-              (k : ℕ) → Taken E l k → (b : Bool) → eqb k firstOwner ≡ b
+              (k : ℕ) → Taken (engineOn p) l k → (b : Bool) → eqb k firstOwner ≡ b
               → (member k (ownersNow O gone (loopAt l k)) ≡ true)
-              ⊎ ((f : ℕ) × Ends E (step ∷ g) (loopAt l k) (owed E l (loopAt l k) (suc k)) f × Said o k (finished f))
+              ⊎ ((f : ℕ) × Ends (engineOn p) (step ∷ g) (loopAt l k) (owed (engineOn p) l (loopAt l k) (suc k)) f × Said o k (finished f))
               → (member k (ownersNow O (andOne gone i) (loopAt l k)) ≡ true)
-              ⊎ ((f : ℕ) × Ends E (step ∷ g) (loopAt l k) (owed E l (loopAt l k) (suc k)) f
+              ⊎ ((f : ℕ) × Ends (engineOn p) (step ∷ g) (loopAt l k) (owed (engineOn p) l (loopAt l k) (suc k)) f
               × Said (sets o (8 * firstOwner) (reportBytes (finished (suc (clock g))))) k (finished f))
           now k t true q x =
               let same = eqb-true k firstOwner q in
@@ -259,12 +256,12 @@ module _ (p : Plan) (l : List Entry) (out₀ : List ℕ) where
               (x .0, x .1, said-other o firstOwner (finished (suc (clock g))) k (finished (x .0)) (λ z. eqb-false k firstOwner q (sym z)) (x .2))
 
     pub book-tick :
-        (gone : ℕ → Bool) (o : List ℕ) → ((i : ℕ) → gone i ≡ ended g i) → Stage e g O gone o → Book p l out₀ e (step ∷ g) (ownersNow O gone) o
+        {gone : ℕ → Bool} {o : List ℕ} → ((i : ℕ) → gone i ≡ ended (tasksOn p) g i) → Stage p l out₀ e g O gone o → Book p l out₀ e (step ∷ g) (ownersNow O gone) o
     unfolding ended
-    book-tick gone o all S =
+    book-tick {gone} all S =
         record {
-          owned = λ i less. rw (all i) (owners-tick s l g i (O i) less (B .owned i less));
-          rooted = λ i less. rw (all i) (rooted-step g i (O i) less (B .rooted i less));
+          owned = λ i less. rw (all i) (owners-tick (tasksOn p) l g i (O i) less (B .owned i less));
+          rooted = λ i less. rw (all i) (rooted-step (tasksOn p) l g i (O i) less (B .rooted i less));
           unowned = λ i more. fewer (gone i) (O i) (B .unowned i more);
           small = λ i. below (gone i) (O i) (B .small i);
           long = S .long;

@@ -37,10 +37,10 @@ use Rattle.history.specs.Owners.{owned-length}
 use Rattle.logs.specs.LogBytes.{reportsTo}
 use Rattle.logs.specs.ReportLaws.{Said, said-all}
 use Rattle.running.specs.LowerLaws.{wait-wait}
-use Rattle.running.specs.Running.{ownersIn, countsIn, Book}
+use Rattle.running.specs.Running.{arrays, ownersIn, countsIn, Book}
 use Rattle.running.specs.Entered.{Fitting, Entered}
 
-module _ (p : Plan) (l : List Entry) (out₀ : List ℕ) (F : Fitting p l out₀) where
+module _ {p : Plan} {l : List Entry} {out₀ : List ℕ} (F : Fitting p l out₀) where
   abbrev s : TaskSet
   s = contentOf p .tasks
 
@@ -50,7 +50,7 @@ module _ (p : Plan) (l : List Entry) (out₀ : List ℕ) (F : Fitting p l out₀
   abbrev n : ℕ
   n = length l
 
-  module _ (k : ℕ) (long : longest ≤ k) (O : ℕ → List ℕ) (out : List ℕ) (B : Book p l out₀ n (wait k (calls l n)) O out) where
+  module _ {k : ℕ} (long : longest ≤ k) {O : ℕ → List ℕ} {out : List ℕ} (B : Book p l out₀ n (wait k (calls l n)) O out) where
     end-owners : (i : ℕ) → O i ≡ []
     unfolding waiting testPlan
     end-owners i = go (ltb i (s .count)) refl
@@ -120,9 +120,9 @@ module _ (p : Plan) (l : List Entry) (out₀ : List ℕ) (F : Fitting p l out₀
   -- ---- the beginning
 
   pub entered-none :
-      (key left : List ℕ) → Entered p l out₀ 0 0 (replicate 16 0) (replicate 16 false) (replicate 16 0) (replicate 256 0) key left 0 out₀
+      {key left : List ℕ} → Entered p l out₀ 0 0 (arrays (replicate 16 0) (replicate 256 0) key left 0 out₀) (replicate 16 false) (replicate 16 0)
   unfolding calls stateOf ownersIn countsIn opened waiting
-  entered-none key left =
+  entered-none =
       record {
         fitting = F;
         clock-is = refl;

@@ -18,10 +18,9 @@ use Rattle.laws.specs.Member.{member}
 use Rattle.laws.specs.MemberLaws.{member-append, member-here}
 use Rattle.tasks.specs.declared.Plan.{Plan}
 use Rattle.tasks.specs.TaskSet.{TaskSet}
-use Rattle.tasks.specs.Content.{contentOf}
 use Rattle.machine.specs.Machine.{Job, job, admitted, joined}
 use Rattle.state.specs.State.{releasedIn, lastIn}
-use Rattle.history.specs.Engine.{refused, Engine, Call, ask, clock, state, verdict, named, Ends}
+use Rattle.history.specs.Engine.{refused, Call, ask, clock, state, verdict, named, Ends}
 use Rattle.history.specs.EngineLaws.{ends-ask}
 use Rattle.history.specs.Log.{Entry, tickAt, loopAt, demandAt, until, calls, outcome, Taken, owed}
 use Rattle.history.specs.LogLaws.{taken-call, clock-entry}
@@ -31,7 +30,7 @@ use Rattle.history.specs.Balance.{not-refused, machine-clock}
 use Rattle.history.specs.Owners.{Owned, owners-taken}
 use Rattle.logs.specs.LogBytes.{reportBytes}
 use Rattle.logs.specs.ReportLaws.{Said, said-length, said-beyond, said-here, said-other}
-use Rattle.running.specs.Running.{Below, Whole, Rooted, Book}
+use Rattle.running.specs.Running.{tasksOn, engineOn, Below, Whole, Rooted, Book}
 
 below-more : (e : ℕ) (os : List ℕ) → Below e os → Below (suc e) os
 below-more e [] w = tt
@@ -51,29 +50,24 @@ rooted-joined l t c e [] (j ∷ q) a b w = absurd w
 rooted-joined l t c e (o ∷ os) [] a b w = absurd w
 rooted-joined l t c e (o ∷ os) (job r v ∷ q) a b w = (w .0, whole-joined l t c e os q a b (w .1))
 
-module _ (p : Plan) (l : List Entry) (out₀ : List ℕ) where
-  abbrev s : TaskSet
-  s = contentOf p .tasks
+pub record Recent (s : TaskSet) (h : List Call) (released : List Bool) (last : List ℕ) : Type 0 where
+  pub released-are : released ≡ releasedIn (state (machineEngine s) h)
+  pub last-are : last ≡ lastIn (state (machineEngine s) h)
 
-  abbrev E : Engine
-  E = machineEngine s
+-- a release taken: the entry is the owner of its job
+abbrev pub ownersWith : ℕ → (ℕ → List ℕ) → ℕ → ℕ → List ℕ
+ownersWith e O i j = cond (eqb j i) (O j ++ e ∷ []) (O j)
 
-  pub record Recent (h : List Call) (released : List Bool) (last : List ℕ) : Type 0 where
-    pub released-are : released ≡ releasedIn (state E h)
-    pub last-are : last ≡ lastIn (state E h)
-
-  module _ (e : ℕ) (O : ℕ → List ℕ) (out : List ℕ) (room : 8 * suc e ≤ length out₀) where
-    abbrev written : ℕ → List ℕ
-    written n = sets out (8 * e) (reportBytes (refusal n))
-
+module _ {p : Plan} {l : List Entry} {out₀ : List ℕ} where
+  module _ {e : ℕ} {O : ℕ → List ℕ} {out : List ℕ} (room : 8 * suc e ≤ length out₀) where
     -- a refusal written, with calls made that change neither queues nor what was named
     pub book-refused :
-        (h g : List Call) (n : ℕ) → outcome E l e ≡ refused n
-        → ((i : ℕ) → Owned E l i (named E h i (clock h)) (O i) (state E h .lane i .queue) → Owned E l i (named E g i (clock g)) (O i) (state E g .lane i .queue))
-        → ((i : ℕ) → Rooted l (O i) (state E h .lane i .queue) → Rooted l (O i) (state E g .lane i .queue))
-        → ((i d f : ℕ) → Ends E h i d f → Ends E g i d f)
-        → Book p l out₀ e h O out → Book p l out₀ (suc e) g O (written n)
-    book-refused h g n r same same-jobs ends B =
+        {h g : List Call} {n : ℕ} → outcome (engineOn p) l e ≡ refused n
+        → ((i : ℕ) → Owned (engineOn p) l i (named (engineOn p) h i (clock h)) (O i) (state (engineOn p) h .lane i .queue) → Owned (engineOn p) l i (named (engineOn p) g i (clock g)) (O i) (state (engineOn p) g .lane i .queue))
+        → ((i : ℕ) → Rooted l (O i) (state (engineOn p) h .lane i .queue) → Rooted l (O i) (state (engineOn p) g .lane i .queue))
+        → ((i d f : ℕ) → Ends (engineOn p) h i d f → Ends (engineOn p) g i d f)
+        → Book p l out₀ e h O out → Book p l out₀ (suc e) g O (sets out (8 * e) (reportBytes (refusal n)))
+    book-refused {h} {g} {n} r same same-jobs ends B =
         record {
           owned = λ i less. same i (B .owned i less);
           rooted = λ i less. same-jobs i (B .rooted i less);
@@ -85,39 +79,35 @@ module _ (p : Plan) (l : List Entry) (out₀ : List ℕ) where
           each = λ k less t. every k t (eq-or-lt-of-le (le-of-suc-le-suc less));
         }
       where
-        here : Said (written n) e (refusal n)
+        here : Said (sets out (8 * e) (reportBytes (refusal n))) e (refusal n)
         here = said-here out e (refusal n) (omega (arith, B .long))
 
-        at : (k m : ℕ) → outcome E l k ≡ refused m → (k ≡ e) ⊎ (k < e) → Said (written n) k (refusal m)
+        at : (k m : ℕ) → outcome (engineOn p) l k ≡ refused m → (k ≡ e) ⊎ (k < e) → Said (sets out (8 * e) (reportBytes (refusal n))) k (refusal m)
         at k m q (inl z) =
-            let same-number : refused m ≡ refused n = sym q ∙ ap (outcome E l) z ∙ r in
+            let same-number : refused m ≡ refused n = sym q ∙ ap (outcome (engineOn p) l) z ∙ r in
             let number : m ≡ n = cc in
             rw (z, number) here
         at k m q (inr z) = said-other out e (refusal n) k (refusal m) (λ y. absurd (omega arith)) (B .refusals k m z q)
 
         every :
-            (k : ℕ) → Taken E l k → (k ≡ e) ⊎ (k < e)
+            (k : ℕ) → Taken (engineOn p) l k → (k ≡ e) ⊎ (k < e)
             → (member k (O (loopAt l k)) ≡ true)
-            ⊎ ((f : ℕ) × Ends E g (loopAt l k) (owed E l (loopAt l k) (suc k)) f × Said (written n) k (finished f))
-        every k t (inl z) = absurd (not-refused (sym r ∙ ap (outcome E l) (sym z) ∙ t))
+            ⊎ ((f : ℕ) × Ends (engineOn p) g (loopAt l k) (owed (engineOn p) l (loopAt l k) (suc k)) f × Said (sets out (8 * e) (reportBytes (refusal n))) k (finished f))
+        every k t (inl z) = absurd (not-refused (sym r ∙ ap (outcome (engineOn p) l) (sym z) ∙ t))
         every k t (inr z) =
             ⊎-elim
             (λ (m : member k (O (loopAt l k)) ≡ true). inl m)
-            (λ (x : (f : ℕ) × Ends E h (loopAt l k) (owed E l (loopAt l k) (suc k)) f × Said out k (finished f)).
+            (λ (x : (f : ℕ) × Ends (engineOn p) h (loopAt l k) (owed (engineOn p) l (loopAt l k) (suc k)) f × Said out k (finished f)).
             inr (
               x .0,
-              ends (loopAt l k) (owed E l (loopAt l k) (suc k)) (x .0) (x .1),
+              ends (loopAt l k) (owed (engineOn p) l (loopAt l k) (suc k)) (x .0) (x .1),
               said-other out e (refusal n) k (finished (x .0)) (λ y. absurd (omega arith)) (x .2),
             ))
             (B .each k z t)
 
-    -- a release taken: the entry is the owner of its job
-    abbrev pub ownersWith : ℕ → ℕ → List ℕ
-    ownersWith i j = cond (eqb j i) (O j ++ e ∷ []) (O j)
-
     pub book-taken :
-        (t : Taken E l e) → Book p l out₀ e (until (tickAt l e) (calls l e)) O out → loopAt l e < s .count
-        → Book p l out₀ (suc e) (calls l (suc e)) (ownersWith (loopAt l e)) out
+        (t : Taken (engineOn p) l e) → Book p l out₀ e (until (tickAt l e) (calls l e)) O out → loopAt l e < (tasksOn p) .count
+        → Book p l out₀ (suc e) (calls l (suc e)) (ownersWith e O (loopAt l e)) out
     unfolding named handedOf verdict admitted joined
     book-taken t B known =
         record {
@@ -138,33 +128,33 @@ module _ (p : Plan) (l : List Entry) (out₀ : List ℕ) where
         g = until (tickAt l e) (calls l e)
 
         made : calls l (suc e) ≡ ask i (demandAt l e) ∷ g
-        made = taken-call l E e t .2
+        made = taken-call l (engineOn p) e t .2
 
         owned :
-            (j : ℕ) → j < s .count → (b : Bool) → eqb j i ≡ b
-            → Owned E l j (named E (calls l (suc e)) j (clock (calls l (suc e)))) (cond b (O j ++ e ∷ []) (O j)) (state E (calls l (suc e)) .lane j .queue)
+            (j : ℕ) → j < (tasksOn p) .count → (b : Bool) → eqb j i ≡ b
+            → Owned (engineOn p) l j (named (engineOn p) (calls l (suc e)) j (clock (calls l (suc e)))) (cond b (O j ++ e ∷ []) (O j)) (state (engineOn p) (calls l (suc e)) .lane j .queue)
         owned j less true q =
             let same : j ≡ i = eqb-true j i q in
-            rw same (owners-taken s l e (O i) t (B .owned i known))
-        owned j less false q = rw (made, taken-call l E e t .1, q) (B .owned j less)
+            rw same (owners-taken (tasksOn p) l e (O i) t (B .owned i known))
+        owned j less false q = rw (made, taken-call l (engineOn p) e t .1, q) (B .owned j less)
 
         roots :
-            (j : ℕ) → j < s .count → (b : Bool) → eqb j i ≡ b
-            → Rooted l (cond b (O j ++ e ∷ []) (O j)) (state E (calls l (suc e)) .lane j .queue)
+            (j : ℕ) → j < (tasksOn p) .count → (b : Bool) → eqb j i ≡ b
+            → Rooted l (cond b (O j ++ e ∷ []) (O j)) (state (engineOn p) (calls l (suc e)) .lane j .queue)
         roots j less true q =
             let same : j ≡ i = eqb-true j i q in
-            rw (made, taken-call l E e t .1, same, eq-eqb i i refl)
-            (rooted-joined l (state E g .clock) (demandAt l e) e (O i) (state E g .lane i .queue)
-            (machine-clock s g ∙ clock-entry l e (taken-call l E e t .0)) refl (B .rooted i known))
-        roots j less false q = rw (made, taken-call l E e t .1, q) (B .rooted j less)
+            rw (made, taken-call l (engineOn p) e t .1, same, eq-eqb i i refl)
+            (rooted-joined l (state (engineOn p) g .clock) (demandAt l e) e (O i) (state (engineOn p) g .lane i .queue)
+            (machine-clock (tasksOn p) g ∙ clock-entry l e (taken-call l (engineOn p) e t .0)) refl (B .rooted i known))
+        roots j less false q = rw (made, taken-call l (engineOn p) e t .1, q) (B .rooted j less)
 
         small : (b : Bool) (os : List ℕ) → Below e os → Below (suc e) (cond b (os ++ e ∷ []) os)
         small true [] w = (le-refl _, tt)
         small true (o ∷ os) w = (omega (arith, w .0), small true os (w .1))
         small false os w = below-more e os w
 
-        refusals : (k n : ℕ) → outcome E l k ≡ refused n → (k ≡ e) ⊎ (k < e) → Said out k (refusal n)
-        refusals k n r (inl z) = absurd (not-refused (sym r ∙ ap (outcome E l) z ∙ t))
+        refusals : (k n : ℕ) → outcome (engineOn p) l k ≡ refused n → (k ≡ e) ⊎ (k < e) → Said out k (refusal n)
+        refusals k n r (inl z) = absurd (not-refused (sym r ∙ ap (outcome (engineOn p) l) z ∙ t))
         refusals k n r (inr z) = B .refusals k n z r
 
         joins : (k : ℕ) (b : Bool) (os : List ℕ) → member k os ≡ true → member k (cond b (os ++ e ∷ []) os) ≡ true
@@ -176,13 +166,13 @@ module _ (p : Plan) (l : List Entry) (out₀ : List ℕ) where
         new false q os = absurd (eqb-false i i q refl)
 
         every :
-            (k : ℕ) → Taken E l k → (k ≡ e) ⊎ (k < e)
-            → (member k (ownersWith i (loopAt l k)) ≡ true)
-            ⊎ ((f : ℕ) × Ends E (calls l (suc e)) (loopAt l k) (owed E l (loopAt l k) (suc k)) f × Said out k (finished f))
+            (k : ℕ) → Taken (engineOn p) l k → (k ≡ e) ⊎ (k < e)
+            → (member k (ownersWith e O i (loopAt l k)) ≡ true)
+            ⊎ ((f : ℕ) × Ends (engineOn p) (calls l (suc e)) (loopAt l k) (owed (engineOn p) l (loopAt l k) (suc k)) f × Said out k (finished f))
         every k u (inl z) = inl (rw z (new (eqb i i) refl (O i)))
         every k u (inr z) =
             ⊎-elim
             (λ (m : member k (O (loopAt l k)) ≡ true). inl (joins k (eqb (loopAt l k) i) (O (loopAt l k)) m))
-            (λ (x : (f : ℕ) × Ends E g (loopAt l k) (owed E l (loopAt l k) (suc k)) f × Said out k (finished f)).
-            inr (x .0, rw made (ends-ask E g i (demandAt l e) (loopAt l k) (owed E l (loopAt l k) (suc k)) (x .0) (x .1)), x .2))
+            (λ (x : (f : ℕ) × Ends (engineOn p) g (loopAt l k) (owed (engineOn p) l (loopAt l k) (suc k)) f × Said out k (finished f)).
+            inr (x .0, rw made (ends-ask (engineOn p) g i (demandAt l e) (loopAt l k) (owed (engineOn p) l (loopAt l k) (suc k)) (x .0) (x .1)), x .2))
             (B .each k z u)

@@ -19,18 +19,19 @@ use borrow.Author.Tests.{leb-false, eqb-true, eq-eqb}
 use Rattle.laws.specs.TabLaws.{tab-ext}
 use Rattle.tasks.specs.declared.Plan.{Plan}
 use Rattle.tasks.specs.declared.Answer.the-variants.{Accepted}
-use Rattle.tasks.specs.TaskSet.{TaskSet, row}
+use Rattle.tasks.specs.TaskSet.{row}
 use Rattle.tasks.specs.Content.{taskOf, contentOf, tidy}
 use Rattle.tasks.specs.Tests.{testPlan}
-use Rattle.machine.specs.Machine.{Job, job, Machine, full, joined, admitted, pending, waiting, headRelease, point}
+use Rattle.machine.specs.Machine.{Job, job, Machine, full, joined, admitted, pending, waiting, headRelease}
 use Rattle.state.specs.State.{flagOf, tickOf, releasedIn, lastIn}
 use Rattle.state.specs.FitLaws.{plan-limits}
 use Rattle.state.specs.AdmitLaws.{admitted-released, admitted-last}
-use Rattle.heads.specs.Order.{keyOf, headWork, Heads, Inserted}
+use Rattle.choice.specs.Key.{headKey, keyOf}
+use Rattle.heads.specs.Order.{headWork, Heads, Inserted}
 use Rattle.heads.specs.HeadLaws.{SameHead, heads-same, inserted}
 use Rattle.heads.specs.RoomLaws.{room-for}
 use Rattle.history.specs.Engine as history
-use Rattle.history.specs.Engine.{taken, refused, Engine, Call, ask, state, verdict, named}
+use Rattle.history.specs.Engine.{taken, refused, Call, ask, state, verdict, named}
 use Rattle.history.specs.EngineLaws.{ends-ask}
 use Rattle.history.specs.Log.{Entry, tickAt, loopAt, demandAt, back, wait, until, calls, outcome}
 use Rattle.history.specs.LogLaws.{largest-least, clock-calls, clock-entry}
@@ -40,7 +41,7 @@ use Rattle.history.specs.Balance.{answer-allowed, machine-clock}
 use Rattle.history.specs.Refusals.{last-wait}
 use Rattle.history.specs.Owners.{owned-length}
 use Rattle.logs.specs.LogBytes.{entriesIn, reportBytes}
-use Rattle.running.specs.Running.{Running}
+use Rattle.running.specs.Running.{Arrays, arrays, tasksOn, engineOn, Running}
 use Rattle.running.specs.WaitLaws.{waits-known}
 use Rattle.running.specs.OwnerLaws.{joined-owners, count-at, counts-more}
 use Rattle.running.specs.EnterLaws.{Recent, book-refused, book-taken, ownersWith}
@@ -55,13 +56,11 @@ lasts-wait : (p : Plan) (k : ℕ) (h : List Call) → lastIn (state (machineEngi
 unfolding lastIn
 lasts-wait p k h = tab-ext _ _ 16 (λ i q. ap tickOf (last-wait (contentOf p .tasks) k h i))
 
+-- the calls up to entry e's release
+abbrev pub upTo : List Entry → ℕ → List Call
+upTo l e = until (tickAt l e) (calls l e)
+
 module _ (p : Plan) (l : List Entry) (out₀ : List ℕ) where
-  abbrev s : TaskSet
-  s = contentOf p .tasks
-
-  abbrev E : Engine
-  E = machineEngine s
-
   -- the log fits the lent answer, its ticks are below 15's limit, and the plan meets none of 3 to 13
   pub record Fitting : Type 0 where
     pub accepted : testPlan p ≡ Accepted
@@ -70,287 +69,284 @@ module _ (p : Plan) (l : List Entry) (out₀ : List ℕ) where
     pub ticks : (k : ℕ) → k < length l → tickAt l k ≤ 1000000000
     pub room : 8 * length l ≤ length out₀
 
-  pub record Entered (e clock : ℕ) (jobs : List ℕ) (released : List Bool) (last owners key left : List ℕ) (n : ℕ) (out : List ℕ) : Type 0 where
+  pub record Entered (e clock : ℕ) (W : Arrays) (released : List Bool) (last : List ℕ) : Type 0 where
     pub fitting : Fitting
     pub clock-is : clock ≡ history.clock (calls l e)
     pub owned-by : ℕ → List ℕ
-    pub running : Running p l out₀ e (calls l e) owned-by jobs owners key left n out
-    pub recent : Recent p l out₀ (calls l e) released last
+    pub running : Running p l out₀ e (calls l e) owned-by W
+    pub recent : Recent (tasksOn p) (calls l e) released last
 
-  -- the calls up to entry e's release
-  abbrev pub upTo : ℕ → List Call
-  upTo e = until (tickAt l e) (calls l e)
-
-  pub record AtTick (e : ℕ) (jobs : List ℕ) (released : List Bool) (last owners key left : List ℕ) (n : ℕ) (out : List ℕ) : Type 0 where
+  pub record AtTick (e : ℕ) (W : Arrays) (released : List Bool) (last : List ℕ) : Type 0 where
     pub fitting : Fitting
     pub onward : back l e ≡ false
     pub owned-by : ℕ → List ℕ
-    pub running : Running p l out₀ e (upTo e) owned-by jobs owners key left n out
-    pub recent : Recent p l out₀ (upTo e) released last
+    pub running : Running p l out₀ e (upTo l e) owned-by W
+    pub recent : Recent (tasksOn p) (upTo l e) released last
 
-  module _ (e clock : ℕ) (jobs : List ℕ) (released : List Bool) (last owners key left : List ℕ) (n : ℕ) (out : List ℕ)
-      (X : Entered e clock jobs released last owners key left n out) where
-    abbrev pub standing : Standing
-    standing = record { plan = p; log = l; lent = out₀; entered = e; made = calls l e; owners = X .owned-by }
+module _ {p : Plan} {l : List Entry} {out₀ : List ℕ} {e clock : ℕ} {W : Arrays} {released : List Bool} {last : List ℕ}
+    (X : Entered p l out₀ e clock W released last) where
+  abbrev pub standing : Standing
+  standing = record { plan = p; log = l; lent = out₀; entered = e; made = calls l e; owners = X .owned-by }
 
-    pub entered-clock : e ≤ length l → clock ≤ 1000000000
-    entered-clock h =
-        omega (arith, X .clock-is, clock-calls l e, largest-least l e 1000000000 (λ j q. X .fitting .ticks j (omega arith)))
+  pub entered-clock : e ≤ length l → clock ≤ 1000000000
+  entered-clock h =
+      omega (arith, X .clock-is, clock-calls l e, largest-least l e 1000000000 (λ j q. X .fitting .ticks j (omega arith)))
 
-    pub entered-ready :
-        (bytes offsets : List ℕ) (to : ℕ) → l ≡ entriesIn bytes → length bytes ≡ 2 + 9 * length l
-        → ((i : ℕ) → i < p .tasks → row offsets i ≡ taskOf (p .task) i .offset) → e ≤ length l → to ≤ 4000000000
-        → Ready standing bytes (p .cores) offsets clock to jobs owners key left n out
-    entered-ready bytes offsets to same-log long same h far =
-        record {
-          frame =
-              record {
-                accepted = X .fitting .accepted;
-                tidied = X .fitting .tidied;
-                cores-are = refl;
-                offsets-are = same;
-                log-is = same-log;
-                long = long;
-                in-log = h;
-                room = omega (arith, X .fitting .room);
-              };
-          clock-is = X .clock-is;
-          limit = far;
-          stands = X .running;
-        }
+  pub entered-ready :
+      {bytes offsets : List ℕ} {to : ℕ} → l ≡ entriesIn bytes → length bytes ≡ 2 + 9 * length l
+      → ((i : ℕ) → i < p .tasks → row offsets i ≡ taskOf (p .task) i .offset) → e ≤ length l → to ≤ 4000000000
+      → Ready standing bytes (p .cores) offsets clock to W
+  entered-ready same-log long same h far =
+      record {
+        frame =
+            record {
+              accepted = X .fitting .accepted;
+              tidied = X .fitting .tidied;
+              cores-are = refl;
+              offsets-are = same;
+              log-is = same-log;
+              long = long;
+              in-log = h;
+              room = omega (arith, X .fitting .room);
+            };
+        clock-is = X .clock-is;
+        limit = far;
+        stands = X .running;
+      }
 
-    pub entered-back : back l e ≡ ltb (tickAt l e) clock
-    unfolding back
-    entered-back = rw (X .clock-is, clock-calls l e)
+  pub entered-back : back l e ≡ ltb (tickAt l e) clock
+  unfolding back
+  entered-back = rw (X .clock-is, clock-calls l e)
 
-    pub back-entered :
-        e < length l → back l e ≡ true
-        → Entered (suc e) clock jobs released last owners key left n (sets out (8 * e) (reportBytes (refusal 17)))
-    unfolding calls outcome
-    back-entered h b =
+  pub back-entered :
+      e < length l → back l e ≡ true
+      → Entered p l out₀ (suc e) clock (arrays (W .jobs) (W .owners) (W .key) (W .left) (W .heads) (sets (W .out) (8 * e) (reportBytes (refusal 17)))) released last
+  unfolding calls outcome
+  back-entered h b =
+      record {
+        fitting = X .fitting;
+        clock-is = rw b (X .clock-is);
+        owned-by = X .owned-by;
+        running =
+            rw b
+            (record {
+              counts-are = X .running .counts-are;
+              owners-are = X .running .owners-are;
+              heads-are = X .running .heads-are;
+              book =
+                  book-refused (omega (arith, X .fitting .room)) {n = 17} (rw b)
+                  (λ i w. w) (λ i w. w) (λ i d f w. w) (X .running .book);
+            });
+        recent = rw b (X .recent);
+      }
+
+  pub at-tick :
+      {W′ : Arrays} → back l e ≡ false → Reaches standing (tickAt l e - clock) W′ → AtTick p l out₀ e W′ released last
+  unfolding until
+  at-tick b R =
+      record {
+        fitting = X .fitting;
+        onward = b;
+        owned-by = R .owned-by;
+        running = rw (sym (X .clock-is)) (R .stands);
+        recent =
+            record {
+              released-are = X .recent .released-are ∙ sym (released-wait p (tickAt l e - history.clock (calls l e)) (calls l e));
+              last-are = X .recent .last-are ∙ sym (lasts-wait p (tickAt l e - history.clock (calls l e)) (calls l e));
+            };
+      }
+
+module _ {p : Plan} {l : List Entry} {out₀ : List ℕ} {e : ℕ} {W : Arrays} {released : List Bool} {last : List ℕ}
+    (X : AtTick p l out₀ e W released last) (less : e < length l) where
+  abbrev i : ℕ
+  i = loopAt l e
+
+  abbrev c : ℕ
+  c = demandAt l e
+
+  -- the machine that the release is handed to
+  abbrev pub machineAt : Machine
+  machineAt = state (engineOn p) (upTo l e)
+
+  -- the arrays with its job added, and these heads
+  abbrev pub takenArrays : List ℕ → List ℕ → ℕ → Arrays
+  takenArrays key′ left′ n′ =
+      arrays (set (W .jobs) i (row (W .jobs) i + 1)) (set (W .owners) (16 * i + row (W .jobs) i) e) key′ left′ n′ (W .out)
+
+  made : calls l (suc e) ≡ ask i c ∷ upTo l e
+  unfolding calls
+  made = rw (X .onward)
+
+  pub outcome-is : outcome (engineOn p) l e ≡ answerOf (tasksOn p) machineAt i c
+  unfolding outcome verdict
+  outcome-is = rw (X .onward)
+
+  clock-next : tickAt l e ≡ history.clock (calls l (suc e))
+  clock-next = rw made (sym (clock-entry l e (X .onward)))
+
+  module _ {m : ℕ} (met : answerOf (tasksOn p) machineAt i c ≡ refused m) where
+    same-machine : state (engineOn p) (calls l (suc e)) ≡ machineAt
+    unfolding handedOf
+    same-machine = rw (made, met)
+
+    same-named : (j : ℕ) → named (engineOn p) (calls l (suc e)) j (history.clock (calls l (suc e))) ≡ named (engineOn p) (upTo l e) j (history.clock (upTo l e))
+    unfolding named
+    same-named j = rw made
+
+    pub refused-entered : Entered p l out₀ (suc e) (tickAt l e) (arrays (W .jobs) (W .owners) (W .key) (W .left) (W .heads) (sets (W .out) (8 * e) (reportBytes (refusal m)))) released last
+    refused-entered =
         record {
           fitting = X .fitting;
-          clock-is = rw b (X .clock-is);
+          clock-is = clock-next;
           owned-by = X .owned-by;
           running =
-              rw b
-              (record {
+              record {
                 counts-are = X .running .counts-are;
                 owners-are = X .running .owners-are;
-                heads-are = X .running .heads-are;
+                heads-are = rw same-machine (X .running .heads-are);
                 book =
-                    book-refused p l out₀ e (X .owned-by) out (omega (arith, X .fitting .room)) (calls l e) (calls l e) 17 (rw b)
-                    (λ i w. w) (λ i w. w) (λ i d f w. w) (X .running .book);
-              });
-          recent = rw b (X .recent);
-        }
-
-    pub at-tick :
-        (jobs′ owners′ key′ left′ : List ℕ) (n′ : ℕ) (out′ : List ℕ) → back l e ≡ false → Reaches standing (tickAt l e - clock) jobs′ owners′ key′ left′ n′ out′
-        → AtTick e jobs′ released last owners′ key′ left′ n′ out′
-    unfolding until
-    at-tick jobs′ owners′ key′ left′ n′ out′ b R =
-        record {
-          fitting = X .fitting;
-          onward = b;
-          owned-by = R .owned-by;
-          running = rw (sym (X .clock-is)) (R .stands);
+                    book-refused (omega (arith, X .fitting .room)) (outcome-is ∙ met)
+                    (λ j w. rw (same-named j, same-machine) w)
+                    (λ j w. rw same-machine w)
+                    (λ j d f w. rw made (ends-ask (engineOn p) (upTo l e) i c j d f w))
+                    (X .running .book);
+              };
           recent =
               record {
-                released-are = X .recent .released-are ∙ sym (released-wait p (tickAt l e - history.clock (calls l e)) (calls l e));
-                last-are = X .recent .last-are ∙ sym (lasts-wait p (tickAt l e - history.clock (calls l e)) (calls l e));
+                released-are = rw same-machine (X .recent .released-are);
+                last-are = rw same-machine (X .recent .last-are);
               };
         }
 
-  module _ (e : ℕ) (jobs : List ℕ) (released : List Bool) (last owners key left : List ℕ) (n : ℕ) (out : List ℕ)
-      (X : AtTick e jobs released last owners key left n out) (less : e < length l) where
-    abbrev i : ℕ
-    i = loopAt l e
+  module _ (free : answerOf (tasksOn p) machineAt i c ≡ taken) where
+    allowed : (i < (tasksOn p) .count) × (length (machineAt .lane i .queue) < 16)
+    unfolding full
+    allowed =
+        let a = answer-allowed (tasksOn p) machineAt i c free in
+        (a .0 .in-table, leb-false 16 (length (machineAt .lane i .queue)) (a .1))
 
-    abbrev c : ℕ
-    c = demandAt l e
+    low : i < 16
+    low = omega (arith, allowed .0, plan-limits p (X .fitting .accepted) .tasks-high)
 
-    -- the machine that the release is handed to
-    abbrev pub machineAt : Machine
-    machineAt = state E (upTo e)
+    -- as many owners as jobs
+    owners-jobs : length (X .owned-by i) ≡ length (machineAt .lane i .queue)
+    owners-jobs = owned-length (engineOn p) l i _ (X .owned-by i) _ (X .running .book .owned i (allowed .0))
 
-    made : calls l (suc e) ≡ ask i c ∷ upTo e
-    unfolding calls
-    made = rw (X .onward)
+    pub held : row (W .jobs) i ≡ length (machineAt .lane i .queue)
+    held = rw (X .running .counts-are) (count-at (X .owned-by) i low ∙ owners-jobs)
 
-    pub outcome-is : outcome E l e ≡ answerOf s machineAt i c
-    unfolding outcome verdict
-    outcome-is = rw (X .onward)
+    next-machine : state (engineOn p) (calls l (suc e)) ≡ admitted i c machineAt
+    unfolding handedOf
+    next-machine = rw (made, free)
 
-    clock-next : tickAt l e ≡ history.clock (calls l (suc e))
-    clock-next = rw made (sym (clock-entry l e (X .onward)))
+    now : machineAt .clock ≡ tickAt l e
+    now = machine-clock (tasksOn p) (upTo l e) ∙ clock-entry l e (X .onward)
 
-    module _ (m : ℕ) (met : answerOf s machineAt i c ≡ refused m) where
-      same-machine : state E (calls l (suc e)) ≡ machineAt
-      unfolding handedOf
-      same-machine = rw (made, met)
+    room : 8 * suc e ≤ length out₀
+    room = omega (arith, X .fitting .room)
 
-      same-named : (j : ℕ) → named E (calls l (suc e)) j (history.clock (calls l (suc e))) ≡ named E (upTo e) j (history.clock (upTo e))
-      unfolding named
-      same-named j = rw made
+    entered :
+        {key′ left′ : List ℕ} {n′ : ℕ} → Heads (tasksOn p) (admitted i c machineAt) (λ j. false) key′ left′ n′
+        → Entered p l out₀ (suc e) (tickAt l e) (takenArrays key′ left′ n′) (set released i true) (set last i (tickAt l e))
+    entered A =
+        record {
+          fitting = X .fitting;
+          clock-is = clock-next;
+          owned-by = ownersWith e (X .owned-by) i;
+          running =
+              record {
+                counts-are = rw (X .running .counts-are) (counts-more (X .owned-by) i e low);
+                owners-are =
+                    rw (X .running .owners-are)
+                    (joined-owners (X .owned-by) i (row (W .jobs) i) e (owners-jobs ∙ sym held) (omega (arith, held, allowed .1)) low);
+                heads-are = rw next-machine A;
+                book = book-taken room (outcome-is ∙ free) (X .running .book) (allowed .0);
+              };
+          recent =
+              record {
+                released-are = rw (next-machine, X .recent .released-are) (sym (admitted-released i c machineAt));
+                last-are =
+                    rw (next-machine, X .recent .last-are) (ap (set (lastIn machineAt) i) (sym now) ∙ sym (admitted-last i c machineAt));
+              };
+        }
 
-      pub refused-entered : Entered (suc e) (tickAt l e) jobs released last owners key left n (sets out (8 * e) (reportBytes (refusal m)))
-      refused-entered =
-          record {
-            fitting = X .fitting;
-            clock-is = clock-next;
-            owned-by = X .owned-by;
-            running =
-                record {
-                  counts-are = X .running .counts-are;
-                  owners-are = X .running .owners-are;
-                  heads-are = rw same-machine (X .running .heads-are);
-                  book =
-                      book-refused p l out₀ e (X .owned-by) out (omega (arith, X .fitting .room)) (upTo e) (calls l (suc e)) m (outcome-is ∙ met)
-                      (λ j w. rw (same-named j, same-machine) w)
-                      (λ j w. rw same-machine w)
-                      (λ j d f w. rw made (ends-ask E (upTo e) i c j d f w))
-                      (X .running .book);
-                };
-            recent =
-                record {
-                  released-are = rw same-machine (X .recent .released-are);
-                  last-are = rw same-machine (X .recent .last-are);
-                };
-          }
+    -- another loop's head is the same
+    other-head : (j : ℕ) → eqb j i ≡ false → SameHead (tasksOn p) machineAt (admitted i c machineAt) j
+    unfolding admitted waiting keyOf
+    other-head j q = record { waits = rw q; key = rw q; work = rw q }
 
-    module _ (free : answerOf s machineAt i c ≡ taken) where
-      allowed : (i < s .count) × (length (machineAt .lane i .queue) < 16)
-      unfolding full
-      allowed =
-          let a = answer-allowed s machineAt i c free in
-          (a .0 .in-table, leb-false 16 (length (machineAt .lane i .queue)) (a .1))
+    pub taken-behind :
+        row (W .jobs) i ≢ 0
+        → Entered p l out₀ (suc e) (tickAt l e) (takenArrays (W .key) (W .left) (W .heads)) (set released i true) (set last i (tickAt l e))
+    unfolding admitted joined waiting keyOf
+    taken-behind some =
+        entered
+        (heads-same (λ j o. at j (eqb j i) refl) (λ j w. refl) (X .running .heads-are))
+      where
+        front : (q : List Job) (a : Job) → length q ≢ 0
+            → (pending (q ++ a ∷ []) ≡ pending q) × (headRelease (q ++ a ∷ []) ≡ headRelease q) × (headWork (q ++ a ∷ []) ≡ headWork q)
+        front [] a ne = absurd (ne refl)
+        front (job r w ∷ q) a ne = (refl, refl, refl)
 
-      low : i < 16
-      low = omega (arith, allowed .0, plan-limits p (X .fitting .accepted) .tasks-high)
+        at : (j : ℕ) (b : Bool) → eqb j i ≡ b → SameHead (tasksOn p) machineAt (admitted i c machineAt) j
+        at j true q =
+            let f = front (machineAt .lane i .queue) (job (machineAt .clock) c) (λ z. some (held ∙ z)) in
+            rw (eqb-true j i q)
+            (record { waits = rw (eq-eqb i i refl) (f .0); key = rw (eq-eqb i i refl, f .1); work = rw (eq-eqb i i refl) (f .2) })
+        at j false q = other-head j q
 
-      -- as many owners as jobs
-      owners-jobs : length (X .owned-by i) ≡ length (machineAt .lane i .queue)
-      owners-jobs = owned-length E l i _ (X .owned-by i) _ (X .running .book .owned i (allowed .0))
-
-      pub held : row jobs i ≡ length (machineAt .lane i .queue)
-      held = rw (X .running .counts-are) (count-at (X .owned-by) i low ∙ owners-jobs)
-
-      next-machine : state E (calls l (suc e)) ≡ admitted i c machineAt
-      unfolding handedOf
-      next-machine = rw (made, free)
-
-      now : machineAt .clock ≡ tickAt l e
-      now = machine-clock s (upTo e) ∙ clock-entry l e (X .onward)
-
-      room : 8 * suc e ≤ length out₀
-      room = omega (arith, X .fitting .room)
-
-      entered :
-          (key′ left′ : List ℕ) (n′ : ℕ) → Heads s (admitted i c machineAt) (λ j. false) key′ left′ n′
-          → Entered (suc e) (tickAt l e) (set jobs i (row jobs i + 1)) (set released i true) (set last i (tickAt l e))
-          (set owners (16 * i + row jobs i) e) key′ left′ n′ out
-      entered key′ left′ n′ A =
-          record {
-            fitting = X .fitting;
-            clock-is = clock-next;
-            owned-by = ownersWith p l out₀ e (X .owned-by) out room i;
-            running =
-                record {
-                  counts-are = rw (X .running .counts-are) (counts-more (X .owned-by) i e low);
-                  owners-are =
-                      rw (X .running .owners-are)
-                      (joined-owners (X .owned-by) i (row jobs i) e (owners-jobs ∙ sym held) (omega (arith, held, allowed .1)) low);
-                  heads-are = rw next-machine A;
-                  book = book-taken p l out₀ e (X .owned-by) out room (outcome-is ∙ free) (X .running .book) (allowed .0);
-                };
-            recent =
-                record {
-                  released-are = rw (next-machine, X .recent .released-are) (sym (admitted-released i c machineAt));
-                  last-are =
-                      rw (next-machine, X .recent .last-are) (ap (set (lastIn machineAt) i) (sym now) ∙ sym (admitted-last i c machineAt));
-                };
-          }
-
-      -- another loop's head is the same
-      other-head : (j : ℕ) → eqb j i ≡ false → SameHead s machineAt (admitted i c machineAt) j
-      unfolding admitted waiting keyOf point
-      other-head j q = record { waits = rw q; key = rw q; work = rw q }
-
-      pub taken-behind :
-          row jobs i ≢ 0
-          → Entered (suc e) (tickAt l e) (set jobs i (row jobs i + 1)) (set released i true) (set last i (tickAt l e))
-          (set owners (16 * i + row jobs i) e) key left n out
-      unfolding admitted joined waiting keyOf point
-      taken-behind some =
-          entered key left n
-          (heads-same s machineAt (admitted i c machineAt) (λ j. false) key left n (λ j o. at j (eqb j i) refl) (λ j w. refl) (X .running .heads-are))
+    module _ (empty : row (W .jobs) i ≡ 0) where
+      no-job : machineAt .lane i .queue ≡ []
+      no-job = go (machineAt .lane i .queue) (sym held ∙ empty)
         where
-          front : (q : List Job) (a : Job) → length q ≢ 0
-              → (pending (q ++ a ∷ []) ≡ pending q) × (headRelease (q ++ a ∷ []) ≡ headRelease q) × (headWork (q ++ a ∷ []) ≡ headWork q)
-          front [] a ne = absurd (ne refl)
-          front (job r w ∷ q) a ne = (refl, refl, refl)
+          go : (q : List Job) → length q ≡ 0 → q ≡ []
+          go [] z = refl
+          go (a ∷ q) z = absurd (omega arith)
 
-          at : (j : ℕ) (b : Bool) → eqb j i ≡ b → SameHead s machineAt (admitted i c machineAt) j
-          at j true q =
-              let f = front (machineAt .lane i .queue) (job (machineAt .clock) c) (λ z. some (held ∙ z)) in
-              rw (eqb-true j i q)
-              (record { waits = rw (eq-eqb i i refl) (f .0); key = rw (eq-eqb i i refl, f .1); work = rw (eq-eqb i i refl) (f .2) })
-          at j false q = other-head j q
+      -- all but the new head
+      others : Heads (tasksOn p) (admitted i c machineAt) (λ j. eqb j i) (W .key) (W .left) (W .heads)
+      unfolding waiting
+      others =
+          heads-same (λ j q. other-head j q)
+          (λ j w. apart j (eqb j i) refl w) (X .running .heads-are)
+        where
+          apart : (j : ℕ) (b : Bool) → eqb j i ≡ b → waiting machineAt j ≡ true → eqb j i ≡ false
+          apart j true q w = absurd (true≢false (sym w ∙ ap (λ (k : ℕ). pending (machineAt .lane k .queue)) (eqb-true j i q) ∙ ap pending no-job))
+          apart j false q w = q
 
-      module _ (empty : row jobs i ≡ 0) where
-        no-job : machineAt .lane i .queue ≡ []
-        no-job = go (machineAt .lane i .queue) (sym held ∙ empty)
-          where
-            go : (q : List Job) → length q ≡ 0 → q ≡ []
-            go [] z = refl
-            go (a ∷ q) z = absurd (omega arith)
+      waits-low : (j : ℕ) → waiting (admitted i c machineAt) j ≡ true → j < 16
+      waits-low j w =
+          let k = waits-known (tasksOn p) (calls l (suc e)) j (ap (λ (a : Machine). waiting a j) next-machine ∙ w) in
+          omega (arith, k, plan-limits p (X .fitting .accepted) .tasks-high)
 
-        -- all but the new head
-        others : Heads s (admitted i c machineAt) (λ j. eqb j i) key left n
-        unfolding waiting
-        others =
-            heads-same s machineAt (admitted i c machineAt) (λ j. eqb j i) key left n (λ j q. other-head j q)
-            (λ j w. apart j (eqb j i) refl w) (X .running .heads-are)
-          where
-            apart : (j : ℕ) (b : Bool) → eqb j i ≡ b → waiting machineAt j ≡ true → eqb j i ≡ false
-            apart j true q w = absurd (true≢false (sym w ∙ ap (λ (k : ℕ). pending (machineAt .lane k .queue)) (eqb-true j i q) ∙ ap pending no-job))
-            apart j false q w = q
+      pub taken-place : W .heads < 16
+      taken-place = room-for waits-low others i low (eq-eqb i i refl)
 
-        waits-low : (j : ℕ) → waiting (admitted i c machineAt) j ≡ true → j < 16
-        waits-low j w =
-            let k = waits-known s (calls l (suc e)) j (ap (λ (a : Machine). waiting a j) next-machine ∙ w) in
-            omega (arith, k, plan-limits p (X .fitting .accepted) .tasks-high)
+      pub taken-rises : (a b : ℕ) → a < b → b < W .heads → row (W .key) a < row (W .key) b
+      taken-rises = X .running .heads-are .rises
 
-        pub taken-place : n < 16
-        taken-place = room-for s (admitted i c machineAt) (λ j. eqb j i) key left n waits-low others i low (eq-eqb i i refl)
+      new-key : keyOf (tasksOn p) (admitted i c machineAt) i ≡ headKey (tickAt l e) (tasksOn p .task i .offset) i
+      unfolding admitted joined keyOf
+      new-key = rw (eq-eqb i i refl, no-job, now)
 
-        pub taken-rises : (a b : ℕ) → a < b → b < n → row key a < row key b
-        taken-rises = X .running .heads-are .rises
+      new-work : headWork (admitted i c machineAt .lane i .queue) ≡ c
+      unfolding admitted joined
+      new-work = rw (eq-eqb i i refl, no-job)
 
-        new-key : keyOf s (admitted i c machineAt) i ≡ 16 * (tickAt l e + s .task i .offset) + i
-        unfolding admitted joined keyOf point
-        new-key = rw (eq-eqb i i refl, no-job, now)
+      new-waits : waiting (admitted i c machineAt) i ≡ true
+      unfolding admitted joined waiting
+      new-waits = rw (eq-eqb i i refl, no-job)
 
-        new-work : headWork (admitted i c machineAt .lane i .queue) ≡ c
-        unfolding admitted joined
-        new-work = rw (eq-eqb i i refl, no-job)
-
-        new-waits : waiting (admitted i c machineAt) i ≡ true
-        unfolding admitted joined waiting
-        new-waits = rw (eq-eqb i i refl, no-job)
-
-        pub taken-first :
-            (key′ left′ : List ℕ) → Inserted key left n (16 * (tickAt l e + s .task i .offset) + i) c key′ left′
-            → Entered (suc e) (tickAt l e) (set jobs i (row jobs i + 1)) (set released i true) (set last i (tickAt l e))
-            (set owners (16 * i + row jobs i) e) key′ left′ (n + 1) out
-        taken-first key′ left′ I =
-            entered key′ left′ (n + 1)
-            (subst (λ f. Heads s (admitted i c machineAt) f key′ left′ (n + 1)) (fun-ext (λ j. nobody (eqb j i)))
-            (inserted s (admitted i c machineAt) (λ j. eqb j i) key left n i others waits-low new-waits (eq-eqb i i refl) key′ left′
-            (subst (λ v. Inserted key left n v (headWork (admitted i c machineAt .lane i .queue)) key′ left′) (sym new-key)
-            (subst (λ w. Inserted key left n (16 * (tickAt l e + s .task i .offset) + i) w key′ left′) (sym new-work) I))))
-          where
-            nobody : (b : Bool) → b && not b ≡ false
-            nobody true = refl
-            nobody false = refl
+      pub taken-first :
+          {key′ left′ : List ℕ} → Inserted (W .key) (W .left) (W .heads) (headKey (tickAt l e) (tasksOn p .task i .offset) i) c key′ left′
+          → Entered p l out₀ (suc e) (tickAt l e) (takenArrays key′ left′ (W .heads + 1)) (set released i true) (set last i (tickAt l e))
+      taken-first {key′} {left′} I =
+          entered
+          (subst (λ f. Heads (tasksOn p) (admitted i c machineAt) f key′ left′ (W .heads + 1)) (fun-ext (λ j. nobody (eqb j i)))
+          (inserted i others waits-low new-waits (eq-eqb i i refl)
+          (subst (λ v. Inserted (W .key) (W .left) (W .heads) v (headWork (admitted i c machineAt .lane i .queue)) key′ left′) (sym new-key)
+          (subst (λ w. Inserted (W .key) (W .left) (W .heads) (headKey (tickAt l e) (tasksOn p .task i .offset) i) w key′ left′) (sym new-work) I))))
+        where
+          nobody : (b : Bool) → b && not b ≡ false
+          nobody true = refl
+          nobody false = refl

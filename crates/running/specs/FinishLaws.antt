@@ -16,12 +16,12 @@ use Rattle.tasks.specs.declared.Task.{Task}
 use Rattle.tasks.specs.declared.Plan.{Plan}
 use Rattle.tasks.specs.TaskSet.{TaskSet, row}
 use Rattle.tasks.specs.Content.{contentOf}
-use Rattle.machine.specs.Machine.{Job, job, Machine, pending, waiting, point, runs, served, advanced, tick}
+use Rattle.machine.specs.Machine.{Job, job, Machine, pending, waiting, runs, served, advanced, tick}
 use Rattle.machine.specs.Sound.{Rising, reached-sound}
 use Rattle.state.specs.Fit.{Fit}
 use Rattle.state.specs.KeptLaws.{reached-fit}
 use Rattle.state.specs.FitLaws.{in-task, in-count, plan-limits}
-use Rattle.state.specs.Serve.{moved}
+use Rattle.service.specs.Serve.{moved}
 use Rattle.history.specs.Engine as history
 use Rattle.history.specs.Engine.{Engine, Call, step, state}
 use Rattle.history.specs.Log.{Entry, noEntry, tickAt, demandAt}
@@ -33,10 +33,11 @@ use Rattle.logs.specs.declared.read.Release.{Release}
 use Rattle.logs.specs.LogStages.{Releases}
 use Rattle.logs.specs.LogBytes.{entryCount, entryIn, reportBytes}
 use Rattle.logs.specs.LogLaws.{entries-length, entry-at}
-use Rattle.heads.specs.Order.{keyOf, headWork, Heads, Inserted}
+use Rattle.choice.specs.Key.{headKey, keyOf}
+use Rattle.heads.specs.Order.{headWork, Heads, Inserted}
 use Rattle.heads.specs.HeadLaws.{without, inserted, left-out}
 use Rattle.heads.specs.RoomLaws.{room-for}
-use Rattle.running.specs.Running.{ownersIn, countsIn, Whole, Rooted}
+use Rattle.running.specs.Running.{Arrays, arrays, ownersIn, countsIn, Whole, Rooted}
 use Rattle.running.specs.WaitLaws.{waits-known}
 use Rattle.running.specs.OwnerLaws.{owner-at, moved-owners, count-at, less-one, counts-less}
 use Rattle.running.specs.BookLaws.{book-few, ended, ownersNow, andOne, Stage, ended-known, some-owner, first-early, stage-more}
@@ -52,9 +53,8 @@ served-last l T C t r (o ∷ os) (job a zero ∷ q) c p f = p .1
 served-last l T C t r (o ∷ os) (job a (suc zero) ∷ q) c p f = p .1
 served-last l T C t r (o ∷ os) (job a (suc (suc w)) ∷ q) c p f = absurd (omega (arith, leb-true (suc (suc w)) 1 f))
 
-module _ (x : Standing) (g : List Call) (gone : ℕ → Bool) (now : ℕ) (jobs owners key left : List ℕ) (n : ℕ) (out : List ℕ)
-    (bytes : List ℕ) (cores : ℕ) (offsets : List ℕ) (F : Frame x bytes cores offsets)
-    (X : Turning x g gone now jobs owners key left n out) where
+module _ {x : Standing} {g : List Call} {gone : ℕ → Bool} {now : ℕ} {W : Arrays} {bytes : List ℕ} {cores : ℕ} {offsets : List ℕ}
+    (F : Frame x bytes cores offsets) (X : Turning x g gone now W) where
   abbrev p : Plan
   p = x .plan
 
@@ -74,18 +74,18 @@ module _ (x : Standing) (g : List Call) (gone : ℕ → Bool) (now : ℕ) (jobs 
   N = state E (step ∷ g)
 
   abbrev now-owners : ℕ → List ℕ
-  now-owners = ownersNow p l (x .lent) O gone
+  now-owners = ownersNow O gone
 
   abbrev over : ℕ → Bool
-  over = ended p l (x .lent) g
+  over = ended s g
 
   -- nobody beyond the table waits
   waits-low : (j : ℕ) → waiting N j ≡ true → j < 16
   waits-low j w = omega (arith, waits-known s (step ∷ g) j w, plan-limits p (F .accepted) .tasks-high)
 
-  module _ (i : ℕ) (fin : over i ≡ true) (new : gone i ≡ false) where
+  module _ {i : ℕ} (fin : ended (contentOf (x .plan) .tasks) g i ≡ true) (new : gone i ≡ false) where
     known : i < s .count
-    known = ended-known p l (x .lent) (x .entered) g O (X .answered) (F .room) (X .before) i fin
+    known = ended-known (F .room) (X .before) i fin
 
     low : i < 16
     low = omega (arith, known, plan-limits p (F .accepted) .tasks-high)
@@ -105,28 +105,28 @@ module _ (x : Standing) (g : List Call) (gone : ℕ → Bool) (now : ℕ) (jobs 
     abbrev first : ℕ
     first = getD (O i) 0 0
 
-    pub first-read : row owners (16 * i) ≡ first
+    pub first-read : row (W .owners) (16 * i) ≡ first
     first-read =
         let e : 16 * i + 0 ≡ 16 * i = omega arith in
         rw (X .owners-are) ((rw e at (owner-at now-owners i 0 low (omega arith))) ∙ ap (λ (os : List ℕ). getD os 0 0) owners-here)
 
-    pub finish-room : 8 * row owners (16 * i) + 8 ≤ length out
+    pub finish-room : 8 * row (W .owners) (16 * i) + 8 ≤ length (W .out)
     finish-room =
         omega (
           arith,
           first-read,
-          first-early p l (x .lent) (x .entered) g O (X .answered) (F .room) (X .before) i fin,
+          first-early (F .room) (X .before) i fin,
           F .room,
           X .stage .long,
         )
 
     here : O i ≡ first ∷ drop 1 (O i)
-    here = some-owner p l (x .lent) (x .entered) g O (X .answered) (F .room) (X .before) i fin
+    here = some-owner (F .room) (X .before) i fin
 
-    count-now : row jobs i ≡ length (O i)
+    count-now : row (W .jobs) i ≡ length (O i)
     count-now = rw (X .counts-are) (count-at now-owners i low ∙ ap length owners-here)
 
-    pub finish-low : (i < 16) × (1 ≤ row jobs i)
+    pub finish-low : (i < 16) × (1 ≤ row (W .jobs) i)
     finish-low = (low, omega (arith, count-now, some (O i) here))
       where
         some : (os : List ℕ) → os ≡ first ∷ drop 1 (O i) → 1 ≤ length os
@@ -148,7 +148,7 @@ module _ (x : Standing) (g : List Call) (gone : ℕ → Bool) (now : ℕ) (jobs 
 
     -- with i's first owner taken off
     abbrev then-owners : ℕ → List ℕ
-    then-owners = ownersNow p l (x .lent) O (andOne p l (x .lent) gone i)
+    then-owners = ownersNow O (andOne gone i)
 
     owners-step : (λ j. cond (eqb j i) (drop 1 (now-owners j)) (now-owners j)) ≡ then-owners
     owners-step = fun-ext (λ j. at j (eqb j i) refl (gone j) refl)
@@ -161,7 +161,7 @@ module _ (x : Standing) (g : List Call) (gone : ℕ → Bool) (now : ℕ) (jobs 
         at j false e true c = refl
         at j false e false c = refl
 
-    pub finish-counts : (jobs′ : List ℕ) → jobs′ ≡ set jobs i (row jobs i - 1) → jobs′ ≡ countsIn then-owners
+    pub finish-counts : (jobs′ : List ℕ) → jobs′ ≡ set (W .jobs) i (row (W .jobs) i - 1) → jobs′ ≡ countsIn then-owners
     finish-counts jobs′ q =
         q
         ∙ ap (λ (a : List ℕ). set a i (row a i - 1)) (X .counts-are)
@@ -172,18 +172,18 @@ module _ (x : Standing) (g : List Call) (gone : ℕ → Bool) (now : ℕ) (jobs 
     fits-before =
         reached-fit p (F .accepted) (F .tidied) (state E g) (reached s g) (omega (arith, machine-clock s g, X .now-is, X .limit))
 
-    pub finish-owners : (owners′ : List ℕ) → owners′ ≡ moved i owners → owners′ ≡ ownersIn then-owners
+    pub finish-owners : (owners′ : List ℕ) → owners′ ≡ moved i (W .owners) → owners′ ≡ ownersIn then-owners
     finish-owners owners′ q =
         q
         ∙ ap (moved i) (X .owners-are)
         ∙ moved-owners now-owners i low
-        (rw owners-here (book-few p l (x .lent) (x .entered) g O (X .answered) fits-before (X .before) i))
+        (rw owners-here (book-few fits-before (X .before) i))
         ∙ ap ownersIn owners-step
 
     then-here : then-owners i ≡ drop 1 (O i)
     then-here = rw (new, eq-eqb i i refl)
 
-    count-then : row jobs i - 1 ≡ length (drop 1 (O i))
+    count-then : row (W .jobs) i - 1 ≡ length (drop 1 (O i))
     count-then = omega (arith, count-now, less-one (O i))
 
     abbrev second : ℕ
@@ -194,7 +194,7 @@ module _ (x : Standing) (g : List Call) (gone : ℕ → Bool) (now : ℕ) (jobs 
         let e : 16 * i + 0 ≡ 16 * i = omega arith in
         rw q ((rw e at (owner-at then-owners i 0 low (omega arith))) ∙ ap (λ (os : List ℕ). getD os 0 0) then-here)
 
-    out-step : (λ j. over j && not (andOne p l (x .lent) gone i j)) ≡ without (λ j. over j && not (gone j)) i
+    out-step : (λ j. over j && not (andOne gone i j)) ≡ without (λ j. over j && not (gone j)) i
     out-step = fun-ext (λ j. at (over j) (gone j) (eqb j i))
       where
         at : (a b c : Bool) → a && not (b || c) ≡ (a && not b) && not c
@@ -205,18 +205,18 @@ module _ (x : Standing) (g : List Call) (gone : ℕ → Bool) (now : ℕ) (jobs 
     out-here : over i && not (gone i) ≡ true
     out-here = rw (fin, new)
 
-    stage-then : (out′ : List ℕ) → out′ ≡ sets out (8 * row owners (16 * i)) (reportBytes (finished now)) → Stage p l (x .lent) (x .entered) g O (andOne p l (x .lent) gone i) out′
+    stage-then : (out′ : List ℕ) → out′ ≡ sets (W .out) (8 * row (W .owners) (16 * i)) (reportBytes (finished now)) → Stage p l (x .lent) (x .entered) g O (andOne gone i) out′
     stage-then out′ q =
-        subst (Stage p l (x .lent) (x .entered) g O (andOne p l (x .lent) gone i))
+        subst (Stage p l (x .lent) (x .entered) g O (andOne gone i))
         (sym (q ∙ rw (first-read, X .now-is)))
-        (stage-more p l (x .lent) (x .entered) g O (X .answered) (F .room) (X .before) i fin gone out new (X .stage))
+        (stage-more (F .room) (X .before) i fin new (X .stage))
 
-    module _ (jobs′ owners′ out′ : List ℕ) (jq : jobs′ ≡ set jobs i (row jobs i - 1)) (oq : owners′ ≡ moved i owners)
-        (uq : out′ ≡ sets out (8 * row owners (16 * i)) (reportBytes (finished now))) where
+    module _ {jobs′ owners′ out′ : List ℕ} (jq : jobs′ ≡ set (W .jobs) i (row (W .jobs) i - 1)) (oq : owners′ ≡ moved i (W .owners))
+        (uq : out′ ≡ sets (W .out) (8 * row (W .owners) (16 * i)) (reportBytes (finished now))) where
       turned :
-          (key′ left′ : List ℕ) (n′ : ℕ) → Heads s N (without (λ j. over j && not (gone j)) i) key′ left′ n′
-          → Turning x g (andOne p l (x .lent) gone i) now jobs′ owners′ key′ left′ n′ out′
-      turned key′ left′ n′ A =
+          {key′ left′ : List ℕ} {n′ : ℕ} → Heads s N (without (λ j. over j && not (gone j)) i) key′ left′ n′
+          → Turning x g (andOne gone i) now (arrays jobs′ owners′ key′ left′ n′ out′)
+      turned A =
           record {
             answered = X .answered;
             before = X .before;
@@ -229,11 +229,11 @@ module _ (x : Standing) (g : List Call) (gone : ℕ → Bool) (now : ℕ) (jobs 
           }
 
       -- no job is left
-      pub finish-none : row jobs i - 1 ≡ 0 → Turning x g (andOne p l (x .lent) gone i) now jobs′ owners′ key left n out′
+      pub finish-none : row (W .jobs) i - 1 ≡ 0 → Turning x g (andOne gone i) now (arrays jobs′ owners′ (W .key) (W .left) (W .heads) out′)
       unfolding waiting
       finish-none z =
-          turned key left n
-          (left-out s N (λ j. over j && not (gone j)) key left n i (X .heads-are)
+          turned
+          (left-out i (X .heads-are)
           (empty (drop 1 (O i)) (sym count-then ∙ z) (N .lane i .queue) next-whole))
         where
           empty : (os : List ℕ) → length os ≡ 0 → (q : List Job) → Whole l os q → pending q ≡ false
@@ -241,16 +241,16 @@ module _ (x : Standing) (g : List Call) (gone : ℕ → Bool) (now : ℕ) (jobs 
           empty [] e (j ∷ q) w = absurd w
           empty (o ∷ os) e q w = absurd (omega arith)
 
-      module _ (more : row jobs i - 1 ≢ 0) where
+      module _ (more : row (W .jobs) i - 1 ≢ 0) where
         -- the next job is as it was released
         record Next : Type 0 where
           waits : waiting N i ≡ true
-          key-is : keyOf s N i ≡ 16 * (tickAt l second + s .task i .offset) + i
+          key-is : keyOf s N i ≡ headKey (tickAt l second) (s .task i .offset) i
           work-is : headWork (N .lane i .queue) ≡ demandAt l second
           early : second < x .entered
 
         next : Next
-        unfolding waiting keyOf point
+        unfolding waiting keyOf
         next = go (drop 1 (O i)) refl (N .lane i .queue) refl
           where
             go : (os : List ℕ) → drop 1 (O i) ≡ os → (q : List Job) → N .lane i .queue ≡ q → Next
@@ -268,19 +268,19 @@ module _ (x : Standing) (g : List Call) (gone : ℕ → Bool) (now : ℕ) (jobs 
         pub finish-long : 2 + 9 * row owners′ (16 * i) + 9 ≤ length bytes
         finish-long = omega (arith, second-read owners′ (finish-owners owners′ oq), next .early, F .in-log, F .long)
 
-        pub finish-place : n < 16
+        pub finish-place : W .heads < 16
         finish-place =
-            room-for s N (λ j. over j && not (gone j)) key left n waits-low (X .heads-are) i low out-here
+            room-for waits-low (X .heads-are) i low out-here
 
         pub finish-more :
-            (r : Release) → Releases bytes (row owners′ (16 * i)) r → (key′ left′ : List ℕ)
-            → Inserted key left n (16 * (r .tick + row offsets i) + i) (r .demand) key′ left′
-            → Turning x g (andOne p l (x .lent) gone i) now jobs′ owners′ key′ left′ (n + 1) out′
-        finish-more r R key′ left′ I =
-            turned key′ left′ (n + 1)
-            (inserted s N (λ j. over j && not (gone j)) key left n i (X .heads-are) waits-low (next .waits) out-here key′ left′
-            (subst (λ v. Inserted key left n v (headWork (N .lane i .queue)) key′ left′) (sym key-same)
-            (subst (λ w. Inserted key left n (16 * (r .tick + row offsets i) + i) w key′ left′) (sym work-same) I)))
+            {r : Release} → Releases bytes (row owners′ (16 * i)) r → {key′ left′ : List ℕ}
+            → Inserted (W .key) (W .left) (W .heads) (headKey (r .tick) (row offsets i) i) (r .demand) key′ left′
+            → Turning x g (andOne gone i) now (arrays jobs′ owners′ key′ left′ (W .heads + 1) out′)
+        finish-more {r} R {key′} {left′} I =
+            turned
+            (inserted i (X .heads-are) waits-low (next .waits) out-here
+            (subst (λ v. Inserted (W .key) (W .left) (W .heads) v (headWork (N .lane i .queue)) key′ left′) (sym key-same)
+            (subst (λ w. Inserted (W .key) (W .left) (W .heads) (headKey (r .tick) (row offsets i) i) w key′ left′) (sym work-same) I)))
           where
             at : row owners′ (16 * i) ≡ second
             at = second-read owners′ (finish-owners owners′ oq)
@@ -291,8 +291,8 @@ module _ (x : Standing) (g : List Call) (gone : ℕ → Bool) (now : ℕ) (jobs 
             entry : getD l second noEntry ≡ entryIn bytes (row owners′ (16 * i))
             entry = rw (F .log-is, at) (entry-at bytes second counted)
 
-            key-same : keyOf s N i ≡ 16 * (r .tick + row offsets i) + i
-            key-same = next .key-is ∙ rw (R .tick, offset-is) (ap (λ (y : Entry). 16 * (y .tick + s .task i .offset) + i) entry)
+            key-same : keyOf s N i ≡ headKey (r .tick) (row offsets i) i
+            key-same = next .key-is ∙ rw (R .tick, offset-is) (ap (λ (y : Entry). headKey (y .tick) (s .task i .offset) i) entry)
 
             work-same : headWork (N .lane i .queue) ≡ r .demand
             work-same = next .work-is ∙ ap (λ (y : Entry). y .demand) entry ∙ sym (R .demand)

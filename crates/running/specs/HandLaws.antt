@@ -34,8 +34,10 @@ use Rattle.history.specs.Report.{refusal}
 use Rattle.history.specs.OnMachine.{answerOf, machineEngine}
 use Rattle.history.specs.Balance.{machine-clock}
 use Rattle.history.specs.Owners.{owned-length}
+use Rattle.choice.specs.Key.{headKey}
 use Rattle.heads.specs.Order.{Inserted}
 use Rattle.logs.specs.LogBytes.{reportBytes}
+use Rattle.running.specs.Running.{Arrays, arrays}
 use Rattle.running.specs.OwnerLaws.{count-at}
 use Rattle.running.specs.Entered.{Entered, AtTick, upTo, machineAt, outcome-is, refused-entered, taken-behind, taken-place, taken-rises, taken-first}
 
@@ -45,9 +47,9 @@ pub record Columns (p : Plan) (tasks : ℕ) (separations budgets offsets : List 
   pub budgets-are : (i : ℕ) → i < tasks → row budgets i ≡ taskOf (p .task) i .budget
   pub offsets-are : (i : ℕ) → i < tasks → row offsets i ≡ taskOf (p .task) i .offset
 
-pub record Handing (p : Plan) (l : List Entry) (out₀ : List ℕ) (e tick task demand tasks : ℕ) (separations budgets offsets jobs : List ℕ)
-    (released : List Bool) (last owners key left : List ℕ) (n : ℕ) (out : List ℕ) : Type 0 where
-  pub at : AtTick p l out₀ e jobs released last owners key left n out
+pub record Handing (p : Plan) (l : List Entry) (out₀ : List ℕ) (e tick task demand tasks : ℕ) (separations budgets offsets : List ℕ)
+    (W : Arrays) (released : List Bool) (last : List ℕ) : Type 0 where
+  pub at : AtTick p l out₀ e W released last
   pub less : e < length l
   pub columns : Columns p tasks separations budgets offsets
   pub tick-is : tick ≡ tickAt l e
@@ -59,27 +61,25 @@ abbrev pub takes : Plan → List Entry → ℕ → ℕ
 takes p l e = cond (isTaken (outcome (machineEngine (contentOf p .tasks)) l e)) 1 0
 
 abbrev pub Handed :
-    ℕ → ℕ → ℕ → ℕ → ℕ → List ℕ → List ℕ → List ℕ → List ℕ → List Bool → List ℕ → List ℕ → List ℕ → List ℕ → ℕ → List ℕ → ℕ → List ℕ → List Bool
-    → List ℕ → List ℕ → List ℕ → List ℕ → ℕ → List ℕ → Type 0
-Handed e tick task demand tasks separations budgets offsets jobs released last owners key left n out r jobs′ released′ last′ owners′ key′ left′ n′ out′ =
+    ℕ → ℕ → ℕ → ℕ → ℕ → List ℕ → List ℕ → List ℕ → Arrays → List Bool → List ℕ → ℕ → Arrays → List Bool → List ℕ → Type 0
+Handed e tick task demand tasks separations budgets offsets W released last took W′ released′ last′ =
     (p : Plan) (l : List Entry) (out₀ : List ℕ)
-    → Handing p l out₀ e tick task demand tasks separations budgets offsets jobs released last owners key left n out
-    → Entered p l out₀ (e + 1) tick jobs′ released′ last′ owners′ key′ left′ n′ out′ × (r ≡ takes p l e)
+    → Handing p l out₀ e tick task demand tasks separations budgets offsets W released last
+    → Entered p l out₀ (e + 1) tick W′ released′ last′ × (took ≡ takes p l e)
 
 last-back : (o : Option ℕ) → lastOf (flagOf o) (tickOf o) ≡ o
 last-back none = refl
 last-back (some t) = refl
 
-module _ (p : Plan) (l : List Entry) (out₀ : List ℕ) (e tick task demand tasks : ℕ) (separations budgets offsets jobs : List ℕ)
-    (released : List Bool) (last owners key left : List ℕ) (n : ℕ) (out : List ℕ)
-    (H : Handing p l out₀ e tick task demand tasks separations budgets offsets jobs released last owners key left n out) where
+module _ {p : Plan} {l : List Entry} {out₀ : List ℕ} {e tick task demand tasks : ℕ} {separations budgets offsets : List ℕ} {W : Arrays}
+    {released : List Bool} {last : List ℕ} (H : Handing p l out₀ e tick task demand tasks separations budgets offsets W released last) where
   abbrev s : TaskSet
   s = contentOf p .tasks
 
   abbrev M : Machine
-  M = machineAt p l out₀ e jobs released last owners key left n out (H .at) (H .less)
+  M = machineAt (H .at) (H .less)
 
-  pub hand-room : 8 * e + 8 ≤ length out
+  pub hand-room : 8 * e + 8 ≤ length (W .out)
   hand-room = omega (arith, H .less, H .at .fitting .room, H .at .running .book .long)
 
   pub hand-small : e < 65536
@@ -95,21 +95,10 @@ module _ (p : Plan) (l : List Entry) (out₀ : List ℕ) (e tick task demand tas
     hand-low = omega (arith, H .columns .tasks-are, in-count p, plan-limits p (H .at .fitting .accepted) .tasks-high)
 
     now : tick ≡ M .clock
-    now = H .tick-is ∙ sym (machine-clock s (upTo p l out₀ e) ∙ clock-entry l e (H .at .onward))
-
-    pub hand-offset : row offsets task ≤ 100000
-    hand-offset =
-        let k : task < p .tasks = omega (arith, H .columns .tasks-are) in
-        let e : row offsets task ≡ s .task task .offset = H .columns .offsets-are task h ∙ sym (ap (λ (t : Task). t .offset) (in-task p task k)) in
-        omega (
-          arith,
-          e,
-          plan-limits p (H .at .fitting .accepted) .offset-high task (omega (arith, in-count p)),
-          plan-limits p (H .at .fitting .accepted) .separation-high task (omega (arith, in-count p)),
-        )
+    now = H .tick-is ∙ sym (machine-clock s (upTo l e) ∙ clock-entry l e (H .at .onward))
 
     -- as many jobs as owners
-    count-here : row jobs task ≡ length (M .lane task .queue)
+    count-here : row (W .jobs) task ≡ length (M .lane task .queue)
     count-here =
         rw (H .at .running .counts-are)
         (count-at (H .at .owned-by) task hand-low
@@ -117,7 +106,7 @@ module _ (p : Plan) (l : List Entry) (out₀ : List ℕ) (e tick task demand tas
         (H .at .running .book .owned task (omega (arith, H .columns .tasks-are, in-count p))))
 
     pub answer-rest :
-        outcomeOf (admission (row separations task) (row budgets task) tick demand (row jobs task) (getD released task false) (row last task))
+        outcomeOf (admission (row separations task) (row budgets task) tick demand (row (W .jobs) task) (getD released task false) (row last task))
         ≡ answerOf s M (loopAt l e) (demandAt l e)
     unfolding admission answerOf admitTests
     answer-rest =
@@ -138,55 +127,53 @@ module _ (p : Plan) (l : List Entry) (out₀ : List ℕ) (e tick task demand tas
         )
 
     pub hand-answer :
-        (a : Answer)
-        → a ≡ admission (row separations task) (row budgets task) tick demand (row jobs task) (getD released task false) (row last task)
+        {a : Answer}
+        → a ≡ admission (row separations task) (row budgets task) tick demand (row (W .jobs) task) (getD released task false) (row last task)
         → outcomeOf a ≡ answerOf s M (loopAt l e) (demandAt l e)
-    hand-answer a q = ap outcomeOf q ∙ answer-rest
+    hand-answer q = ap outcomeOf q ∙ answer-rest
 
   pub hand-refused :
-      (m : ℕ) (out′ : List ℕ) → answerOf s M (loopAt l e) (demandAt l e) ≡ refused m → out′ ≡ sets out (8 * e) (reportBytes (refusal m))
-      → Entered p l out₀ (e + 1) tick jobs released last owners key left n out′ × (0 ≡ takes p l e)
-  hand-refused m out′ met q = (
-    rw (add-one e, q, H .tick-is)
-        (refused-entered p l out₀ e jobs released last owners key left n out (H .at) (H .less) m met),
-    rw (outcome-is p l out₀ e jobs released last owners key left n out (H .at) (H .less), met),
+      {m : ℕ} {out′ : List ℕ} → answerOf s M (loopAt l e) (demandAt l e) ≡ refused m → out′ ≡ sets (W .out) (8 * e) (reportBytes (refusal m))
+      → Entered p l out₀ (e + 1) tick (arrays (W .jobs) (W .owners) (W .key) (W .left) (W .heads) out′) released last × (0 ≡ takes p l e)
+  hand-refused met q = (
+    rw (add-one e, q, H .tick-is) (refused-entered (H .at) (H .less) met),
+    rw (outcome-is (H .at) (H .less), met),
   )
+
+  -- the arrays with the job added, and these heads
+  abbrev withJob : List ℕ → List ℕ → ℕ → Arrays
+  withJob key′ left′ n′ =
+      arrays (set (W .jobs) task (row (W .jobs) task + 1)) (set (W .owners) (16 * task + row (W .jobs) task) e) key′ left′ n′ (W .out)
 
   module _ (free : answerOf s M (loopAt l e) (demandAt l e) ≡ taken) where
     took : 1 ≡ takes p l e
-    took = rw (outcome-is p l out₀ e jobs released last owners key left n out (H .at) (H .less), free)
+    took = rw (outcome-is (H .at) (H .less), free)
 
     -- the job stands behind others of its loop
     pub hand-behind :
-        row jobs task ≢ 0
-        → Entered p l out₀ (e + 1) tick (set jobs task (row jobs task + 1)) (set released task true) (set last task tick)
-        (set owners (16 * task + row jobs task) e) key left n out
-        × (1 ≡ takes p l e)
+        row (W .jobs) task ≢ 0
+        → Entered p l out₀ (e + 1) tick (withJob (W .key) (W .left) (W .heads)) (set released task true) (set last task tick) × (1 ≡ takes p l e)
     hand-behind ne = (
-      rw (add-one e, H .tick-is, H .task-is)
-          (taken-behind p l out₀ e jobs released last owners key left n out (H .at) (H .less) free (λ z. ne (ap (row jobs) (H .task-is) ∙ z))),
+      rw (add-one e, H .tick-is, H .task-is) (taken-behind (H .at) (H .less) free (λ z. ne (ap (row (W .jobs)) (H .task-is) ∙ z))),
       took,
     )
 
-    module _ (empty : row jobs task ≡ 0) where
-      empty-here : row jobs (loopAt l e) ≡ 0
-      empty-here = ap (row jobs) (sym (H .task-is)) ∙ empty
+    module _ (empty : row (W .jobs) task ≡ 0) where
+      empty-here : row (W .jobs) (loopAt l e) ≡ 0
+      empty-here = ap (row (W .jobs)) (sym (H .task-is)) ∙ empty
 
-      pub hand-place : n < 16
-      hand-place = taken-place p l out₀ e jobs released last owners key left n out (H .at) (H .less) free empty-here
+      pub hand-place : W .heads < 16
+      hand-place = taken-place (H .at) (H .less) free empty-here
 
-      pub hand-rises : (a b : ℕ) → a < b → b < n → row key a < row key b
-      hand-rises = taken-rises p l out₀ e jobs released last owners key left n out (H .at) (H .less) free empty-here
+      pub hand-rises : (a b : ℕ) → a < b → b < W .heads → row (W .key) a < row (W .key) b
+      hand-rises = taken-rises (H .at) (H .less) free empty-here
 
       -- it is its loop's head
       pub hand-first :
-          (key′ left′ : List ℕ) → task < tasks → Inserted key left n (16 * (tick + row offsets task) + task) demand key′ left′
-          → Entered p l out₀ (e + 1) tick (set jobs task (row jobs task + 1)) (set released task true) (set last task tick)
-          (set owners (16 * task + row jobs task) e) key′ left′ (n + 1) out
-          × (1 ≡ takes p l e)
-      hand-first key′ left′ h I = (
-        rw (add-one e, H .tick-is, H .task-is)
-            (taken-first p l out₀ e jobs released last owners key left n out (H .at) (H .less) free empty-here key′ left′ I′),
+          {key′ left′ : List ℕ} → task < tasks → Inserted (W .key) (W .left) (W .heads) (headKey tick (row offsets task) task) demand key′ left′
+          → Entered p l out₀ (e + 1) tick (withJob key′ left′ (W .heads + 1)) (set released task true) (set last task tick) × (1 ≡ takes p l e)
+      hand-first {key′} {left′} h I = (
+        rw (add-one e, H .tick-is, H .task-is) (taken-first (H .at) (H .less) free empty-here I′),
         took,
       )
         where
@@ -195,10 +182,10 @@ module _ (p : Plan) (l : List Entry) (out₀ : List ℕ) (e tick task demand tas
               let k : task < p .tasks = omega (arith, H .columns .tasks-are) in
               H .columns .offsets-are task h ∙ sym (ap (λ (t : Task). t .offset) (in-task p task k)) ∙ ap (λ (i : ℕ). s .task i .offset) (H .task-is)
 
-          same : 16 * (tick + row offsets task) + task ≡ 16 * (tickAt l e + s .task (loopAt l e) .offset) + loopAt l e
-          same = omega (arith, H .tick-is, H .task-is, offset)
+          same : headKey tick (row offsets task) task ≡ headKey (tickAt l e) (s .task (loopAt l e) .offset) (loopAt l e)
+          same = rw (offset, H .tick-is, H .task-is)
 
-          I′ : Inserted key left n (16 * (tickAt l e + s .task (loopAt l e) .offset) + loopAt l e) (demandAt l e) key′ left′
+          I′ : Inserted (W .key) (W .left) (W .heads) (headKey (tickAt l e) (s .task (loopAt l e) .offset) (loopAt l e)) (demandAt l e) key′ left′
           I′ =
-              subst (λ v. Inserted key left n v (demandAt l e) key′ left′) same
-              (subst (λ w. Inserted key left n (16 * (tick + row offsets task) + task) w key′ left′) (H .demand-is) I)
+              subst (λ v. Inserted (W .key) (W .left) (W .heads) v (demandAt l e) key′ left′) same
+              (subst (λ w. Inserted (W .key) (W .left) (W .heads) (headKey tick (row offsets task) task) w key′ left′) (H .demand-is) I)

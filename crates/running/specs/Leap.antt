@@ -26,7 +26,7 @@ use Rattle.history.specs.Log.{Entry, wait}
 use Rattle.history.specs.OnMachine.{machineEngine}
 use Rattle.logs.specs.LogBytes.{entriesIn}
 use Rattle.heads.specs.Order.{Heads}
-use Rattle.running.specs.Running.{ownersIn, countsIn, Book, Running}
+use Rattle.running.specs.Running.{Arrays, ownersIn, countsIn, Book, Running}
 use Rattle.running.specs.BookLaws.{ended, ownersNow, Stage}
 
 pub record Standing : Type 0 where
@@ -48,9 +48,8 @@ later x k O =
       owners = O;
     }
 
-abbrev pub Stands : Standing → List ℕ → List ℕ → List ℕ → List ℕ → ℕ → List ℕ → Type 0
-Stands x jobs owners key left n out =
-    Running (x .plan) (x .log) (x .lent) (x .entered) (x .made) (x .owners) jobs owners key left n out
+abbrev pub Stands : Standing → Arrays → Type 0
+Stands x W = Running (x .plan) (x .log) (x .lent) (x .entered) (x .made) (x .owners) W
 
 pub record Frame (x : Standing) (bytes : List ℕ) (cores : ℕ) (offsets : List ℕ) : Type 0 where
   pub accepted : testPlan (x .plan) ≡ Accepted
@@ -62,29 +61,28 @@ pub record Frame (x : Standing) (bytes : List ℕ) (cores : ℕ) (offsets : List
   pub in-log : x .entered ≤ length (x .log)
   pub room : 8 * x .entered ≤ length (x .lent)
 
-pub record Ready (x : Standing) (bytes : List ℕ) (cores : ℕ) (offsets : List ℕ) (clock to : ℕ) (jobs owners key left : List ℕ) (n : ℕ)
-    (out : List ℕ) : Type 0 where
+pub record Ready (x : Standing) (bytes : List ℕ) (cores : ℕ) (offsets : List ℕ) (clock to : ℕ) (W : Arrays) : Type 0 where
   pub frame : Frame x bytes cores offsets
   pub clock-is : clock ≡ history.clock (x .made)
   pub limit : to ≤ 4000000000
-  pub stands : Stands x jobs owners key left n out
+  pub stands : Stands x W
 
-pub record Reaches (x : Standing) (k : ℕ) (jobs owners key left : List ℕ) (n : ℕ) (out : List ℕ) : Type 0 where
+pub record Reaches (x : Standing) (k : ℕ) (W : Arrays) : Type 0 where
   pub owned-by : ℕ → List ℕ
-  pub stands : Stands (later x k owned-by) jobs owners key left n out
+  pub stands : Stands (later x k owned-by) W
 
-pub record Turning (x : Standing) (g : List Call) (gone : ℕ → Bool) (now : ℕ) (jobs owners key left : List ℕ) (n : ℕ) (out : List ℕ) : Type 0 where
+pub record Turning (x : Standing) (g : List Call) (gone : ℕ → Bool) (now : ℕ) (W : Arrays) : Type 0 where
   -- the book before that tick
   pub answered : List ℕ
   pub before : Book (x .plan) (x .log) (x .lent) (x .entered) g (x .owners) answered
   pub now-is : now ≡ suc (history.clock g)
   pub limit : now ≤ 4000000000
-  pub counts-are : jobs ≡ countsIn (ownersNow (x .plan) (x .log) (x .lent) (x .owners) gone)
-  pub owners-are : owners ≡ ownersIn (ownersNow (x .plan) (x .log) (x .lent) (x .owners) gone)
+  pub counts-are : W .jobs ≡ countsIn (ownersNow (x .owners) gone)
+  pub owners-are : W .owners ≡ ownersIn (ownersNow (x .owners) gone)
   pub heads-are :
       Heads (contentOf (x .plan) .tasks) (state (machineEngine (contentOf (x .plan) .tasks)) (step ∷ g))
-      (λ j. ended (x .plan) (x .log) (x .lent) g j && not (gone j)) key left n
-  pub stage : Stage (x .plan) (x .log) (x .lent) (x .entered) g (x .owners) gone out
+      (λ j. ended (contentOf (x .plan) .tasks) g j && not (gone j)) (W .key) (W .left) (W .heads)
+  pub stage : Stage (x .plan) (x .log) (x .lent) (x .entered) g (x .owners) gone (W .out)
 
 -- ---- what the code gives
 
@@ -93,18 +91,14 @@ unfoldable pub pendingIn : List ℕ → ℕ
 pendingIn jobs = sum (row jobs) 16
 
 -- fewer are, unless the clock has come to `to`: a leap that stops before that finishes a job
-abbrev pub Fewer : ℕ → ℕ → List ℕ → List ℕ → Type 0
-Fewer to now jobs jobs′ = pendingIn jobs′ + min 1 (to - now) ≤ pendingIn jobs
+abbrev pub Fewer : ℕ → ℕ → Arrays → Arrays → Type 0
+Fewer to now W W′ = pendingIn (W′ .jobs) + min 1 (to - now) ≤ pendingIn (W .jobs)
 
-pub record Leapt (bytes : List ℕ) (cores : ℕ) (offsets : List ℕ) (clock to : ℕ) (jobs owners key left : List ℕ) (n : ℕ) (out : List ℕ)
-    (now : ℕ) (jobs′ owners′ key′ left′ : List ℕ) (n′ : ℕ) (out′ : List ℕ) : Type 0 where
+abbrev pub Advanced : List ℕ → ℕ → List ℕ → ℕ → ℕ → Arrays → ℕ → Arrays → Type 0
+Advanced bytes cores offsets clock to W now W′ = (x : Standing) → Ready x bytes cores offsets clock to W → Reaches x (now - clock) W′
+
+pub record Leapt (bytes : List ℕ) (cores : ℕ) (offsets : List ℕ) (clock to : ℕ) (W : Arrays) (now : ℕ) (W′ : Arrays) : Type 0 where
   pub onward : clock < now
   pub within : now ≤ to
-  pub fewer : Fewer to now jobs jobs′
-  pub reaches :
-      (x : Standing) → Ready x bytes cores offsets clock to jobs owners key left n out → Reaches x (now - clock) jobs′ owners′ key′ left′ n′ out′
-
-abbrev pub Advanced :
-    List ℕ → ℕ → List ℕ → ℕ → ℕ → List ℕ → List ℕ → List ℕ → List ℕ → ℕ → List ℕ → ℕ → List ℕ → List ℕ → List ℕ → List ℕ → ℕ → List ℕ → Type 0
-Advanced bytes cores offsets clock to jobs owners key left n out now jobs′ owners′ key′ left′ n′ out′ =
-    (x : Standing) → Ready x bytes cores offsets clock to jobs owners key left n out → Reaches x (now - clock) jobs′ owners′ key′ left′ n′ out′
+  pub fewer : Fewer to now W W′
+  pub reaches : Advanced bytes cores offsets clock to W now W′

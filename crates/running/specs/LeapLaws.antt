@@ -5,7 +5,7 @@
 --     goneTo                       the loops of the first places of a list
 --     done-ended, done-new, all-gone      the loops that were taken out are those that finish, each once
 --     turning-end                  all of them noted, the leap is made
-use Prim.Native.Nat.{ℕ, zero, suc, pred, _+_, _-_, _%_, _≤_, _<_, min}
+use Prim.Native.Nat.{ℕ, zero, suc, pred, _+_, _-_, _≤_, _<_, min}
 use mathlib.Core.Bool.{Bool, true, false, cond, not, _&&_, _||_, true≢false, false≢true, and-true, or-true, and-eq-true-iff}
 use mathlib.Core.Path.{_≡_, refl, sym, ap, subst, fun-ext, _∙_}
 use mathlib.Core.Logic.{_≢_, _⊎_, ⊎-elim}
@@ -28,12 +28,13 @@ use Rattle.history.specs.Log.{wait}
 use Rattle.history.specs.OnMachine.{machineEngine}
 use Rattle.history.specs.Balance.{reached}
 use Rattle.history.specs.Owners.{finishing}
-use Rattle.heads.specs.Order.{keyOf, headWork, Heads, lowest, workAfter, Settles, Finishes}
-use Rattle.heads.specs.OrderLaws.{key-loop, loop-at, runs-place}
+use Rattle.choice.specs.Key.{keyOf}
+use Rattle.heads.specs.Order.{headWork, Heads, lowest, workAfter, Settles, Finishes}
+use Rattle.heads.specs.OrderLaws.{loopIn, loop-at, owns-key, runs-place}
 use Rattle.heads.specs.HeadLaws.{Ticks, over, settled, after-here, over-here}
 use Rattle.running.specs.Lower.{lowerHead, lowered}
 use Rattle.running.specs.LowerLaws.{MoreThan, lowered-runs, wait-lowered}
-use Rattle.running.specs.Running.{Book}
+use Rattle.running.specs.Running.{Arrays, arrays, Book}
 use Rattle.running.specs.WaitLaws.{waits-known}
 use Rattle.running.specs.BookLaws.{book-wait, ended, ownersNow, stage-none, book-tick}
 use Rattle.running.specs.Leap.{Standing, Ready, Reaches, Turning}
@@ -84,8 +85,16 @@ in-gone done (suc a) b l =
     (λ (m : b < a). rw (in-gone done a b m))
     (eq-or-lt-of-le (le-of-suc-le-suc l))
 
-module _ (x : Standing) (bytes : List ℕ) (cores : ℕ) (offsets : List ℕ) (clock to : ℕ) (jobs owners key left : List ℕ) (n : ℕ) (out : List ℕ)
-    (R : Ready x bytes cores offsets clock to jobs owners key left n out) where
+module _ {x : Standing} {bytes : List ℕ} {cores : ℕ} {offsets : List ℕ} {clock to : ℕ} {W : Arrays} (R : Ready x bytes cores offsets clock to W) where
+  abbrev key : List ℕ
+  key = W .key
+
+  abbrev left : List ℕ
+  left = W .left
+
+  abbrev n : ℕ
+  n = W .heads
+
   abbrev p : Plan
   p = x .plan
 
@@ -110,6 +119,9 @@ module _ (x : Standing) (bytes : List ℕ) (cores : ℕ) (offsets : List ℕ) (c
   pub ready-waits : (i : ℕ) → waiting M i ≡ true → i < s .count
   ready-waits = waits-known s h
 
+  waits-low : (i : ℕ) → waiting M i ≡ true → i < 16
+  waits-low i w = omega (arith, ready-waits i w, few)
+
   pub ready-busy : (i : ℕ) → waiting M i ≡ true → 1 ≤ headWork (M .lane i .queue)
   unfolding waiting
   ready-busy i w = go (M .lane i .queue) refl
@@ -121,7 +133,7 @@ module _ (x : Standing) (bytes : List ℕ) (cores : ℕ) (offsets : List ℕ) (c
   place-busy : (a : ℕ) → a < n → 1 ≤ row left a
   place-busy a l = let y = A .sound a l in rw (y .1 .work-is) (ready-busy (y .0) (y .1 .waits))
 
-  module _ (less : clock < to) (r d : ℕ) (r-is : r ≡ min cores n) (d-is : d ≡ lowest left (to - clock) r) where
+  module _ (less : clock < to) {r d : ℕ} (r-is : r ≡ min cores (W .heads)) (d-is : d ≡ lowest (W .left) (to - clock) r) where
     pub leap-ticks : (1 ≤ d) × (clock + d ≤ to)
     leap-ticks = (
       rw d-is (lowest-some left (to - clock) r (omega arith) (λ a l. place-busy a (omega arith))),
@@ -130,15 +142,13 @@ module _ (x : Standing) (bytes : List ℕ) (cores : ℕ) (offsets : List ℕ) (c
 
     enough : (i : ℕ) → runs s M i ≡ true → d ≤ headWork (M .lane i .queue)
     enough i q =
-        let y = runs-place s M key left n few ready-waits A i q in
+        let y = runs-place few ready-waits A i q in
         let z = A .sound (y .0) (y .1) in
-        let e : z .0 ≡ i =
-        sym (loop-at s M key left n few ready-waits A (y .0) (y .1))
-        ∙ key-loop s M key left n few ready-waits A (row key (y .0)) i (y .3) (omega (arith, earliest s M .heads i q .0, few)) in
+        let e : z .0 ≡ i = owns-key waits-low A (y .0) i (y .1) (omega (arith, earliest s M .heads i q .0, few)) (y .3) in
         rw (d-is, sym e, sym (z .1 .work-is))
         (lowest-at left (to - clock) r (y .0) (omega (arith, y .1, y .2, in-cores p, R .frame .cores-are)))
 
-    module _ (k : ℕ) (d-next : d ≡ suc k) where
+    module _ {k : ℕ} (d-next : d ≡ suc k) where
       more : MoreThan s M k
       more i q = omega (arith, enough i q)
 
@@ -177,7 +187,7 @@ module _ (x : Standing) (bytes : List ℕ) (cores : ℕ) (offsets : List ℕ) (c
           last : (w : ℕ) → pred (w - k) ≡ w - d
           last w = omega arith
 
-      over-ended : (i : ℕ) → ended p (x .log) (x .lent) g i ≡ over s M d i
+      over-ended : (i : ℕ) → ended s g i ≡ over s M d i
       unfolding ended over
       over-ended i = rw (runs-there i, queue-there i) (go (runs s M i) refl (M .lane i .queue) refl)
         where
@@ -195,15 +205,15 @@ module _ (x : Standing) (bytes : List ℕ) (cores : ℕ) (offsets : List ℕ) (c
                   far l ne = ⊎-elim (λ (y : d ≡ w). absurd (ne (sym y))) (λ (y : d < w). omega arith) (eq-or-lt-of-le l)
           go false r q z = rw r
 
-      module _ (key′ left′ : List ℕ) (c : ℕ) (S : Settles key left n cores d key′ left′ c) where
+      module _ {key′ left′ : List ℕ} {c : ℕ} (S : Settles (W .key) (W .left) (W .heads) cores d key′ left′ c) where
         settles : Settles key left n (s .cores) d key′ left′ c
         settles = subst (λ m. Settles key left n m d key′ left′ c) (R .frame .cores-are ∙ sym (in-cores p)) S
 
         -- before anybody is noted
-        pub turning-none : (now : ℕ) → now ≡ clock + d → Turning x g (λ i. false) now jobs owners key′ left′ c out
+        pub turning-none : (now : ℕ) → now ≡ clock + d → Turning x g (λ i. false) now (arrays (W .jobs) (W .owners) key′ left′ c (W .out))
         turning-none now e =
             record {
-              answered = out;
+              answered = W .out;
               before = kept;
               now-is = omega (arith, R .clock-is, clock-wait k h);
               limit = omega (arith, leap-ticks .1, R .limit);
@@ -211,25 +221,25 @@ module _ (x : Standing) (bytes : List ℕ) (cores : ℕ) (offsets : List ℕ) (c
               owners-are = R .stands .owners-are;
               heads-are =
                   subst (λ f. Heads s N f key′ left′ c)
-                  (fun-ext (λ j. sym (and-true (ended p (x .log) (x .lent) g j) ∙ over-ended j)))
-                  (settled s M N d leap-makes key left n few ready-waits ready-busy A key′ left′ c settles);
-              stage = stage-none p (x .log) (x .lent) (x .entered) g (x .owners) out (R .frame .room) kept;
+                  (fun-ext (λ j. sym (and-true (ended s g j) ∙ over-ended j)))
+                  (settled leap-makes few ready-waits ready-busy A settles);
+              stage = stage-none (R .frame .room) kept;
             }
           where
-            kept : Book p (x .log) (x .lent) (x .entered) g (x .owners) out
-            kept = book-wait p (x .log) (x .lent) (x .entered) h (x .owners) out k more (R .stands .book)
+            kept : Book p (x .log) (x .lent) (x .entered) g (x .owners) (W .out)
+            kept = book-wait k more (R .stands .book)
 
-        module _ (done : List ℕ) (f : ℕ) (D : Finishes key left n cores d done f) where
+        module _ {done : List ℕ} {f : ℕ} (D : Finishes (W .key) (W .left) (W .heads) cores d done f) where
           finishes : Finishes key left n (s .cores) d done f
           finishes = subst (λ m. Finishes key left n m d done f) (R .frame .cores-are ∙ sym (in-cores p)) D
 
           abbrev isOver : ℕ → Bool
-          isOver = ended p (x .log) (x .lent) g
+          isOver = ended s g
 
           -- the loop of a place that was taken out
           done-loop : (a : ℕ) → (l : a < f) → row done a ≡ A .sound (finishes .source a) (finishes .source-low a l) .0
           done-loop a l =
-              finishes .loops a l ∙ loop-at s M key left n few ready-waits A (finishes .source a) (finishes .source-low a l)
+              finishes .loops a l ∙ loop-at waits-low A (finishes .source a) (finishes .source-low a l)
 
           pub done-ended : (a : ℕ) → a < f → isOver (row done a) ≡ true
           done-ended a l = go (over s M d (A .sound b u .0)) refl
@@ -244,7 +254,7 @@ module _ (x : Standing) (bytes : List ℕ) (cores : ℕ) (offsets : List ℕ) (c
               go true q = ap isOver (done-loop a l) ∙ over-ended (A .sound b u .0) ∙ q
               go false q =
                   absurd
-                  (omega (arith, over-here s M N d leap-makes key left n few ready-waits ready-busy A key′ left′ c settles b u false q, finishes .none-left a l))
+                  (omega (arith, over-here leap-makes few ready-waits ready-busy A settles b u false q, finishes .none-left a l))
 
           -- two places have different loops
           apart : (a b : ℕ) → a < b → b < f → row done a ≢ row done b
@@ -273,17 +283,15 @@ module _ (x : Standing) (bytes : List ℕ) (cores : ℕ) (offsets : List ℕ) (c
           unfolding over
           over-gone j o =
               let both = and-eq-true-iff (runs s M j) (eqb (headWork (M .lane j .queue)) d) .0 o in
-              let r = runs-place s M key left n few ready-waits A j (both .0) in
-              let e : A .sound (r .0) (r .1) .0 ≡ j =
-              sym (loop-at s M key left n few ready-waits A (r .0) (r .1))
-              ∙ key-loop s M key left n few ready-waits A (row key (r .0)) j (r .3) (omega (arith, earliest s M .heads j (both .0) .0, few)) in
+              let r = runs-place few ready-waits A j (both .0) in
+              let low : j < 16 = omega (arith, earliest s M .heads j (both .0) .0, few) in
+              let e : A .sound (r .0) (r .1) .0 ≡ j = owns-key waits-low A (r .0) j (r .1) low (r .3) in
               let w : workAfter left (s .cores) d (r .0) ≡ 0 =
-              after-here s M N d leap-makes key left n few ready-waits ready-busy A key′ left′ c settles (r .0) (r .1)
+              after-here leap-makes few ready-waits ready-busy A settles (r .0) (r .1)
               ∙ rw (e, both .0) (omega (arith, eqb-true (headWork (M .lane j .queue)) d (both .1))) in
               let q = finishes .all (r .0) (r .1) w in
               let same : row done (q .0) ≡ j =
-              finishes .loops (q .0) (q .1) ∙ ap (λ (b : ℕ). row key b % 16) (q .2)
-              ∙ key-loop s M key left n few ready-waits A (row key (r .0)) j (r .3) (omega (arith, earliest s M .heads j (both .0) .0, few)) in
+              finishes .loops (q .0) (q .1) ∙ ap (loopIn key) (q .2) ∙ loop-at waits-low A (r .0) (r .1) ∙ e in
               rw (sym same) (in-gone done f (q .0) (q .1))
 
           pub all-gone : (j : ℕ) → goneTo done f j ≡ isOver j
@@ -297,20 +305,18 @@ module _ (x : Standing) (bytes : List ℕ) (cores : ℕ) (offsets : List ℕ) (c
               go false q false w = q ∙ sym w
 
           pub turning-end :
-              (now : ℕ) (jobs′ owners′ key″ left″ : List ℕ) (n″ : ℕ) (out″ : List ℕ)
-              → Turning x g (goneTo done f) now jobs′ owners′ key″ left″ n″ out″ → Reaches x d jobs′ owners′ key″ left″ n″ out″
-          turning-end now jobs′ owners′ key″ left″ n″ out″ X =
+              {now : ℕ} {W′ : Arrays} → Turning x g (goneTo done f) now W′ → Reaches x d W′
+          turning-end {W′ = W′} X =
               rw d-next
               (record {
-                owned-by = ownersNow p (x .log) (x .lent) (x .owners) (goneTo done f);
+                owned-by = ownersNow (x .owners) (goneTo done f);
                 stands =
                     record {
                       counts-are = X .counts-are;
                       owners-are = X .owners-are;
-                      heads-are = subst (λ q. Heads s N q key″ left″ n″) (fun-ext (λ j. rw (all-gone j) (nobody (isOver j)))) (X .heads-are);
+                      heads-are = subst (λ q. Heads s N q (W′ .key) (W′ .left) (W′ .heads)) (fun-ext (λ j. rw (all-gone j) (nobody (isOver j)))) (X .heads-are);
                       book =
-                          book-tick p (x .log) (x .lent) (x .entered) g (x .owners) (X .answered) (R .frame .room) (X .before) (goneTo done f) out″
-                          all-gone (X .stage);
+                          book-tick (R .frame .room) (X .before) all-gone (X .stage);
                     };
               })
             where

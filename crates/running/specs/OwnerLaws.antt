@@ -13,8 +13,8 @@ use lib.Dec.{eqb}
 use borrow.Author.Tests.{eqb-true, eqb-false, eq-eqb, ne-eqb}
 use Rattle.laws.specs.TabLaws.{length-tab, getD-tab, set-tab, tab-ext}
 use Rattle.tasks.specs.TaskSet.{row}
-use Rattle.state.specs.Serve.{moved}
-use Rattle.state.specs.MoveLaws.{movedRow, moved-row}
+use Rattle.service.specs.Serve.{moved}
+use Rattle.service.specs.MoveLaws.{movedRow, moved-row}
 use Rattle.state.specs.AllLaws.{by-place, loop-of, place-in}
 use Rattle.running.specs.Running.{ownersIn, countsIn}
 

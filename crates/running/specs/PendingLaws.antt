@@ -11,9 +11,7 @@ use lib.ListN.{length, drop}
 use lib.Dec.{ltb}
 use borrow.Author.Tests.{ltb-true, ltb-false, lt-ltb}
 use Rattle.laws.specs.SumLaws.{sum-mono, sum-less}
-use Rattle.tasks.specs.declared.Plan.{Plan}
 use Rattle.tasks.specs.TaskSet.{row}
-use Rattle.history.specs.Log.{Entry}
 use Rattle.heads.specs.Order.{lowest, workAfter}
 use Rattle.running.specs.Running.{countsIn}
 use Rattle.running.specs.OwnerLaws.{count-at, less-one}
@@ -24,24 +22,24 @@ no-more : (b : Bool) (l : List ℕ) → length (cond b (drop 1 l) l) ≤ length 
 no-more false l = omega arith
 no-more true l = omega (arith, less-one l)
 
-module _ (p : Plan) (l : List Entry) (out₀ : List ℕ) (O : ℕ → List ℕ) (gone : ℕ → Bool) where
-  each : (i : ℕ) → i < 16 → row (countsIn (ownersNow p l out₀ O gone)) i ≤ row (countsIn O) i
-  each i h = rw (count-at (ownersNow p l out₀ O gone) i h, count-at O i h) (no-more (gone i) (O i))
+module _ (O : ℕ → List ℕ) (gone : ℕ → Bool) where
+  each : (i : ℕ) → i < 16 → row (countsIn (ownersNow O gone)) i ≤ row (countsIn O) i
+  each i h = rw (count-at (ownersNow O gone) i h, count-at O i h) (no-more (gone i) (O i))
 
-  pub pending-kept : pendingIn (countsIn (ownersNow p l out₀ O gone)) ≤ pendingIn (countsIn O)
+  pub pending-kept : pendingIn (countsIn (ownersNow O gone)) ≤ pendingIn (countsIn O)
   unfolding pendingIn
-  pending-kept = sum-mono (row (countsIn (ownersNow p l out₀ O gone))) (row (countsIn O)) 16 each
+  pending-kept = sum-mono (row (countsIn (ownersNow O gone))) (row (countsIn O)) 16 each
 
   pub pending-less :
       (i : ℕ) → i < 16 → gone i ≡ true → 1 ≤ row (countsIn O) i
-      → pendingIn (countsIn (ownersNow p l out₀ O gone)) < pendingIn (countsIn O)
+      → pendingIn (countsIn (ownersNow O gone)) < pendingIn (countsIn O)
   unfolding pendingIn
-  pending-less i h g some = sum-less (row (countsIn (ownersNow p l out₀ O gone))) (row (countsIn O)) 16 each i h differs
+  pending-less i h g some = sum-less (row (countsIn (ownersNow O gone))) (row (countsIn O)) 16 each i h differs
     where
-      off : row (countsIn (ownersNow p l out₀ O gone)) i ≡ length (drop 1 (O i))
-      off = count-at (ownersNow p l out₀ O gone) i h ∙ rw g
+      off : row (countsIn (ownersNow O gone)) i ≡ length (drop 1 (O i))
+      off = count-at (ownersNow O gone) i h ∙ rw g
 
-      differs : row (countsIn (ownersNow p l out₀ O gone)) i ≡ row (countsIn O) i → ⊥
+      differs : row (countsIn (ownersNow O gone)) i ≡ row (countsIn O) i → ⊥
       differs q = omega (arith, q, off, count-at O i h, less-one (O i), some)
 
 pub lowest-stops : (left : List ℕ) (room k : ℕ) → lowest left room k < room → (b : ℕ) × (b < k) × (row left b ≡ lowest left room k)

@@ -24,9 +24,10 @@ use Rattle.tasks.specs.Content.{taskOf, contentOf}
 use Rattle.history.specs.Engine.{isTaken}
 use Rattle.history.specs.Log.{Entry, wait, calls, outcome}
 use Rattle.history.specs.Report.{report}
+use Rattle.history.specs.LogClock.{longest}
 use Rattle.history.specs.OnMachine.{machineEngine}
 use Rattle.logs.specs.LogBytes.{entriesIn, reportsTo}
-use Rattle.running.specs.Running.{Book}
+use Rattle.running.specs.Running.{Arrays, arrays, Book}
 use Rattle.running.specs.Leap.{Standing, Ready, Advanced}
 use Rattle.running.specs.Entered.{Fitting, Entered, standing, entered-clock, entered-ready}
 use Rattle.running.specs.EndLaws.{end-reports, entered-none}
@@ -42,12 +43,12 @@ module _ (p : Plan) where
   column f i h low = getD-tab (cut (p .tasks) f 0) 16 i 0 low ∙ cut-below (p .tasks) f 0 i h
 
   pub split-columns :
-      (separations budgets offsets : List ℕ) → p .tasks ≤ 16
+      {separations budgets offsets : List ℕ} → p .tasks ≤ 16
       → separations ≡ tab (cut (p .tasks) (λ i. taskOf (p .task) i .separation) 0) 16
       → budgets ≡ tab (cut (p .tasks) (λ i. taskOf (p .task) i .budget) 0) 16
       → offsets ≡ tab (cut (p .tasks) (λ i. taskOf (p .task) i .offset) 0) 16
       → Columns p (p .tasks) separations budgets offsets
-  split-columns separations budgets offsets few a b c =
+  split-columns few a b c =
       record {
         tasks-are = refl;
         separations-are = λ i h. rw a (column (λ i. taskOf (p .task) i .separation) i h (omega arith));
@@ -63,9 +64,9 @@ module _ (p : Plan) (l : List Entry) where
   unfolding takenTo count sum
   taken-none = refl
 
-  pub taken-more : (e a b : ℕ) → a ≡ takenTo e → b ≡ takes p l e → a + b ≡ takenTo (e + 1)
+  pub taken-more : (e : ℕ) {a b : ℕ} → a ≡ takenTo e → b ≡ takes p l e → a + b ≡ takenTo (e + 1)
   unfolding takenTo count sum
-  taken-more e a b q r = rw (q, r, add-one e)
+  taken-more e q r = rw (q, r, add-one e)
 
   pub taken-few : (e : ℕ) → takenTo e ≤ e
   unfolding takenTo count sum
@@ -76,75 +77,63 @@ module _ (p : Plan) (l : List Entry) where
       one true = omega arith
       one false = omega arith
 
-module _ (p : Plan) (out₀ log : List ℕ) (e clock : ℕ) (separations budgets offsets jobs : List ℕ) (released : List Bool)
-    (last owners key left : List ℕ) (n : ℕ) (out : List ℕ)
-    (X : Entered p (entriesIn log) out₀ e clock jobs released last owners key left n out) (C : Columns p (p .tasks) separations budgets offsets)
+module _ {p : Plan} {out₀ : List ℕ} (log : List ℕ) {e clock : ℕ} {separations budgets offsets : List ℕ} {W : Arrays} {released : List Bool} {last : List ℕ}
+    (X : Entered p (entriesIn log) out₀ e clock W released last) (C : Columns p (p .tasks) separations budgets offsets)
     (long : length log ≡ 2 + 9 * length (entriesIn log)) (all : e ≡ length (entriesIn log)) where
   abbrev l : List Entry
   l = entriesIn log
 
   pub run-clock : clock ≤ 1000000000
-  run-clock = entered-clock p l out₀ e clock jobs released last owners key left n out X (omega arith)
+  run-clock = entered-clock X (omega arith)
 
-  ready :
-      (to : ℕ) → to ≤ 4000000000
-      → Ready (standing p l out₀ e clock jobs released last owners key left n out X) log (p .cores) offsets clock to jobs owners key left n out
-  ready to far =
-      entered-ready p l out₀ e clock jobs released last owners key left n out X log offsets to refl long (C .offsets-are) (omega arith) far
+  ready : (to : ℕ) → to ≤ 4000000000 → Ready (standing X) log (p .cores) offsets clock to W
+  ready to far = entered-ready X refl long (C .offsets-are) (omega arith) far
 
-  pub run-ready : (x : Standing) × Ready x log (p .cores) offsets clock (clock + 1600000) jobs owners key left n out
-  run-ready =
-      (standing p l out₀ e clock jobs released last owners key left n out X, ready (clock + 1600000) (omega (arith, run-clock)))
+  pub run-ready : (x : Standing) × Ready x log (p .cores) offsets clock (clock + 1600000) W
+  run-ready = (standing X, ready (clock + 1600000) (omega (arith, run-clock)))
 
   pub run-end :
-      (jobs′ owners′ key′ left′ : List ℕ) (n′ : ℕ) (out′ : List ℕ)
-      → Advanced log (p .cores) offsets clock (clock + 1600000) jobs owners key left n out (clock + 1600000) jobs′ owners′ key′ left′ n′ out′
-      → out′ ≡ reportsTo (report (machineEngine (contentOf p .tasks)) l) (length l) out₀
-  run-end jobs′ owners′ key′ left′ n′ out′ A = go (clock + 1600000) (omega arith) (omega (arith, run-clock)) A
+      {W′ : Arrays} → Advanced log (p .cores) offsets clock (clock + 1600000) W (clock + 1600000) W′
+      → W′ .out ≡ reportsTo (report (machineEngine (contentOf p .tasks)) l) (length l) out₀
+  run-end {W′} A = go (clock + 1600000) (omega arith) (omega (arith, run-clock)) A
     where
       go :
-          (to : ℕ) → clock + 1600000 ≤ to → to ≤ 4000000000
-          → Advanced log (p .cores) offsets clock to jobs owners key left n out to jobs′ owners′ key′ left′ n′ out′
-          → out′ ≡ reportsTo (report (machineEngine (contentOf p .tasks)) l) (length l) out₀
-      go to far-on far B =
-          let R = B (standing p l out₀ e clock jobs released last owners key left n out X) (ready to far) in
-          said (R .owned-by) (R .stands .book)
+          (to : ℕ) → clock + 1600000 ≤ to → to ≤ 4000000000 → Advanced log (p .cores) offsets clock to W to W′
+          → W′ .out ≡ reportsTo (report (machineEngine (contentOf p .tasks)) l) (length l) out₀
+      go to far-on far B = let R = B (standing X) (ready to far) in said (R .owned-by) (R .stands .book)
         where
           said :
-              (O : ℕ → List ℕ) → Book p l out₀ e (wait (to - clock) (calls l e)) O out′
-              → out′ ≡ reportsTo (report (machineEngine (contentOf p .tasks)) l) (length l) out₀
+              (O : ℕ → List ℕ) → Book p l out₀ e (wait (to - clock) (calls l e)) O (W′ .out)
+              → W′ .out ≡ reportsTo (report (machineEngine (contentOf p .tasks)) l) (length l) out₀
           said O K =
-              end-reports p l out₀ (X .fitting) (to - clock) (omega arith) O out′
-              (subst (λ n. Book p l out₀ n (wait (to - clock) (calls l n)) O out′) all K)
+              let enough : longest ≤ to - clock = omega arith in
+              end-reports (X .fitting) enough (subst (λ n. Book p l out₀ n (wait (to - clock) (calls l n)) O (W′ .out)) all K)
 
 -- ---- all entries
 
-pub record Begun (p : Plan) (out₀ log : List ℕ) (m cores tasks : ℕ) (separations budgets offsets jobs : List ℕ)
-    (released : List Bool) (last owners key left : List ℕ) (n : ℕ) (out : List ℕ) : Type 0 where
-  pub entered : Entered p (entriesIn log) out₀ 0 0 jobs released last owners key left n out
+pub record Begun (p : Plan) (out₀ log : List ℕ) (m cores tasks : ℕ) (separations budgets offsets : List ℕ) (W : Arrays)
+    (released : List Bool) (last : List ℕ) : Type 0 where
+  pub entered : Entered p (entriesIn log) out₀ 0 0 W released last
   pub all : m ≡ length (entriesIn log)
   pub long : length log ≡ 2 + 9 * length (entriesIn log)
   pub cores-are : cores ≡ p .cores
   pub columns : Columns p tasks separations budgets offsets
 
 abbrev pub EntersTo :
-    List ℕ → ℕ → ℕ → ℕ → List ℕ → List ℕ → List ℕ → List ℕ → List Bool → List ℕ → List ℕ → List ℕ → List ℕ → ℕ → List ℕ → ℕ → ℕ → ℕ → List ℕ
-    → List Bool → List ℕ → List ℕ → List ℕ → List ℕ → ℕ → List ℕ → Type 0
-EntersTo log m cores tasks separations budgets offsets jobs released last owners key left n out e clock took jobs′ released′ last′ owners′ key′ left′ n′ out′ =
-    (p : Plan) (out₀ : List ℕ) → Begun p out₀ log m cores tasks separations budgets offsets jobs released last owners key left n out
-    → Entered p (entriesIn log) out₀ e clock jobs′ released′ last′ owners′ key′ left′ n′ out′ × (took ≡ takenTo p (entriesIn log) e)
+    List ℕ → ℕ → ℕ → ℕ → List ℕ → List ℕ → List ℕ → Arrays → List Bool → List ℕ → ℕ → ℕ → ℕ → Arrays → List Bool → List ℕ → Type 0
+EntersTo log m cores tasks separations budgets offsets W released last e clock took W′ released′ last′ =
+    (p : Plan) (out₀ : List ℕ) → Begun p out₀ log m cores tasks separations budgets offsets W released last
+    → Entered p (entriesIn log) out₀ e clock W′ released′ last′ × (took ≡ takenTo p (entriesIn log) e)
 
-module _ (log : List ℕ) (m cores tasks : ℕ) (separations budgets offsets jobs : List ℕ) (released : List Bool) (last owners key left : List ℕ) (n : ℕ) (out : List ℕ) where
-  pub enters-none :
-      EntersTo log m cores tasks separations budgets offsets jobs released last owners key left n out 0 0 0 jobs released last owners key left n out
+module _ {log : List ℕ} {m cores tasks : ℕ} {separations budgets offsets : List ℕ} {W : Arrays} {released : List Bool} {last : List ℕ} where
+  pub enters-none : EntersTo log m cores tasks separations budgets offsets W released last 0 0 0 W released last
   enters-none p out₀ X = (X .entered, taken-none p (entriesIn log))
 
-  module _ (e clock took : ℕ) (jobs′ : List ℕ) (released′ : List Bool) (last′ owners′ key′ left′ : List ℕ) (n′ : ℕ) (out′ : List ℕ)
-      (S : EntersTo log m cores tasks separations budgets offsets jobs released last owners key left n out e clock took jobs′ released′ last′ owners′ key′ left′ n′ out′)
-      (h : e < m) where
+  module _ {e clock took : ℕ} {W′ : Arrays} {released′ : List Bool} {last′ : List ℕ}
+      (S : EntersTo log m cores tasks separations budgets offsets W released last e clock took W′ released′ last′) (h : e < m) where
     entering :
-        (p : Plan) (out₀ : List ℕ) → Begun p out₀ log m cores tasks separations budgets offsets jobs released last owners key left n out
-        → Entering p out₀ log e clock cores tasks separations budgets offsets jobs′ released′ last′ owners′ key′ left′ n′ out′
+        (p : Plan) (out₀ : List ℕ) → Begun p out₀ log m cores tasks separations budgets offsets W released last
+        → Entering p out₀ log e clock cores tasks separations budgets offsets W′ released′ last′
     entering p out₀ X =
         record {
           entered = S p out₀ X .0;
@@ -155,40 +144,34 @@ module _ (log : List ℕ) (m cores tasks : ℕ) (separations budgets offsets job
         }
 
     pub enters-ready :
-        ((p : Plan) × ((out₀ : List ℕ) × Begun p out₀ log m cores tasks separations budgets offsets jobs released last owners key left n out))
-        → ((p : Plan) × ((out₀ : List ℕ) × Entering p out₀ log e clock cores tasks separations budgets offsets jobs′ released′ last′ owners′ key′ left′ n′ out′))
+        ((p : Plan) × ((out₀ : List ℕ) × Begun p out₀ log m cores tasks separations budgets offsets W released last))
+        → ((p : Plan) × ((out₀ : List ℕ) × Entering p out₀ log e clock cores tasks separations budgets offsets W′ released′ last′))
     enters-ready P = (P .0, (P .1 .0, entering (P .0) (P .1 .0) (P .1 .1)))
 
-    pub enters-more :
-        (now one : ℕ) (jobs″ : List ℕ) (released″ : List Bool) (last″ owners″ key″ left″ : List ℕ) (n″ : ℕ) (out″ : List ℕ)
-        → Enters log e clock cores tasks separations budgets offsets jobs′ released′ last′ owners′ key′ left′ n′ out′ now one jobs″ released″ last″ owners″ key″ left″ n″ out″
-        → EntersTo log m cores tasks separations budgets offsets jobs released last owners key left n out (e + 1) now (took + one) jobs″ released″ last″ owners″ key″ left″ n″ out″
-    enters-more now one jobs″ released″ last″ owners″ key″ left″ n″ out″ T p out₀ X =
-        let t = T p out₀ (entering p out₀ X) in
-        (t .0, taken-more p (entriesIn log) e took one (S p out₀ X .1) (t .1))
+    module _ {now one : ℕ} {W″ : Arrays} {released″ : List Bool} {last″ : List ℕ}
+        (T : Enters log e clock cores tasks separations budgets offsets W′ released′ last′ now one W″ released″ last″) where
+      pub enters-more : EntersTo log m cores tasks separations budgets offsets W released last (e + 1) now (took + one) W″ released″ last″
+      enters-more p out₀ X =
+          let t = T p out₀ (entering p out₀ X) in
+          (t .0, taken-more p (entriesIn log) e (S p out₀ X .1) (t .1))
 
-    pub enters-few :
-        (now one : ℕ) (jobs″ : List ℕ) (released″ : List Bool) (last″ owners″ key″ left″ : List ℕ) (n″ : ℕ) (out″ : List ℕ)
-        → ((p : Plan) × ((out₀ : List ℕ) × Begun p out₀ log m cores tasks separations budgets offsets jobs released last owners key left n out))
-        → Enters log e clock cores tasks separations budgets offsets jobs′ released′ last′ owners′ key′ left′ n′ out′ now one jobs″ released″ last″ owners″ key″ left″ n″ out″
-        → took + one ≤ e + 1
-    enters-few now one jobs″ released″ last″ owners″ key″ left″ n″ out″ P T =
-        let t = enters-more now one jobs″ released″ last″ owners″ key″ left″ n″ out″ T (P .0) (P .1 .0) (P .1 .1) .1 in
-        rw t (taken-few (P .0) (entriesIn log) (e + 1))
+      pub enters-few :
+          ((p : Plan) × ((out₀ : List ℕ) × Begun p out₀ log m cores tasks separations budgets offsets W released last)) → took + one ≤ e + 1
+      enters-few P = let t = enters-more (P .0) (P .1 .0) (P .1 .1) .1 in rw t (taken-few (P .0) (entriesIn log) (e + 1))
 
 pub run-begun :
-    (p : Plan) (out log : List ℕ) (m : ℕ) (separations budgets offsets key left : List ℕ) → Fitting p (entriesIn log) out → m ≡ length (entriesIn log)
+    {p : Plan} {out log : List ℕ} {m : ℕ} {separations budgets offsets key left : List ℕ} → Fitting p (entriesIn log) out → m ≡ length (entriesIn log)
     → length log ≡ 2 + 9 * length (entriesIn log)
     → separations ≡ tab (cut (p .tasks) (λ i. taskOf (p .task) i .separation) 0) 16
     → budgets ≡ tab (cut (p .tasks) (λ i. taskOf (p .task) i .budget) 0) 16
     → offsets ≡ tab (cut (p .tasks) (λ i. taskOf (p .task) i .offset) 0) 16
-    → Begun p out log m (p .cores) (p .tasks) separations budgets offsets (replicate 16 0) (replicate 16 false) (replicate 16 0) (replicate 256 0)
-    key left 0 out
-run-begun p out log m separations budgets offsets key left F all long a b c =
+    → Begun p out log m (p .cores) (p .tasks) separations budgets offsets (arrays (replicate 16 0) (replicate 256 0) key left 0 out) (replicate 16 false)
+    (replicate 16 0)
+run-begun {p} F all long a b c =
     record {
-      entered = entered-none p (entriesIn log) out F key left;
+      entered = entered-none F;
       all = all;
       long = long;
       cores-are = refl;
-      columns = split-columns p separations budgets offsets (plan-few p (F .accepted)) a b c;
+      columns = split-columns p (plan-few p (F .accepted)) a b c;
     }

@@ -1,5 +1,7 @@
 -- What a log run keeps of the machine: for each pending job the number of the entry that released it, its owner, the heads in the order in which
 -- they run, and the answer's bytes so far.
+--     Arrays, arrays              the arrays that the run's code works on, as one record
+--     tasksOn, engineOn           a plan's task set, and the machine as an engine on it
 --     ownersIn O                  the array of owners, sixteen places a loop, oldest first, 0 in unused places
 --     countsIn O                  the array of their numbers
 --     Below e os                  every owner is an entry before e
@@ -28,6 +30,21 @@ use Rattle.codec.specs.Bytes.{byte}
 use Rattle.heads.specs.Order.{Heads}
 use Rattle.logs.specs.ReportLaws.{Said}
 
+pub record Arrays : Type 0 where
+  -- each loop's number of pending jobs, and their owners
+  pub jobs : List ℕ
+  pub owners : List ℕ
+  -- key and remaining work of the heads, in their order, and how many there are
+  pub key : List ℕ
+  pub left : List ℕ
+  pub heads : ℕ
+  -- the answer's bytes
+  pub out : List ℕ
+
+abbrev pub arrays : List ℕ → List ℕ → List ℕ → List ℕ → ℕ → List ℕ → Arrays
+arrays jobs owners key left heads out =
+    record { jobs = jobs; owners = owners; key = key; left = left; heads = heads; out = out }
+
 unfoldable pub ownersIn : (ℕ → List ℕ) → List ℕ
 ownersIn O = tab (λ k. getD (O (k / 16)) (k % 16) 0) 256
 
@@ -50,29 +67,30 @@ Rooted l [] (j ∷ q) = ⊥
 Rooted l (o ∷ os) [] = ⊥
 Rooted l (o ∷ os) (job a w ∷ q) = (a ≡ tickAt l o) × Whole l os q
 
+-- a plan's task set, and the machine as an engine on it
+abbrev pub tasksOn : Plan → TaskSet
+tasksOn p = contentOf p .tasks
+
+abbrev pub engineOn : Plan → Engine
+engineOn p = machineEngine (tasksOn p)
+
 module _ (p : Plan) (l : List Entry) (out₀ : List ℕ) where
-  abbrev s : TaskSet
-  s = contentOf p .tasks
-
-  abbrev E : Engine
-  E = machineEngine s
-
   pub record Book (e : ℕ) (h : List Call) (O : ℕ → List ℕ) (out : List ℕ) : Type 0 where
-    pub owned : (i : ℕ) → i < s .count → Owned E l i (named E h i (clock h)) (O i) (state E h .lane i .queue)
-    pub rooted : (i : ℕ) → i < s .count → Rooted l (O i) (state E h .lane i .queue)
-    pub unowned : (i : ℕ) → s .count ≤ i → O i ≡ []
+    pub owned : (i : ℕ) → i < (tasksOn p) .count → Owned (engineOn p) l i (named (engineOn p) h i (clock h)) (O i) (state (engineOn p) h .lane i .queue)
+    pub rooted : (i : ℕ) → i < (tasksOn p) .count → Rooted l (O i) (state (engineOn p) h .lane i .queue)
+    pub unowned : (i : ℕ) → (tasksOn p) .count ≤ i → O i ≡ []
     pub small : (i : ℕ) → Below e (O i)
     pub long : length out ≡ length out₀
     pub beyond : (j : ℕ) → 8 * e ≤ j → byte out j ≡ byte out₀ j
-    pub refusals : (k n : ℕ) → k < e → outcome E l k ≡ refused n → Said out k (refusal n)
+    pub refusals : (k n : ℕ) → k < e → outcome (engineOn p) l k ≡ refused n → Said out k (refusal n)
     -- a taken entry is the owner of a pending job, or it has ended, and its finish tick is said
     pub each :
-        (k : ℕ) → k < e → Taken E l k
+        (k : ℕ) → k < e → Taken (engineOn p) l k
         → (member k (O (loopAt l k)) ≡ true)
-        ⊎ ((f : ℕ) × Ends E h (loopAt l k) (owed E l (loopAt l k) (suc k)) f × Said out k (finished f))
+        ⊎ ((f : ℕ) × Ends (engineOn p) h (loopAt l k) (owed (engineOn p) l (loopAt l k) (suc k)) f × Said out k (finished f))
 
-  pub record Running (e : ℕ) (h : List Call) (O : ℕ → List ℕ) (jobs owners key left : List ℕ) (n : ℕ) (out : List ℕ) : Type 0 where
-    pub counts-are : jobs ≡ countsIn O
-    pub owners-are : owners ≡ ownersIn O
-    pub heads-are : Heads s (state E h) (λ i. false) key left n
-    pub book : Book e h O out
+  pub record Running (e : ℕ) (h : List Call) (O : ℕ → List ℕ) (W : Arrays) : Type 0 where
+    pub counts-are : W .jobs ≡ countsIn O
+    pub owners-are : W .owners ≡ ownersIn O
+    pub heads-are : Heads (tasksOn p) (state (engineOn p) h) (λ i. false) (W .key) (W .left) (W .heads)
+    pub book : Book e h O (W .out)

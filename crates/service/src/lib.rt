@@ -2,10 +2,10 @@
 use choice::NO_KEY;
 ghost use mathlib.Core.Path.{_≡_};
 ghost use Prim.Native.Nat.{_-_, _<_, _≤_};
-ghost use Rattle.state.specs.Pick.{Jobless};
-ghost use Rattle.state.specs.Serve.{moved, turns};
+ghost use Rattle.choice.specs.Pick.{Jobless};
+ghost use Rattle.service.specs.Serve.{moved, turns};
 ghost use Rattle.tasks.specs.TaskSet.{row};
-ghost use Rattle.state.specs.CodeLaws.{Turned, Are, Joined};
+ghost use Rattle.service.specs.CodeLaws.{Turned, Are, Joined};
 
 // x − y, 0 where y is larger.
 pub fn less(x: u32, y: u32) -> u32

@@ -9,17 +9,6 @@ pub mod TidyLaws
 pub mod FitLaws
 pub mod KeptLaws
 pub mod AdmitLaws
-pub mod Serve
-pub mod MoveLaws
-pub mod ServeLaws
-pub mod Pick
-pub mod PickLaws
-pub mod RankPickLaws
-pub mod TickLaws
-pub mod TurnLaws
-pub mod CodeLaws
-pub mod RestLaws
-pub mod StepLaws
 pub mod Tests
 pub mod CallLaws
 pub mod TakenLaws

@@ -1,6 +1,5 @@
 -- `service::join` meets its contract.
 use Rattle.tasks.specs.TaskSet.{row}
-use Rattle.state.specs.CodeLaws.{Joined}
 use native.Mathlib.Omega.{arith}
 use mathlib.Core.Path.{refl}
 use borrow.Author.Needs.{needs}

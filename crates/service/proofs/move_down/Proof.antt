@@ -1,8 +1,8 @@
 -- `service::move_down` meets its contract; the loop's invariant says what its turns so far have made.
 use Rattle.tasks.specs.TaskSet.{row}
-use Rattle.state.specs.MoveLaws.{moved-step}
-use Rattle.state.specs.Serve.{movedTo}
-use Rattle.state.specs.Serve.{moved}
+use Rattle.service.specs.MoveLaws.{moved-step}
+use Rattle.service.specs.Serve.{movedTo}
+use Rattle.service.specs.Serve.{moved}
 use borrow.Author.Needs.{needs}
 use native.Mathlib.Omega.{arith}
 use Prim.Native.Nat.{_≤_, _*_, _-_}

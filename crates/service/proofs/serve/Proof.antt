@@ -1,7 +1,7 @@
 -- `service::serve` meets its contract; the loop's invariant says what its turns so far have made.
-use Rattle.state.specs.CodeLaws.{Are, turns-none, turns-more}
-use Rattle.state.specs.RestLaws.{turns-rest}
-use Rattle.state.specs.Serve.{Arrays, turns}
+use Rattle.service.specs.CodeLaws.{Are, turns-none, turns-more}
+use Rattle.service.specs.RestLaws.{turns-rest}
+use Rattle.service.specs.Serve.{Arrays, turns}
 use Rattle.tasks.specs.TaskSet.{row}
 use borrow.Author.Needs.{needs}
 use native.Mathlib.Omega.{arith}

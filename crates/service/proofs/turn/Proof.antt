@@ -1,5 +1,5 @@
 -- `service::turn` meets its contract.
-use Rattle.state.specs.CodeLaws.{turn-none, turn-left, turn-less, turn-last}
+use Rattle.service.specs.CodeLaws.{turn-none, turn-left, turn-less, turn-last}
 use Rattle.tasks.specs.TaskSet.{row}
 use borrow.Author.Needs.{needs}
 use Rattle.service.proofs.turn.Statement.{statement}

@@ -1,5 +1,5 @@
 -- `engine::advance::admit` meets its contract.
-use Rattle.state.specs.StepLaws.{AdmitCode, admit-code}
+use Rattle.service.specs.StepLaws.{AdmitCode, admit-code}
 use Rattle.state.specs.Fit.{Shaped, length-mapped}
 use Rattle.tasks.specs.TaskSet.{row}
 use Rattle.state.specs.declared.State.{State}

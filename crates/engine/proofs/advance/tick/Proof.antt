@@ -1,9 +1,9 @@
 -- `engine::advance::tick` meets its contract.
-use Rattle.state.specs.StepLaws.{sound-limits, sound-few, sound-jobless, TickCode, tick-code}
-use Rattle.state.specs.RestLaws.{keys-rest}
+use Rattle.service.specs.StepLaws.{sound-limits, sound-few, sound-jobless, TickCode, tick-code}
+use Rattle.choice.specs.PickLaws.{keys-rest}
 use Rattle.state.specs.FitLaws.{in-cores}
 use Rattle.state.specs.Fit.{Shaped, length-mapped}
-use Rattle.state.specs.Pick.{Jobless}
+use Rattle.choice.specs.Pick.{Jobless}
 use Prim.Native.Nat.{_≤_}
 use native.Mathlib.Omega.{arith}
 use borrow.Author.Needs.{needs}

@@ -1,8 +1,9 @@
 -- `replay::run::enter_all` meets its contract; the loop's invariant says that the entries so far are entered.
+use Rattle.running.specs.Running.{arrays}
 use Rattle.running.specs.RunCode.{EntersTo, enters-none, enters-ready, enters-more, enters-few}
 use borrow.Author.Needs.{needs}
 use native.Mathlib.Omega.{arith}
-use Prim.Native.Nat.{ℕ, _≤_, _-_}
+use Prim.Native.Nat.{_≤_, _-_}
 use mathlib.Core.Path.{_≡_, refl}
 use lib.ListN.{length}
 use Rattle.replay.proofs.run.enter_all.Statement.{statement}
@@ -14,7 +15,8 @@ Inv-loop log count cores tasks separations budgets offsets jobs₀ released₀ l
     × (length out ≡ length out₀)
     × (length key ≡ 16)
     × (length left ≡ 16)
-    × EntersTo log count cores tasks separations budgets offsets jobs₀ released₀ last₀ owners₀ key₀ left₀ 0 out₀ e clock taken jobs released last owners key left heads out
+    × EntersTo log count cores tasks separations budgets offsets (arrays jobs₀ owners₀ key₀ left₀ 0 out₀) released₀ last₀ e clock taken
+    (arrays jobs owners key left heads out) released last
 
 abbrev μ-loop : tie.MeasureT-loop
 μ-loop log count cores tasks separations budgets offsets jobs₀ released₀ last₀ owners₀ key₀ left₀ out₀ clock₀ heads₀ taken₀ e₀ jobs released last owners key left out clock heads taken e = count - e
@@ -25,26 +27,22 @@ loop-holds c = (
   refl,
   c .before .before .pre .0,
   c .before .before .pre .1,
-  enters-none _ _ _ _ _ _ _ _ _ _ _ _ _ _ _,
+  enters-none,
 )
 
 enter-requires : tie.Need-enter-requires Inv-loop μ-loop
 enter-requires c κs =
-    let a = c .before .before .before .before .before .before .before .before .before .before .before .args in
     let l = c .before .before .before .before .before .before .before .before .loop in (
       l .inv .2,
       l .inv .3,
-      enters-ready (a .log .now) (a .count) (a .cores) (a .tasks) (a .separations .now) (a .budgets .now) (a .offsets .now) (a .jobs .now) (a .released .now) (a .last .now) (a .owners .now) (a .key .now) (a .left .now) 0 (a .out .now)
-          (l .e) (l .clock) (l .taken) (l .jobs) (l .released) (l .last) (l .owners) (l .key) (l .left) (l .heads) (l .out) (l .inv .4) (omega arith) (c .before .before .before .before .before .before .before .before .before .before .before .pre .2),
+      enters-ready (l .inv .4) (omega arith) (c .before .before .before .before .before .before .before .before .before .before .before .pre .2),
     )
 
 add-taken : tie.Need-add-taken Inv-loop μ-loop
 add-taken c =
-    let a = c .before .before .before .before .before .before .before .before .before .before .before .before .before .before .before .args in
     let l = c .before .before .before .before .before .before .before .before .before .before .before .before .loop in
     let few =
-    enters-few (a .log .now) (a .count) (a .cores) (a .tasks) (a .separations .now) (a .budgets .now) (a .offsets .now) (a .jobs .now) (a .released .now) (a .last .now) (a .owners .now) (a .key .now) (a .left .now) 0 (a .out .now)
-    (l .e) (l .clock) (l .taken) (l .jobs) (l .released) (l .last) (l .owners) (l .key) (l .left) (l .heads) (l .out) (l .inv .4) (omega arith) _ _ _ _ _ _ _ _ _ _ (c .before .before .before .before .before .before .before .before .before .before .before .before .before .before .before .pre .2) (c .before .before .before .enter .ensures .2) in
+    enters-few (l .inv .4) (omega arith) (c .before .before .before .enter .ensures .2) (c .before .before .before .before .before .before .before .before .before .before .before .before .before .before .before .pre .2) in
     let X = c .before .before .before .before .before .before .before .before .before .before .before .before .before .before .before .pre .2 .1 .1 in
     omega (arith, few, X .all, X .entered .fitting .few)
 
@@ -56,14 +54,12 @@ loop-less c = search needs
 
 loop-again : tie.Need-loop-again Inv-loop μ-loop
 loop-again c =
-    let a = c .before .before .before .before .before .before .before .before .before .before .before .before .before .before .before .args in
     let l = c .before .before .before .before .before .before .before .before .before .before .before .before .loop in (
       omega arith,
       search needs,
       c .before .before .before .enter .ensures .0,
       c .before .before .before .enter .ensures .1,
-      enters-more (a .log .now) (a .count) (a .cores) (a .tasks) (a .separations .now) (a .budgets .now) (a .offsets .now) (a .jobs .now) (a .released .now) (a .last .now) (a .owners .now) (a .key .now) (a .left .now) 0 (a .out .now)
-          (l .e) (l .clock) (l .taken) (l .jobs) (l .released) (l .last) (l .owners) (l .key) (l .left) (l .heads) (l .out) (l .inv .4) (omega arith) _ _ _ _ _ _ _ _ _ _ (c .before .before .before .enter .ensures .2),
+      enters-more (l .inv .4) (omega arith) (c .before .before .before .enter .ensures .2),
     )
 
 same-length : tie.Need-same-length Inv-loop μ-loop

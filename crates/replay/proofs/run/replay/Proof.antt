@@ -18,7 +18,7 @@ enter-all-requires c κs =
     let b = c .before .before .before .before .before .before .before .before .before .before .before .before .before .before .before .before .before in
     let a = b .args in
     let s = c .before .before .before .before .before .before .before .before .before .before .before .before .before .split .ensures in
-    let B = run-begun (a .plan) (a .out .now) (a .log .now) (a .count) _ _ _ _ _ (b .pre .0) (b .pre .1) (b .pre .2)
+    let B = run-begun (b .pre .0) (b .pre .1) (b .pre .2)
     (ap (λ (x : Columns). x .separation) s) (ap (λ (x : Columns). x .budget) s) (ap (λ (x : Columns). x .offset) s) in
     (refl, refl, (a .plan, (a .out .now, B)))
 
@@ -28,10 +28,10 @@ add-to c =
     let b = c .before .before .before .before .before .before .before .before .before .before .before .before .before .before .before .before .before .before .before .before in
     let a = b .args in
     let s = c .before .before .before .before .before .before .before .before .before .before .before .before .before .before .before .before .split .ensures in
-    let B = run-begun (a .plan) (a .out .now) (a .log .now) (a .count) _ _ _ _ _ (b .pre .0) (b .pre .1) (b .pre .2)
+    let B = run-begun (b .pre .0) (b .pre .1) (b .pre .2)
     (ap (λ (x : Columns). x .separation) s) (ap (λ (x : Columns). x .budget) s) (ap (λ (x : Columns). x .offset) s) in
     let X = c .before .before .enter-all .ensures .2 (a .plan) (a .out .now) B in
-    omega (arith, run-clock (a .plan) (a .out .now) (a .log .now) (a .count) _ _ _ _ _ _ _ _ _ _ _ _ (X .0) (B .columns) (b .pre .2) (b .pre .1))
+    omega (arith, run-clock (a .log .now) (X .0) (B .columns) (b .pre .2) (b .pre .1))
 
 advance-requires : tie.Need-advance-requires
 unfolding columnsOf
@@ -39,13 +39,13 @@ advance-requires c κs =
     let b = c .before .before .before .before .before .before .before .before .before .before .before .before .before .before .before .before .before .before .before .before .before .before .before .before .before .before in
     let a = b .args in
     let s = c .before .before .before .before .before .before .before .before .before .before .before .before .before .before .before .before .before .before .before .before .before .before .split .ensures in
-    let B = run-begun (a .plan) (a .out .now) (a .log .now) (a .count) _ _ _ _ _ (b .pre .0) (b .pre .1) (b .pre .2)
+    let B = run-begun (b .pre .0) (b .pre .1) (b .pre .2)
     (ap (λ (x : Columns). x .separation) s) (ap (λ (x : Columns). x .budget) s) (ap (λ (x : Columns). x .offset) s) in
     let X = c .before .before .before .before .before .before .before .before .enter-all .ensures .2 (a .plan) (a .out .now) B in (
       c .before .before .before .before .before .before .before .before .enter-all .ensures .0,
       c .before .before .before .before .before .before .before .before .enter-all .ensures .1,
       omega arith,
-      run-ready (a .plan) (a .out .now) (a .log .now) (a .count) _ _ _ _ _ _ _ _ _ _ _ _ (X .0) (B .columns) (b .pre .2) (b .pre .1),
+      run-ready (a .log .now) (X .0) (B .columns) (b .pre .2) (b .pre .1),
     )
 
 same-length : tie.Need-same-length
@@ -57,11 +57,11 @@ returns c =
     let b = c .before .before .before .before .before .before .before .before .before .before .before .before .before .before .before .before .before .before .before .before .before .before .before .before .before .before .before .before .before in
     let a = b .args in
     let s = c .before .before .before .before .before .before .before .before .before .before .before .before .before .before .before .before .before .before .before .before .before .before .before .before .before .split .ensures in
-    let B = run-begun (a .plan) (a .out .now) (a .log .now) (a .count) _ _ _ _ _ (b .pre .0) (b .pre .1) (b .pre .2)
+    let B = run-begun (b .pre .0) (b .pre .1) (b .pre .2)
     (ap (λ (x : Columns). x .separation) s) (ap (λ (x : Columns). x .budget) s) (ap (λ (x : Columns). x .offset) s) in
     let X = c .before .before .before .before .before .before .before .before .before .before .before .enter-all .ensures .2 (a .plan) (a .out .now) B in (
       X .1 ∙ ap (takenTo (a .plan) (entriesIn (a .log .now))) (b .pre .1),
-      run-end (a .plan) (a .out .now) (a .log .now) (a .count) _ _ _ _ _ _ _ _ _ _ _ _ (X .0) (B .columns) (b .pre .2) (b .pre .1) _ _ _ _ _ _ (c .before .before .advance .ensures .2),
+      run-end (a .log .now) (X .0) (B .columns) (b .pre .2) (b .pre .1) (c .before .before .advance .ensures .2),
     )
 
 pub replay-spec : {M : Type 1} → statement M
