@@ -11,6 +11,7 @@ use state::State;
 use state::Stepped;
 use tasks::Answer;
 use tasks::Plan;
+use tasks::limits;
 use tasks::refusal;
 use tasks::tidy::tidied;
 ghost use mathlib.Core.Path.{_≡_};
@@ -29,7 +30,7 @@ fn step_test(state: State) -> Answer
             index: 0,
         };
     }
-    if state.clock == 4_000_000_000 {
+    if state.clock == limits::CLOCK_END {
         return Answer::Refused {
             number: refusal::CLOCK,
             index: 0,
@@ -78,7 +79,7 @@ pub fn admission_test(
             index: 0,
         };
     }
-    if 16 <= jobs {
+    if limits::JOBS_HIGH <= jobs {
         return Answer::Refused {
             number: refusal::ROOM,
             index: 0,

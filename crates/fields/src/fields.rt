@@ -1,6 +1,7 @@
 // Tests 6, 7 and 8: each task's own fields, each test over all tasks before the next.
 use tasks::Answer;
 use tasks::Task;
+use tasks::limits;
 use tasks::refusal;
 ghost use mathlib.Core.Path.{_≡_};
 ghost use Prim.Native.Nat.{_≤_};
@@ -22,7 +23,7 @@ fn is_outside(low: u32, high: u32, x: u32) -> bool
 fn bad_separation(task: Task) -> bool
     ensures { λ r. ⌜ r ≡ badSeparation task ⌝ }
 {
-    is_outside(1, 100_000, task.separation)
+    is_outside(1, limits::SEPARATION_HIGH, task.separation)
 }
 
 // "A budget is not 1 to its separation."

@@ -1,5 +1,6 @@
 // Tests 3, 4 and 5: the cores, their labels, and the number of tasks.
 use tasks::Answer;
+use tasks::limits;
 use tasks::refusal;
 ghost use mathlib.Core.Path.{_≡_};
 ghost use Prim.Native.Nat.{_<_, _≤_};
@@ -13,7 +14,7 @@ fn is_bad_label(labels: &[u8; 8], i: usize) -> bool
     requires { ⌜ i < 8 ⌝ }
     ensures { λ r. ⌜ r ≡ badLabel (row (now (labels .entry))) i ⌝ }
 {
-    if 63 < labels[i] {
+    if limits::LABEL_HIGH < labels[i] {
         return true;
     }
     if i == 0 {
@@ -40,13 +41,13 @@ fn bad_label(labels: &[u8; 8], cores: usize) -> usize
 pub fn frame(cores: usize, labels: &[u8; 8], tasks: usize) -> Answer
     ensures { λ r. ⌜ r ≡ frameTest cores (row (now (labels .entry))) tasks ⌝ }
 {
-    if cores < 2 {
+    if cores < limits::CORES_LOW {
         return Answer::Refused {
             number: refusal::CORES,
             index: 0,
         };
     }
-    if 8 < cores {
+    if limits::CORES_HIGH < cores {
         return Answer::Refused {
             number: refusal::CORES,
             index: 0,
@@ -65,7 +66,7 @@ pub fn frame(cores: usize, labels: &[u8; 8], tasks: usize) -> Answer
             index: 0,
         };
     }
-    if 16 < tasks {
+    if limits::TASKS_HIGH < tasks {
         return Answer::Refused {
             number: refusal::TASKS,
             index: 0,

@@ -2,6 +2,7 @@
 use multiple::common_multiple;
 use multiple::wide;
 use tasks::Answer;
+use tasks::limits;
 use tasks::refusal;
 ghost use mathlib.Core.Path.{_≡_};
 ghost use Prim.Native.Nat.{ℕ, _*_, _/_, _-_, _<_, _≤_};
@@ -80,7 +81,7 @@ pub fn rate(
     ensures { λ r. ⌜ Rated (setFrom cores tasks (now (separation .entry)) (now (budget .entry)) (now (offset .entry))) r ⌝ }
 {
     let multiple = common_multiple(separation, tasks);
-    if 1_000_000 < multiple {
+    if limits::MULTIPLE_HIGH < multiple {
         return refused(refusal::MULTIPLE);
     }
     let share = shares(separation, budget, multiple, tasks);

@@ -4,6 +4,7 @@ use state::State;
 use tasks::Answer;
 use tasks::Task;
 use tasks::is_no_task;
+use tasks::limits;
 ghost use mathlib.Core.Path.{_≡_};
 ghost use mathlib.Core.Bool.{not, _&&_, _||_};
 ghost use Prim.Native.Nat.{_+_, _-_, _/_, _%_, _<_};
@@ -111,7 +112,7 @@ fn recent(jobs: usize, flag: bool, last: u32, newest: u32) -> bool
 fn loop_sound(known: bool, clock: u32, jobs: usize, flag: bool, last: u32, newest: u32) -> bool
     ensures { λ r. ⌜ r ≡ loopTest known clock jobs flag last newest ⌝ }
 {
-    if 16 < jobs {
+    if limits::JOBS_HIGH < jobs {
         return false;
     }
     if !held(known, jobs, flag) {
@@ -141,7 +142,7 @@ fn loop_at(
         ⌝ }
 {
     let held = jobs[i];
-    if 16 < held {
+    if limits::JOBS_HIGH < held {
         return false;
     }
     let newest = release[16 * i + pred(held)];
@@ -285,7 +286,7 @@ pub fn sound(state: State) -> bool
     if !tasks_zero(task, &slack, tasks) {
         return false;
     }
-    if 4_000_000_000 < clock {
+    if limits::CLOCK_END < clock {
         return false;
     }
     if !loops(tasks, clock, &jobs, &released, &last, &release) {

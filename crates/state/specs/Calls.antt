@@ -11,6 +11,7 @@ use Rattle.laws.specs.Tab.{tab}
 use Rattle.tasks.specs.declared.Plan.{Plan}
 use Rattle.tasks.specs.declared.Answer.{Answer}
 use Rattle.tasks.specs.declared.Answer.the-variants.{Accepted}
+use Rattle.tasks.specs.Numbers.{clockEnd}
 use Rattle.tasks.specs.TaskSet.{TaskSet}
 use Rattle.tasks.specs.Content.{contentOf, tidy}
 use Rattle.tasks.specs.Tests.{refuse, firstMet, unlessRefused, testPlan}
@@ -34,7 +35,7 @@ tasksOf s = contentOf (s .plan) .tasks
 
 -- "18. The engine state isn't sound. 19. The clock stands at 4,000,000,000 (step and release)."
 unfoldable pub stepTests : State → Answer
-stepTests s = firstMet (refuse 18 (not (soundOf s)) ∷ refuse 19 (eqb (s .clock) 4000000000) ∷ [])
+stepTests s = firstMet (refuse 18 (not (soundOf s)) ∷ refuse 19 (eqb (s .clock) clockEnd) ∷ [])
 
 -- "A step tests 18 and 19, a release 18 to 23."
 unfoldable pub releaseTests : State → ℕ → ℕ → Answer

@@ -11,6 +11,7 @@ use lib.Dec.{ltb, leb, eqb}
 use Rattle.tasks.specs.declared.Plan.{Plan}
 use Rattle.tasks.specs.declared.Answer.{Answer}
 use Rattle.tasks.specs.declared.Answer.the-variants.{Accepted, Refused}
+use Rattle.tasks.specs.Numbers.{clockEnd}
 use Rattle.tasks.specs.TaskSet.{row}
 use Rattle.tasks.specs.Content.{zeroTask, taskOf}
 use Rattle.tasks.specs.Tests.{testPlan}
@@ -91,5 +92,5 @@ soundOf s =
     passes (testPlan (s .plan))
     && (tidyTest (s .plan)
     -- "its clock is at most 4,000,000,000"
-    && (leb (s .clock) 4000000000
+    && (leb (s .clock) clockEnd
     && (allOf (loopSound s) 16 && allOf (placeSound s) 256)))

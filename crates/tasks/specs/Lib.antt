@@ -1,3 +1,4 @@
+pub mod Numbers
 pub mod TaskSet
 pub mod Content
 pub mod ContentLaws

@@ -17,6 +17,7 @@ use Rattle.tasks.specs.declared.Task.{Task}
 use Rattle.tasks.specs.declared.Plan.{Plan}
 use Rattle.tasks.specs.declared.Answer.{Answer}
 use Rattle.tasks.specs.declared.Answer.the-variants.{Accepted, Refused}
+use Rattle.tasks.specs.Numbers.{separationHigh, multipleHigh}
 use Rattle.tasks.specs.TaskSet.{TaskSet, hyperperiod, share, covers, found, bound, row}
 use Rattle.tasks.specs.Content.{Content, contentOf}
 
@@ -74,7 +75,7 @@ badCount m n = outside (m + 1) 16 n
 
 -- 6: "A separation is not 1 to 100,000."
 abbrev pub badSeparation : Task → Bool
-badSeparation t = outside 1 100000 (t .separation)
+badSeparation t = outside 1 separationHigh (t .separation)
 
 -- 7: "A budget is not 1 to its separation."
 abbrev pub badBudget : Task → Bool
@@ -86,7 +87,7 @@ badOffset t = ltb (t .separation) (t .offset)
 
 -- 9: "H is above 1,000,000."
 abbrev pub badMultiple : TaskSet → Bool
-badMultiple s = ltb 1000000 (hyperperiod s)
+badMultiple s = ltb multipleHigh (hyperperiod s)
 
 -- 10: "The shares add up to more than m × H."
 abbrev pub badShares : TaskSet → Bool
