@@ -1,19 +1,17 @@
 -- Laws of numbers in bytes, over any width k and any row of entries.
 --     Bytes t                 every entry of t is a byte
---     bytes-tail              the tail of bytes is bytes
 --     number-same             the number at i is a matter of the k bytes from i on
 --     number-after            a number behind a prefix
 --     number-within           a number before a suffix
 --     number-four             a number of four bytes, as a sum
 --     number-digits           the k bytes of v < 256 ^ k read back as v, wherever they stand; number-digits-at: with the place by name
 --     digits-number           the bytes of the number read at i are the k bytes from i on
---     number-small            k bytes are below 256 ^ k
---     length-digits, digits-bytes, length-entries
+--     length-digits, length-entries
 --     entries-same            equal rows have equal entries
 --     byte-entries, number-entries    what stands in entry i of entries of one size
 --     entries-parts           a part of a list is the entries that it is cut into
 use Prim.Native.Nat.{ℕ, zero, suc, _+_, _*_, _/_, _%_, _^_, _≤_, _<_}
-use native.Mathlib.Nat.{mod-lt, div-add-mod, div-lt-iff-lt-mul, pow-zero, pow-suc, add-zero, add-suc, suc-add, zero-add, add-assoc, mul-zero, mul-suc, not-suc-le-zero, eq-or-lt-of-le, le-of-suc-le-suc}
+use native.Mathlib.Nat.{div-add-mod, div-lt-iff-lt-mul, pow-zero, pow-suc, add-zero, add-suc, suc-add, zero-add, add-assoc, mul-zero, mul-suc, not-suc-le-zero, eq-or-lt-of-le, le-of-suc-le-suc}
 use native.Mathlib.Numerals.{one-add, towards-suc}
 use native.Mathlib.Omega.{arith}
 use mathlib.Core.Path.{_≡_, refl, sym, ap, _∙_}
@@ -26,10 +24,6 @@ use Rattle.codec.specs.Bytes.{byte, number, digits, entries}
 
 unfoldable pub Bytes : List ℕ → Type 0
 Bytes t = (i : ℕ) → byte t i < 256
-
-pub bytes-tail : (x : ℕ) (l : List ℕ) → Bytes (x ∷ l) → Bytes l
-unfolding Bytes byte
-bytes-tail x l h i = h (suc i)
 
 pub number-same : (k : ℕ) (t u : List ℕ) (i j : ℕ) → ((d : ℕ) → d < k → byte t (i + d) ≡ byte u (j + d)) → number k t i ≡ number k u j
 unfolding number
@@ -57,12 +51,6 @@ unfolding digits
 length-digits zero v = refl
 length-digits (suc k) v = ap suc (length-digits k (v / 256))
 
-pub digits-bytes : (k v : ℕ) → Bytes (digits k v)
-unfolding Bytes byte digits
-digits-bytes zero v i = lit< tt
-digits-bytes (suc k) v zero = mod-lt v (lit< tt)
-digits-bytes (suc k) v (suc i) = digits-bytes k (v / 256) i
-
 -- the bytes of v read back, alone
 number-alone : (k v : ℕ) → v < 256 ^ k → number k (digits k v) 0 ≡ v
 unfolding number digits byte
@@ -83,11 +71,6 @@ number-digits k v pre post h =
 pub number-digits-at :
     (k v : ℕ) (pre post : List ℕ) (i : ℕ) → length pre ≡ i → v < 256 ^ k → number k (pre ++ (digits k v ++ post)) i ≡ v
 number-digits-at k v pre post i e h = ap (number k (pre ++ (digits k v ++ post))) (sym e) ∙ number-digits k v pre post h
-
-pub number-small : (k : ℕ) (t : List ℕ) (i : ℕ) → Bytes t → number k t i < 256 ^ k
-unfolding number Bytes
-number-small zero t i h = rw pow-zero (lit< tt)
-number-small (suc k) t i h = rw pow-suc (omega (arith, h i, number-small k t (suc i) h))
 
 pub digits-number : (k : ℕ) (t : List ℕ) (i : ℕ) → Bytes t → i + k ≤ length t → digits k (number k t i) ≡ take k (drop i t)
 unfolding number digits Bytes byte

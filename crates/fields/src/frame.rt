@@ -6,7 +6,7 @@ ghost use mathlib.Core.Path.{_≡_};
 ghost use Prim.Native.Nat.{_<_, _≤_};
 ghost use Rattle.laws.specs.First.{first};
 ghost use Rattle.tasks.specs.TaskSet.{row};
-ghost use Rattle.tasks.specs.Tests.{badLabel, lowest};
+ghost use Rattle.tasks.specs.Tests.{badLabel};
 ghost use Rattle.fields.specs.Stages.{frameTest};
 
 // "A core label is above 63 or not above the one before."

@@ -75,9 +75,6 @@ module _ {s : TaskSet} {M N : Machine} {d : ℕ} (T : Ticks s M N d) where
       abbrev i : ℕ
       i = A .sound b h .0
 
-      abbrev H : Head s M (λ i. false) (row key b) (row left b) (A .sound b h .0)
-      H = A .sound b h .1
-
       runs-here : runs s M (A .sound b h .0) ≡ ltb b (s .cores)
       runs-here = go (ltb b (s .cores)) refl
         where

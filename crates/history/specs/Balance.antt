@@ -1,7 +1,7 @@
 -- Histories of the abstract machine: each of its states is reached from the opening, and what its steps named, what is left and what was
 -- demanded are in balance.
 --     not-refused, same-number, other     taken and refused differ, and so do two numbers
---     answer-allowed, allowed-answer      a release is taken where it is allowed and a place is free
+--     answer-allowed      a release is taken where it is allowed and a place is free
 --     handed-cases       what holds after a taken release, and where nothing changed, holds of the machine handed back
 --     reached            every state of a history is reached by taken releases and ticks
 --     machine-clock      the machine's clock is the history's
@@ -18,7 +18,7 @@ use Rattle.tasks.specs.declared.Answer.{Answer}
 use Rattle.tasks.specs.declared.Answer.the-variants.{Accepted, Refused}
 use Rattle.machine.specs.Machine.{Machine, opened, full, Allowed, joined, admitted, waiting, runs, served, advanced, tick}
 use Rattle.machine.specs.Admission.{admitTests}
-use Rattle.machine.specs.AdmissionLaws.{taken-allowed, allowed-taken}
+use Rattle.machine.specs.AdmissionLaws.{taken-allowed}
 use Rattle.machine.specs.Reached.{Reached, opening, release}
 use Rattle.machine.specs.Choice.{earliest, reached-tick}
 use Rattle.machine.specs.Sound.{reached-sound}
@@ -50,10 +50,6 @@ module _ (s : TaskSet) (M : Machine) (i c : ℕ) where
   pub answer-allowed : answerOf s M i c ≡ taken → Allowed s M i c × (full M i ≡ false)
   unfolding answerOf
   answer-allowed e = taken-allowed s M i c (outcome-taken (admitTests s M i c) e)
-
-  pub allowed-answer : Allowed s M i c → full M i ≡ false → answerOf s M i c ≡ taken
-  unfolding answerOf
-  allowed-answer A free = ap outcomeOf (allowed-taken s M i c A free)
 
   pub handed-cases :
       (P : Outcome → Machine → Type 0) → (answerOf s M i c ≡ taken → P taken (admitted i c M))

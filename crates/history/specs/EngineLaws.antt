@@ -3,7 +3,7 @@
 --     named-mono         more steps name a loop in no fewer ticks
 --     named-before       a step more changes nothing of the steps before it
 --     named-now          a step that runs the loop names it once more
---     ends-step, ends-ask, ends-later      what has ended stays so in every later history
+--     ends-step, ends-ask      what has ended stays so in every later history
 --     ends-now           what lacks one tick ends with a step that runs the loop
 --     ends-once          a release ends once
 --     demanded-wait, demanded-until       steps demand nothing
@@ -59,11 +59,6 @@ module _ (E : Engine) where
   pub ends-ask : (h : List Call) (j c i d f : ℕ) → Ends E h i d f → Ends E (ask j c ∷ h) i d f
   unfolding named
   ends-ask h j c i d f x = record { made = x .made; enough = x .enough; first-so = x .first-so }
-
-  pub ends-later : (g h : List Call) (i d f : ℕ) → Ends E h i d f → Ends E (g ++ h) i d f
-  ends-later [] h i d f x = x
-  ends-later (step ∷ g) h i d f x = ends-step (g ++ h) i d f (ends-later g h i d f x)
-  ends-later (ask j c ∷ g) h i d f x = ends-ask (g ++ h) j c i d f (ends-later g h i d f x)
 
   pub ends-now :
       (h : List Call) (i d : ℕ) → named E h i (clock h) + 1 ≡ d → E .runs (state E h) i ≡ true → Ends E (step ∷ h) i d (suc (clock h))

@@ -47,9 +47,6 @@ module _ (l : List Entry) where
   largest-least zero t h = omega arith
   largest-least (suc e) t h = omega (arith, largest-least e t (λ j p. h j (omega arith)), h e (le-refl _))
 
-  pub largest-upto : (e k : ℕ) → e ≤ k → largest l e ≤ largest l k
-  largest-upto e k h = largest-least e (largest l k) (λ j p. largest-le k j (omega arith))
-
   pub back-onward : (e : ℕ) → back l e ≡ false → (j : ℕ) → j < e → tickAt l j ≤ tickAt l e
   unfolding back
   back-onward e b j h = omega (arith, largest-le e j h, ltb-false (tickAt l e) (largest l e) b)

@@ -6,23 +6,22 @@
 --     owned-tick              a tick takes the first owner off where the head finishes
 --     owned-head              the owner of a head that finishes lacks one tick
 --     owned-joined            a taken entry goes behind the others
---     finishing-response      the machine's answer names those that finish
 --     owed-new                what a taken entry's loop is owed with it
 --     owners-taken            the owners after a taken entry's release
 --     owner-ends              the entry whose job finishes in a step ends with that step
 --     owners-tick             the owners after a step of the machine
-use Prim.Native.Nat.{ℕ, zero, suc, _+_, _-_, _<_}
+use Prim.Native.Nat.{ℕ, zero, suc, _+_, _<_}
 use mathlib.Core.Bool.{Bool, true, false, cond, _&&_, false≢true}
 use mathlib.Core.Path.{_≡_, refl, sym, ap, subst, _∙_}
 use mathlib.Core.List.{List, [], _∷_, _++_}
 use native.Mathlib.Nat.{add-zero}
 use native.Mathlib.Omega.{arith}
 use lib.ListN.{length, getD, drop}
-use lib.Dec.{ltb, leb}
-use borrow.Author.Tests.{lt-ltb, lt-leb, leb-true, eq-eqb}
+use lib.Dec.{leb}
+use borrow.Author.Tests.{lt-leb, leb-true, eq-eqb}
 use Rattle.laws.specs.Sum.{sum}
 use Rattle.tasks.specs.TaskSet.{TaskSet}
-use Rattle.machine.specs.Machine.{Job, job, joined, admitted, runs, served, advanced, tick, response}
+use Rattle.machine.specs.Machine.{Job, job, joined, admitted, runs, served, advanced, tick}
 use Rattle.machine.specs.Sound.{Rising, reached-sound}
 use Rattle.machine.specs.Work.{work}
 use Rattle.history.specs.Engine.{Engine, Call, step, clock, state, verdict, named, Ends}
@@ -35,13 +34,6 @@ use Rattle.history.specs.Balance.{reached, balance}
 abbrev pub finishing : List Job → Bool
 finishing [] = false
 finishing (job a w ∷ q) = leb w 1
-
-pub finishing-response : (T C t r : ℕ) (q : List Job) → Rising T C t r q → ltb 0 (response (suc t) q) ≡ finishing q
-unfolding response
-finishing-response T C t r [] c = refl
-finishing-response T C t r (job a zero ∷ q) c = absurd (omega arith)
-finishing-response T C t r (job a (suc zero) ∷ q) c = lt-ltb 0 (suc t - a) (omega arith)
-finishing-response T C t r (job a (suc (suc w)) ∷ q) c = sym (lt-leb (suc (suc w)) 1 (omega arith))
 
 module _ (E : Engine) (l : List Entry) (i : ℕ) where
   abbrev pub Owned : ℕ → List ℕ → List Job → Type 0

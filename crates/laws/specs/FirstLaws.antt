@@ -5,7 +5,6 @@
 --     none-more          none below n and none at n: none below n + 1
 --     found-at           a scan that stops at i, below n, has found the first below n
 --     found-stays        what was found below m is the first below every larger n
---     none-less          none below n: none below a smaller m
 --     first-holds        the test holds at an index that was found
 --     first-before       it fails at every index before the first
 --     first-none         none below n: it fails at every index below n
@@ -101,9 +100,6 @@ found-stays p m n h l = first-unique p n (first p m) (omega arith) (first-holds 
 
 pub none-more : (p : ℕ → Bool) (n : ℕ) → first p n ≡ n → p n ≡ false → first p (n + 1) ≡ n + 1
 none-more p n e f = first-more p n ∙ rw (e, f, le-ltb n n (omega arith), add-one)
-
-pub none-less : (p : ℕ → Bool) (m n : ℕ) → first p n ≡ n → m ≤ n → first p m ≡ m
-none-less p m n e h = none-first p m (λ i l. first-none p n e i (omega arith))
 
 pub first-ext : (p q : ℕ → Bool) (n : ℕ) → ((i : ℕ) → i < n → p i ≡ q i) → first p n ≡ first q n
 unfolding first

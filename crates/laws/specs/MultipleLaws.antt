@@ -2,46 +2,21 @@
 --     lcm-grows, lcm-low          lcm a b is at least a, and so at least 1 where a is
 --     lcm-first                   no multiple of a that b divides is smaller
 --     lcm-left, lcm-right         a and b divide lcm a b
---     lcm-divides, lcm-least      lcm a b divides every common multiple, and none that is at least 1 is smaller
+--     lcm-divides                 lcm a b divides every common multiple
 --     lcm-unique                  the only common multiple that divides every other
 --     lcm-same                    lcm a b is a where b divides a
 --     lcmBelow-more               one entry more
 --     lcmBelow-low                lcmBelow f n is at least 1
---     lcmBelow-rises, -mono       a further entry never makes it smaller
---     lcmBelow-ext                rows that agree below n have the same
+--     lcmBelow-mono               a further entry never makes it smaller
 --     lcmBelow-divided, -mod      each entry divides it
---     lcmBelow-exact, -scaled     so dividing it, or a multiple of it, by an entry leaves nothing over
 --     lcmBelow-divides, -least    it divides every common multiple, and none that is at least 1 is smaller
 use Prim.Native.Nat.{ℕ, zero, suc, _+_, _*_, _/_, _%_, _≤_, suc-le-suc, _<_, _∣_}
-use mathlib.Core.Path.{_≡_, refl, sym, _∙_, subst}
+use mathlib.Core.Path.{_≡_, sym, _∙_, subst}
 use mathlib.Core.Bool.{Bool, true≢false}
 use mathlib.Core.Logic.{⊎-elim}
 use native.Mathlib.Omega.{arith}
 use native.Mathlib.Numerals.{add-one}
-use native.Mathlib.Nat.{
-  mul-le-mul-left,
-  mod-lt,
-  mul-suc,
-  eq-or-lt-of-le,
-  le-refl,
-  le-trans,
-  dvd-refl,
-  one-dvd,
-  dvd-trans,
-  dvd-mul-left,
-  dvd-mul-right,
-  not-suc-le-zero,
-  le-of-suc-le-suc,
-  dvd-mul-left-of-dvd,
-  dvd-mod-iff,
-  dvd-antisymm,
-  le-of-dvd,
-  pos-of-dvd-of-pos,
-  mod-eq-zero-of-dvd,
-  dvd-of-mod-eq-zero,
-  mul-div-cancel',
-  div-mul-cancel,
-}
+use native.Mathlib.Nat.{mul-le-mul-left, mod-lt, mul-suc, eq-or-lt-of-le, le-refl, le-trans, dvd-refl, one-dvd, dvd-trans, dvd-mul-left, dvd-mul-right, not-suc-le-zero, le-of-suc-le-suc, dvd-mul-left-of-dvd, dvd-mod-iff, dvd-antisymm, le-of-dvd, mod-eq-zero-of-dvd, dvd-of-mod-eq-zero, mul-div-cancel', div-mul-cancel}
 use lib.Dec.{eqb}
 use lib.Arith.{le-zero}
 use borrow.Author.Tests.{eqb-true, eq-eqb}
@@ -101,9 +76,6 @@ lcm-divides a b c ha hb da db = dvd-of-mod-eq-zero (lcm a b) (go (r / a) (mul-di
     go zero e = omega arith
     go (suc j) e = omega (arith, small, lcm-first a b j (subst (λ (x : ℕ). b ∣ x) (sym e) rb))
 
-pub lcm-least : (a b c : ℕ) → 1 ≤ b → 1 ≤ c → a ∣ c → b ∣ c → lcm a b ≤ c
-lcm-least a b c hb hc da db = le-of-dvd hc (lcm-divides a b c (pos-of-dvd-of-pos da hc) hb da db)
-
 pub lcm-unique : (a b c : ℕ) → 1 ≤ a → 1 ≤ b → a ∣ c → b ∣ c → ((d : ℕ) → a ∣ d → b ∣ d → c ∣ d) → lcm a b ≡ c
 lcm-unique a b c ha hb da db least =
     dvd-antisymm (lcm-divides a b c ha hb da db) (least (lcm a b) (lcm-left a b) (lcm-right a b hb))
@@ -120,9 +92,6 @@ unfolding lcmBelow
 lcmBelow-low f zero = omega arith
 lcmBelow-low f (suc n) = lcm-low (lcmBelow f n) (f n) (lcmBelow-low f n)
 
-pub lcmBelow-rises : (f : ℕ → ℕ) (n : ℕ) → lcmBelow f n ≤ lcmBelow f (n + 1)
-lcmBelow-rises f n = rw lcmBelow-more (lcm-grows (lcmBelow f n) (f n))
-
 pub lcmBelow-mono : (f : ℕ → ℕ) (m n : ℕ) → m ≤ n → lcmBelow f m ≤ lcmBelow f n
 unfolding lcmBelow
 lcmBelow-mono f m zero h = rw (le-zero h) (le-refl _)
@@ -130,11 +99,6 @@ lcmBelow-mono f m (suc n) h =
     ⊎-elim (λ (e : m ≡ suc n). rw e (le-refl _))
     (λ (l : m < suc n). le-trans (lcmBelow-mono f m n (omega arith)) (lcm-grows (lcmBelow f n) (f n)))
     (eq-or-lt-of-le h)
-
-pub lcmBelow-ext : (f g : ℕ → ℕ) (n : ℕ) → ((i : ℕ) → i < n → f i ≡ g i) → lcmBelow f n ≡ lcmBelow g n
-unfolding lcmBelow
-lcmBelow-ext f g zero same = refl
-lcmBelow-ext f g (suc n) same = rw (lcmBelow-ext f g n (λ i h. same i (omega arith)), same n (omega arith))
 
 pub lcmBelow-divides :
     (f : ℕ → ℕ) (n c : ℕ) → ((i : ℕ) → i < n → 1 ≤ f i) → ((i : ℕ) → i < n → f i ∣ c) → lcmBelow f n ∣ c
@@ -162,9 +126,6 @@ module _ (f : ℕ → ℕ) where
   module _ (n : ℕ) (low : (i : ℕ) → i < n → 1 ≤ f i) (i : ℕ) (h : i < n) where
     pub lcmBelow-mod : lcmBelow f n % f i ≡ 0
     lcmBelow-mod = mod-eq-zero-of-dvd (f i) (lcmBelow-divided n low i h)
-
-    pub lcmBelow-exact : lcmBelow f n / f i * f i ≡ lcmBelow f n
-    lcmBelow-exact = div-mul-cancel (f i) (lcmBelow-divided n low i h)
 
     pub lcmBelow-scaled : (c : ℕ) → c * lcmBelow f n / f i * f i ≡ c * lcmBelow f n
     lcmBelow-scaled c = div-mul-cancel (f i) (dvd-mul-left-of-dvd (f i) (lcmBelow-divided n low i h) c)

@@ -3,7 +3,6 @@
 --     sum-ext          rows that agree below n have the same sum
 --     sum-mono         a row that is at most another below n has at most its sum
 --     sum-less         and less, if they differ somewhere below n
---     sum-tight        and the rows agree below n, if the sum is as large
 --     sum-zero         a row of zeros
 --     sum-const        a constant row
 --     sum-add          the sum of two rows, entry by entry
@@ -11,29 +10,26 @@
 --     sum-le-mul       entries at most b: the sum is at most n * b
 --     term-le-sum      an entry is at most the sum
 --     sum-but-one      rows that agree but at k
---     sum-append       the sum below n + m, in two parts
---     sum-front        the first entry and the rest
 --     sum-upto         the sum below fewer is at most the sum below more; sum-rest: equal, if the rest is zeros
 --     sum-cut          a row that is cut off at n, with zeros after it
---     count-step, count-ext, count-mono, count-le      the same of the number of indices at which a test holds
+--     count-ext, count-mono, count-le      the same of the number of indices at which a test holds
 --     count-none, count-all, count-not, count-pos      it is 0, it is n, the indices at which the test fails, it isn't 0
 --     sumIn p f n      the sum of f over the indices below n at which p holds
---     sumIn-step, sumIn-ext, sumIn-mono, sumIn-le      the same of that sum; it is at most the whole one
+--     sumIn-step, sumIn-mono, sumIn-le      the same of that sum; it is at most the whole one
 --     sumIn-count      of a constant row; sumIn-rest: with the indices at which p fails it is the whole sum
---     sumOver-append, sumOver-ext, sumOver-mono, sumOver-take-le, sumOver-const, sumOver-add
+--     sumOver-ext, sumOver-mono, sumOver-const
 --     sumOver-members  over a list that names no index twice, all below n, it is the sum over its members; count-members: their number
 use Prim.Native.Nat.{ℕ, zero, suc, _+_, _*_, _≤_, _<_}
 use mathlib.Core.Bool.{Bool, true, false, cond, not}
 use mathlib.Core.Path.{_≡_, refl, sym, _∙_}
 use mathlib.Core.Logic.{_≢_, ⊎-elim}
-use mathlib.Core.List.{List, [], _∷_, _++_}
-use native.Mathlib.Nat.{not-suc-le-zero, le-of-suc-le-suc, eq-or-lt-of-le, mul-add, suc-mul, mul-comm, add-suc, add-zero, le-refl}
+use mathlib.Core.List.{List, [], _∷_}
+use native.Mathlib.Nat.{not-suc-le-zero, le-of-suc-le-suc, eq-or-lt-of-le, mul-add, suc-mul, mul-comm, le-refl}
 use native.Mathlib.Numerals.{add-one}
 use native.Mathlib.Omega.{arith}
 use lib.Arith.{le-zero}
-use lib.Dec.{eqb}
-use lib.ListN.{length, take}
-use borrow.Author.Tests.{eqb-true, eqb-false, eq-eqb, ne-eqb}
+use lib.ListN.{length}
+use borrow.Author.Tests.{eq-eqb, ne-eqb}
 use Rattle.laws.specs.Sum.{sum, count, sumOver}
 use Rattle.laws.specs.Tab.{cut}
 use Rattle.laws.specs.TabLaws.{cut-below, cut-above}
@@ -62,13 +58,6 @@ sum-less f g (suc n) le k h ne =
     (λ (q : k ≡ n). omega (arith, sum-mono f g n (λ i l. le i (omega arith)), le n (omega arith), rw q at ne))
     (λ (q : k < n). omega (arith, sum-less f g n (λ i l. le i (omega arith)) k q ne, le n (omega arith)))
     (eq-or-lt-of-le (le-of-suc-le-suc h))
-
-pub sum-tight : (f g : ℕ → ℕ) (n : ℕ) → ((i : ℕ) → i < n → f i ≤ g i) → sum g n ≤ sum f n → (k : ℕ) → k < n → f k ≡ g k
-sum-tight f g n le most k h = go (eqb (f k) (g k)) refl
-  where
-    go : (b : Bool) → eqb (f k) (g k) ≡ b → f k ≡ g k
-    go true e = eqb-true (f k) (g k) e
-    go false e = absurd (omega (arith, sum-less f g n le k h (eqb-false (f k) (g k) e)))
 
 pub sum-zero : (f : ℕ → ℕ) (n : ℕ) → ((i : ℕ) → i < n → f i ≡ 0) → sum f n ≡ 0
 unfolding sum
@@ -112,16 +101,6 @@ sum-but-one f g (suc n) k h same =
     (λ (q : k < n). omega (arith, sum-but-one f g n k q (λ i l ne. same i (omega arith) ne), same n (omega arith) (omega arith)))
     (eq-or-lt-of-le (le-of-suc-le-suc h))
 
-pub sum-append : (f : ℕ → ℕ) (n m : ℕ) → sum f (n + m) ≡ sum f n + sum (λ i. f (n + i)) m
-unfolding sum
-sum-append f n zero = rw (add-zero n) (omega arith)
-sum-append f n (suc m) = rw add-suc (omega (arith, sum-append f n m))
-
-pub sum-front : (f : ℕ → ℕ) (n : ℕ) → sum f (suc n) ≡ f 0 + sum (λ i. f (suc i)) n
-unfolding sum
-sum-front f zero = omega arith
-sum-front f (suc n) = omega (arith, sum-front f n)
-
 pub sum-rest : (f : ℕ → ℕ) (m n : ℕ) → m ≤ n → ((i : ℕ) → m ≤ i → i < n → f i ≡ 0) → sum f n ≡ sum f m
 unfolding sum
 sum-rest f m zero h none = rw (le-zero h)
@@ -133,10 +112,6 @@ sum-rest f m (suc n) h none =
 
 pub sum-cut : (f : ℕ → ℕ) (m n : ℕ) → m ≤ n → sum (cut m f 0) n ≡ sum f m
 sum-cut f m n h = sum-rest (cut m f 0) m n h (λ i l u. cut-above m f 0 i l) ∙ sum-ext (cut m f 0) f m (cut-below m f 0)
-
-pub count-step : (p : ℕ → Bool) (n : ℕ) → count p (n + 1) ≡ count p n + cond (p n) 1 0
-unfolding count
-count-step p n = sum-step (λ i. cond (p i) 1 0) n
 
 pub count-ext : (p q : ℕ → Bool) (n : ℕ) → ((i : ℕ) → i < n → p i ≡ q i) → count p n ≡ count q n
 unfolding count
@@ -153,11 +128,6 @@ sumIn p f n = sum (λ i. cond (p i) (f i) 0) n
 pub sumIn-step : (p : ℕ → Bool) (f : ℕ → ℕ) (n : ℕ) → sumIn p f (n + 1) ≡ sumIn p f n + cond (p n) (f n) 0
 unfolding sumIn
 sumIn-step p f n = sum-step (λ i. cond (p i) (f i) 0) n
-
-pub sumIn-ext :
-    (p q : ℕ → Bool) (f g : ℕ → ℕ) (n : ℕ) → ((i : ℕ) → i < n → p i ≡ q i) → ((i : ℕ) → i < n → f i ≡ g i) → sumIn p f n ≡ sumIn q g n
-unfolding sumIn
-sumIn-ext p q f g n same eq = sum-ext (λ i. cond (p i) (f i) 0) (λ i. cond (q i) (g i) 0) n (λ i h. rw (same i h, eq i h))
 
 pub sumIn-mono :
     (p q : ℕ → Bool) (f g : ℕ → ℕ) (n : ℕ) → ((i : ℕ) → i < n → p i ≡ true → q i ≡ true) → ((i : ℕ) → i < n → p i ≡ true → f i ≤ g i)
@@ -215,11 +185,6 @@ pub count-pos : (p : ℕ → Bool) (n i : ℕ) → i < n → p i ≡ true → 0 
 unfolding count
 count-pos p n i h e = omega (arith, rw e at (term-le-sum (λ j. cond (p j) 1 0) n i h))
 
-pub sumOver-append : (f : ℕ → ℕ) (l m : List ℕ) → sumOver f (l ++ m) ≡ sumOver f l + sumOver f m
-unfolding sumOver
-sumOver-append f [] m = omega arith
-sumOver-append f (i ∷ l) m = omega (arith, sumOver-append f l m)
-
 pub sumOver-mono : (f g : ℕ → ℕ) (l : List ℕ) → ((i : ℕ) → member i l ≡ true → f i ≤ g i) → sumOver f l ≤ sumOver g l
 unfolding sumOver
 sumOver-mono f g [] le = omega arith
@@ -230,21 +195,10 @@ unfolding sumOver
 sumOver-ext f g [] same = refl
 sumOver-ext f g (i ∷ l) same = omega (arith, sumOver-ext f g l (λ j e. same j (member-there j i l e)), same i (member-here i l))
 
-pub sumOver-take-le : (f : ℕ → ℕ) (k : ℕ) (l : List ℕ) → sumOver f (take k l) ≤ sumOver f l
-unfolding sumOver
-sumOver-take-le f zero l = omega arith
-sumOver-take-le f (suc k) [] = omega arith
-sumOver-take-le f (suc k) (i ∷ l) = omega (arith, sumOver-take-le f k l)
-
 pub sumOver-const : (b : ℕ) (l : List ℕ) → sumOver (λ i. b) l ≡ length l * b
 unfolding sumOver
 sumOver-const b [] = omega arith
 sumOver-const b (i ∷ l) = omega (arith, sumOver-const b l, suc-mul (length l) b)
-
-pub sumOver-add : (f g : ℕ → ℕ) (l : List ℕ) → sumOver (λ i. f i + g i) l ≡ sumOver f l + sumOver g l
-unfolding sumOver
-sumOver-add f g [] = refl
-sumOver-add f g (i ∷ l) = omega (arith, sumOver-add f g l)
 
 pub sumOver-members :
     (f : ℕ → ℕ) (l : List ℕ) (n : ℕ) → Distinct l → ((i : ℕ) → member i l ≡ true → i < n) → sumOver f l ≡ sumIn (λ i. member i l) f n

@@ -1,17 +1,12 @@
 -- Laws of `tab` and `cut`: lists filled in order, read by their row, and arrays that are filled up to a place and hold z after it.
 --     length-tab        tab f n has n entries
---     tab-step          one entry more, at n + 1
 --     getD-tab          below n the entries are the row's; getD-tab-out: from n on there are none
 --     tab-ext           rows that agree below n have the same list
 --     ext-tab           a list of n entries that are the row's is tab f n
---     tab-getD          a list is the tab of its entries
---     take-tab          a beginning of a tab is a shorter tab
---     fill-next         a list whose first i entries are the row's, with entry i stored, has i + 1 of them
 --     tab-replicate     a constant row
 --     set-tab           a store is a change of the row at one index
 --     cut-below         below n the cut row is the row; cut-above: from n on it is z
 --     cut-all           filled up to its length an array is the row's tab
---     cut-ext           rows that agree below n, cut off at n, agree everywhere
 --     getD-tab-cut      a tab read anywhere is the row cut off at its length
 --     getD-cut          the tab of a row that is cut off below its length, read anywhere
 --     filled-none       an array of z alone is filled up to 0
@@ -20,13 +15,12 @@ use Prim.Native.Nat.{ℕ, zero, suc, _+_, _≤_, _<_}
 use mathlib.Core.Bool.{Bool, true, false, cond}
 use mathlib.Core.Path.{_≡_, refl, sym, _∙_}
 use mathlib.Core.Logic.{⊎-elim}
-use mathlib.Core.List.{List, [], _∷_, _++_}
+use mathlib.Core.List.{List, [], _∷_}
 use native.Mathlib.Nat.{not-suc-le-zero, le-of-suc-le-suc, eq-or-lt-of-le}
-use native.Mathlib.Numerals.{add-one}
 use native.Mathlib.Omega.{arith}
 use lib.Dec.{ltb, eqb}
-use lib.ListN.{length, getD, set, take, replicate, length-append, length-set, length-replicate, getD-replicate, List·getD-append, List·getD-eq-default}
-use lib.Seq.{ext-getD, getD-at, getD-set-same, getD-set-other, getD-take, length-take-le, take-suc-set}
+use lib.ListN.{length, getD, set, replicate, length-append, length-set, length-replicate, getD-replicate, List·getD-append, List·getD-eq-default}
+use lib.Seq.{ext-getD, getD-at, getD-set-same, getD-set-other}
 use borrow.Author.Tests.{ltb-true, ltb-false, lt-ltb, le-ltb, eqb-true, eqb-false}
 use Rattle.laws.specs.Tab.{tab, cut}
 
@@ -35,10 +29,6 @@ module _ {A : Type 0} where
   unfolding tab
   length-tab f zero = refl
   length-tab f (suc n) = omega (arith, length-append (tab f n) (f n ∷ []), length-tab f n)
-
-  pub tab-step : (f : ℕ → A) (n : ℕ) → tab f (n + 1) ≡ tab f n ++ f n ∷ []
-  unfolding tab
-  tab-step f n = rw add-one
 
   pub getD-tab : (f : ℕ → A) (n i : ℕ) (d : A) → i < n → getD (tab f n) i d ≡ f i
   unfolding tab
@@ -60,22 +50,6 @@ module _ {A : Type 0} where
   unfolding tab
   tab-ext f g zero same = refl
   tab-ext f g (suc n) same = rw (tab-ext f g n (λ i h. same i (omega arith)), same n (omega arith))
-
-  pub tab-getD : (l : List A) (d : A) → l ≡ tab (λ i. getD l i d) (length l)
-  tab-getD l d = ext-tab (λ i. getD l i d) l (length l) d refl (λ i h. refl)
-
-  pub take-tab : (f : ℕ → A) (i n : ℕ) → i ≤ n → take i (tab f n) ≡ tab f i
-  take-tab f i n h =
-      ext-tab
-      f
-      (take i (tab f n))
-      i
-      (f 0)
-      (length-take-le i (tab f n) (omega (arith, length-tab f n)))
-      (λ j l. getD-take i (tab f n) j (f 0) l ∙ getD-tab f n j (f 0) (omega arith))
-
-  pub fill-next : (f : ℕ → A) (l : List A) (i : ℕ) → take i l ≡ tab f i → i < length l → take (i + 1) (set l i (f i)) ≡ tab f (i + 1)
-  fill-next f l i e h = rw (add-one, take-suc-set l i (f i) h, e, ← add-one) (sym (tab-step f i))
 
   pub tab-replicate : (z : A) (n : ℕ) → tab (λ i. z) n ≡ replicate n z
   tab-replicate z n = sym (ext-tab (λ i. z) (replicate n z) n z (length-replicate n z) (λ i h. getD-replicate n i z z h))
@@ -101,17 +75,6 @@ module _ {A : Type 0} where
   pub cut-above : (n : ℕ) (f : ℕ → A) (z : A) (i : ℕ) → n ≤ i → cut n f z i ≡ z
   unfolding cut
   cut-above n f z i h = rw (le-ltb i n h)
-
-  pub cut-ext : (n : ℕ) (f g : ℕ → A) (z : A) → ((i : ℕ) → i < n → f i ≡ g i) → (i : ℕ) → cut n f z i ≡ cut n g z i
-  cut-ext n f g z same i = go (ltb i n) refl
-    where
-      go : (b : Bool) → ltb i n ≡ b → cut n f z i ≡ cut n g z i
-      go true e =
-          let h = ltb-true i n e in
-          rw (cut-below n f z i h, cut-below n g z i h) (same i h)
-      go false e =
-          let h = ltb-false i n e in
-          rw (cut-above n f z i h, cut-above n g z i h)
 
   pub cut-all : (n : ℕ) (f : ℕ → A) (z : A) → tab (cut n f z) n ≡ tab f n
   cut-all n f z = tab-ext (cut n f z) f n (cut-below n f z)

@@ -4,7 +4,6 @@
 --     log-length              a log that meets neither 14 nor 15 has just the length that its count gives
 --     log-ticks               and no tick above 1,000,000,000
 --     count-bytes             the count, as a sum of two bytes
---     count-small, loop-small     the count is below 65,536 and a loop's number below 256, by their width
 --     read-accepted, read-refused     what each case of the reader's answer says of the log
 --     read-short, read-late, read-all     how the reader's answer follows from what its code has seen
 use Prim.Native.Nat.{ℕ, _+_, _*_, _≤_, _<_}
@@ -24,7 +23,6 @@ use Rattle.tasks.specs.Tests.{firstMet, unlessRefused}
 use Rattle.tasks.specs.AnswerLaws.{refuse-passed, lowest-passed, lowest-none, lowest-found, firstMet-passed, firstMet-pass, firstMet-stop}
 use Rattle.history.specs.Log.{Entry, noEntry, tickAt, loopAt, demandAt}
 use Rattle.codec.specs.Bytes.{byte, number}
-use Rattle.codec.specs.ByteLaws.{Bytes, number-small}
 use Rattle.logs.specs.declared.read.Entries.{Entries}
 use Rattle.logs.specs.declared.read.Entries.the-variants.{Read, Refused as NotRead}
 use Rattle.logs.specs.LogBytes.{entryCount, entryIn, entriesIn, test14, test15, logTest}
@@ -69,14 +67,6 @@ module _ (l : List ℕ) where
   pub count-bytes : entryCount l ≡ byte l 0 + 256 * byte l 1
   unfolding entryCount number
   count-bytes = omega arith
-
-  pub count-small : Bytes l → entryCount l < 65536
-  unfolding entryCount
-  count-small b = number-small 2 l 0 b
-
-  pub loop-small : Bytes l → (e : ℕ) → entryIn l e .loop < 256
-  unfolding entryIn Bytes
-  loop-small b e = b (2 + 9 * e + 4)
 
   module _ (r : Entries) (g : EntriesRead l r) where
     pub read-accepted : (n : ℕ) → r ≡ Read n → (n ≡ entryCount l) × (logTest l ≡ Accepted) × (n < 65536)

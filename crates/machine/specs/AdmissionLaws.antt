@@ -1,7 +1,6 @@
 -- When a release is taken, and which number it meets first.
 --     demand-first        of a loop in the table, a demand that is not 1 to C meets 21, whatever 22 and 23 say
 --     taken-allowed       a release that meets none of 20 to 23 is allowed, and finds a place
---     allowed-taken       one that is allowed and finds a place meets none of them
 use Prim.Native.Nat.{ℕ, _<_}
 use mathlib.Core.Path.{_≡_}
 use mathlib.Core.Bool.{true, false}
@@ -9,7 +8,7 @@ use borrow.Author.Tests.{leb-false, lt-leb}
 use Rattle.tasks.specs.declared.Answer.the-variants.{Accepted, Refused}
 use Rattle.tasks.specs.TaskSet.{TaskSet}
 use Rattle.tasks.specs.Tests.{firstMet}
-use Rattle.tasks.specs.AnswerLaws.{refuse-passed, orNext-passed, firstMet-passed, outside-passed, pass-outside}
+use Rattle.tasks.specs.AnswerLaws.{refuse-passed, orNext-passed, firstMet-passed, outside-passed}
 use Rattle.machine.specs.Machine.{Machine, tooSoon, full, Allowed}
 use Rattle.machine.specs.Admission.{badDemand, joinTests, admitTests}
 
@@ -34,9 +33,3 @@ module _ (s : TaskSet) (M : Machine) (i c : ℕ) where
         },
         refuse-passed 23 _ (t .0),
       )
-
-  pub allowed-taken : Allowed s M i c → full M i ≡ false → admitTests s M i c ≡ Accepted
-  unfolding admitTests joinTests firstMet tooSoon full
-  allowed-taken A f =
-      let apart = A .apart in
-      rw (lt-leb (s .count) i (A .in-table), pass-outside 1 (s .task i .budget) c (A .demand-low) (A .demand-high), apart, f)

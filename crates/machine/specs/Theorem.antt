@@ -13,14 +13,10 @@ use native.Mathlib.Nat.{le-trans, le-suc, le-refl}
 use native.Mathlib.Omega.{arith}
 use lib.ListN.{length, length-append}
 use borrow.Author.Tests.{lt-leb}
-use Rattle.tasks.specs.declared.Answer.the-variants.{Accepted}
 use Rattle.tasks.specs.TaskSet.{TaskSet, Compliant, bound}
-use Rattle.tasks.specs.Content.{Content}
-use Rattle.tasks.specs.Tests.{tests}
 use Rattle.tasks.specs.Limits.{Limits, Bounded}
 use Rattle.tasks.specs.ShareLaws.{timed, hyperperiod-low, share-exact, share-le}
 use Rattle.tasks.specs.AmountLaws.{amount-best}
-use Rattle.tasks.specs.TestsLaws.{tests-limits, tests-compliant}
 use Rattle.machine.specs.Machine.{Job, job, Machine, opened, tooSoon, full, joined, served, response, responses, advanced}
 use Rattle.machine.specs.Reached.{Reached, opening, release, ticked, OnTime}
 use Rattle.machine.specs.Queue.{next-free, all-in-time, in-time-response, in-time-room}
@@ -68,9 +64,6 @@ on-time s x S M I =
 
 pub bound-theorem : (s : TaskSet) (x : ℕ → ℕ) → Limits s → Compliant s x → (M : Machine) → Reached s M → OnTime s x M
 bound-theorem s x L c M r = on-time s x (setting s x L c) M (reached-kept s x (setting s x L c) r)
-
-pub accepted-on-time : (c : Content) → tests c ≡ Accepted → (M : Machine) → Reached (c .tasks) M → OnTime (c .tasks) (c .slack) M
-accepted-on-time c a = bound-theorem (c .tasks) (c .slack) (tests-limits c a) (tests-compliant c a)
 
 module _ (s : TaskSet) (x : ℕ → ℕ) (L : Limits s) (C : Compliant s x) (B : Bounded s x) where
   pub never-full : (M : Machine) → Reached s M → (i : ℕ) → i < s .count → tooSoon s M i ≡ false → full M i ≡ false

@@ -3,7 +3,7 @@
 --     book-refused      an entry that is refused, by 17 or by its release's answer
 --     ownersWith        the owners with the entry as its loop's last
 --     book-taken        an entry whose release is taken
-use Prim.Native.Nat.{ℕ, suc, _+_, _-_, _*_, _≤_, _<_}
+use Prim.Native.Nat.{ℕ, suc, _*_, _≤_, _<_}
 use mathlib.Core.Bool.{Bool, true, false, cond, or-true}
 use mathlib.Core.Path.{_≡_, refl, sym, ap, _∙_}
 use mathlib.Core.Logic.{_⊎_, inl, inr, ⊎-elim}

@@ -1,6 +1,6 @@
 -- A loop that finishes in the last tick of a leap, by its code.
 --     next-whole        its queue afterwards is that of the owners behind the first
---     finish-room, finish-low, finish-offset, finish-long, finish-place      what its code needs
+--     finish-room, finish-low, finish-long, finish-place      what its code needs
 --     finish-none, finish-more      what it gives: the loop has no job left, or its next job is a head
 use Prim.Native.Nat.{ℕ, zero, suc, _+_, _-_, _*_, _≤_, _<_}
 use mathlib.Core.Bool.{Bool, true, false, cond, not, _&&_, _||_, true≢false, false≢true, and-eq-true-iff}
@@ -22,7 +22,6 @@ use Rattle.state.specs.Fit.{Fit}
 use Rattle.state.specs.KeptLaws.{reached-fit}
 use Rattle.state.specs.FitLaws.{in-task, in-count, plan-limits}
 use Rattle.service.specs.Serve.{moved}
-use Rattle.history.specs.Engine as history
 use Rattle.history.specs.Engine.{Engine, Call, step, state}
 use Rattle.history.specs.Log.{Entry, noEntry, tickAt, demandAt}
 use Rattle.history.specs.Report.{finished}
@@ -136,15 +135,6 @@ module _ {x : Standing} {g : List Call} {gone : ℕ → Bool} {now : ℕ} {W : A
     offset-is =
         let h : i < p .tasks = omega (arith, known, in-count p) in
         F .offsets-are i h ∙ sym (ap (λ (t : Task). t .offset) (in-task p i h))
-
-    pub finish-offset : row offsets i ≤ 100000
-    finish-offset =
-        omega (
-          arith,
-          offset-is,
-          plan-limits p (F .accepted) .offset-high i known,
-          plan-limits p (F .accepted) .separation-high i known,
-        )
 
     -- with i's first owner taken off
     abbrev then-owners : ℕ → List ℕ

@@ -8,7 +8,7 @@
 use Prim.Native.Nat.{ℕ, zero, suc, pred, _+_, _-_, _≤_, _<_, min}
 use mathlib.Core.Bool.{Bool, true, false, cond, not, _&&_, _||_, true≢false, false≢true, and-true, or-true, and-eq-true-iff}
 use mathlib.Core.Path.{_≡_, refl, sym, ap, subst, fun-ext, _∙_}
-use mathlib.Core.Logic.{_≢_, _⊎_, ⊎-elim}
+use mathlib.Core.Logic.{_≢_, ⊎-elim}
 use mathlib.Core.List.{List, [], _∷_}
 use native.Mathlib.Nat.{eq-or-lt-of-le, le-of-suc-le-suc}
 use native.Mathlib.Omega.{arith}
@@ -21,7 +21,6 @@ use Rattle.machine.specs.Machine.{Job, job, Machine, pending, waiting, runs, le
 use Rattle.machine.specs.Sound.{reached-sound}
 use Rattle.machine.specs.Choice.{earliest}
 use Rattle.state.specs.FitLaws.{in-cores, plan-limits}
-use Rattle.history.specs.Engine as history
 use Rattle.history.specs.Engine.{Engine, Call, step, state}
 use Rattle.history.specs.EngineLaws.{clock-wait}
 use Rattle.history.specs.Log.{wait}

@@ -2,7 +2,7 @@
 --     pending-kept, pending-less      with some loops' first owners taken off no more are pending, and fewer if one of those loops had one
 --     lowest-stops                    the least of some ticks and the first places' work is one place's work, if it is below the ticks
 --     work-none                       a running place with just so much work has none left
-use Prim.Native.Nat.{ℕ, zero, suc, _-_, _≤_, _<_, min}
+use Prim.Native.Nat.{ℕ, zero, suc, _≤_, _<_, min}
 use mathlib.Core.Bool.{Bool, true, false, cond}
 use mathlib.Core.Path.{_≡_, refl, _∙_}
 use mathlib.Core.List.{List}

@@ -1,5 +1,5 @@
 -- What a leap's parts need, from where the run stands, and how leaps join.
---     ready-cores, ready-few        the numbers of cores and heads are in range
+--     ready-few        the numbers of cores and heads are in range
 --     reaches-none                  no leap: the run stands where it stood
 --     reaches-ready                 where a leap leads, the next may be made
 --     reaches-more                  two leaps are one
@@ -8,7 +8,7 @@ use Prim.Native.Nat.{ℕ, _+_, _-_, _≤_}
 use mathlib.Core.Path.{_≡_, sym, ap, subst, _∙_}
 use mathlib.Core.List.{List}
 use native.Mathlib.Omega.{arith}
-use Rattle.state.specs.FitLaws.{plan-limits, in-cores}
+use Rattle.state.specs.FitLaws.{plan-limits}
 use Rattle.history.specs.EngineLaws.{clock-wait}
 use Rattle.history.specs.Log.{wait}
 use Rattle.heads.specs.RoomLaws.{heads-few}
@@ -18,9 +18,6 @@ use Rattle.running.specs.Leap.{Standing, later, Stands, Frame, Ready, Re
 use Rattle.running.specs.LeapLaws.{ready-waits}
 
 module _ {x : Standing} {bytes : List ℕ} {cores : ℕ} {offsets : List ℕ} {clock to : ℕ} {W : Arrays} (R : Ready x bytes cores offsets clock to W) where
-  pub ready-cores : cores ≤ 8
-  ready-cores = omega (arith, R .frame .cores-are, in-cores (x .plan), plan-limits (x .plan) (R .frame .accepted) .cores-high)
-
   pub ready-few : W .heads ≤ 16
   ready-few =
       heads-few

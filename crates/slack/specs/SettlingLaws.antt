@@ -1,6 +1,6 @@
 -- The turns of the code that raises slack.
---     upto-below, upto-above, upto-more, upto-same    a row that is f below n and g from n on
---     sweep-none, sweep-old, sweep-set, sweep-keep    an array changed in order: the start, and a turn
+--     upto-below, upto-above, upto-more    a row that is f below n and g from n on
+--     sweep-none, sweep-old, sweep-set    an array changed in order: the start, and a turn
 --     changed-more, changed-same                      whether the test held at an index below n
 use Prim.Native.Nat.{ℕ, _+_, _≤_, _<_}
 use mathlib.Core.Path.{_≡_, refl, sym, _∙_, ap}
@@ -49,15 +49,6 @@ module _ (f g : ℕ → ℕ) where
   pub upto-more : (n : ℕ) → set (tab (upto n f g) 16) n (f n) ≡ tab (upto (n + 1) f g) 16
   upto-more n = set-tab (upto n f g) 16 n (f n) ∙ tab-ext _ _ 16 (λ i h. upto-next n i)
 
-  pub upto-same : (n : ℕ) → f n ≡ g n → tab (upto n f g) 16 ≡ tab (upto (n + 1) f g) 16
-  upto-same n e = tab-ext _ _ 16 (λ i h. go i (eqb i n) refl)
-    where
-      go : (i : ℕ) (b : Bool) → eqb i n ≡ b → upto n f g i ≡ upto (n + 1) f g i
-      go i true q =
-          let k = eqb-true i n q in
-          upto-above n i (omega arith) ∙ ap g k ∙ sym e ∙ ap f (sym k) ∙ sym (upto-below (n + 1) i (omega arith))
-      go i false q = rw q at (upto-next n i)
-
 -- an array of sixteen, changed in order from the row g to the row f
 module _ (f g : ℕ → ℕ) (l : List ℕ) (n : ℕ) (h : n < 16) (e : l ≡ tab (upto n f g) 16) where
   pub sweep-old : row l n ≡ g n
@@ -66,9 +57,6 @@ module _ (f g : ℕ → ℕ) (l : List ℕ) (n : ℕ) (h : n < 16) (e : l ≡ ta
 
   pub sweep-set : set l n (f n) ≡ tab (upto (n + 1) f g) 16
   sweep-set = ap (λ (x : List ℕ). set x n (f n)) e ∙ upto-more f g n
-
-  pub sweep-keep : f n ≡ g n → l ≡ tab (upto (n + 1) f g) 16
-  sweep-keep q = e ∙ upto-same f g n q
 
 pub sweep-none : (f : ℕ → ℕ) (l : List ℕ) → length l ≡ 16 → l ≡ tab (upto 0 f (row l)) 16
 unfolding row

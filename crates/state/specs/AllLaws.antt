@@ -2,7 +2,6 @@
 --     both, and-both            a conjunction, taken apart and made
 --     all-at, of-all            allOf holds: p holds at each index, and back
 --     all-step                  one index more, at n + 1
---     all-ext                   tests that agree below n
 --     by-place                  what holds at place p of loop i, for every two of them, holds at each of the 256
 --     loop-of, place-in         the loop and the place of 16 * i + p
 use Prim.Native.Nat.{ℕ, zero, suc, _+_, _*_, _/_, _%_, _<_}
@@ -36,11 +35,6 @@ of-all p (suc n) f = and-both (allOf p n) (p n) (of-all p n (λ i h. f i (omega 
 pub all-step : (p : ℕ → Bool) (n : ℕ) → allOf p (n + 1) ≡ allOf p n && p n
 unfolding allOf
 all-step p n = rw add-one
-
-pub all-ext : (p q : ℕ → Bool) (n : ℕ) → ((i : ℕ) → i < n → p i ≡ q i) → allOf p n ≡ allOf q n
-unfolding allOf
-all-ext p q zero same = refl
-all-ext p q (suc n) same = rw (all-ext p q n (λ i h. same i (omega arith)), same n (omega arith))
 
 pub by-place : (P : ℕ → Type 0) → ((i p : ℕ) → i < 16 → p < 16 → P (16 * i + p)) → (k : ℕ) → k < 256 → P k
 by-place P f k h = subst P (div-add-mod k 16) (f (k / 16) (k % 16) (omega arith) (omega arith))

@@ -11,7 +11,7 @@ use native.Mathlib.Nat.{le-refl, le-suc, le-trans}
 use native.Mathlib.Omega.{arith}
 use lib.ListN.{length, length-append}
 use lib.Dec.{ltb, eqb}
-use borrow.Author.Tests.{ltb-true, ltb-false, leb-false, eqb-true, eq-eqb, ne-eqb}
+use borrow.Author.Tests.{ltb-true, ltb-false, leb-false, eqb-true, ne-eqb}
 use Rattle.tasks.specs.declared.Plan.{Plan}
 use Rattle.tasks.specs.declared.Answer.{Answer}
 use Rattle.tasks.specs.declared.Answer.the-variants.{Accepted, Refused}
@@ -26,7 +26,7 @@ use Rattle.machine.specs.Choice.{earliest}
 use Rattle.machine.specs.Sound.{opened-sound, admitted-sound, advanced-sound, reached-sound}
 use Rattle.machine.specs.Theorem.{reached-holds}
 use Rattle.state.specs.State.{stateOf}
-use Rattle.state.specs.Calls.{openOf, tasksOf, stepTests, releaseTests, releaseOf, tickedOf, notStepped, stepOf}
+use Rattle.state.specs.Calls.{openOf, tasksOf, stepTests, releaseTests, releaseOf, tickedOf, stepOf}
 use Rattle.state.specs.Fit.{Fit}
 use Rattle.state.specs.TidyLaws.{tidy-accepted}
 use Rattle.state.specs.FitLaws.{plan-limits, in-count, in-cores, fit-sound, machine-back}
@@ -93,10 +93,6 @@ module _ (p : Plan) (M : Machine) (F : Fit p M) where
   pub step-state : M .clock < 4000000000 → stepOf (stateOf p M) ≡ tickedOf p (contentOf p .tasks) M
   unfolding stepOf stateOf
   step-state h = rw (tests-before h, same-tasks, machine-back p M F)
-
-  pub step-end : M .clock ≡ 4000000000 → stepOf (stateOf p M) ≡ notStepped (Refused 19 0) (stateOf p M)
-  unfolding stepOf stepTests firstMet stateOf
-  step-end h = rw (fit-sound p M F, eq-eqb (M .clock) 4000000000 h)
 
   pub tests-state : (i c : ℕ) → M .clock < 4000000000 → releaseTests (stateOf p M) i c ≡ admitTests (contentOf p .tasks) M i c
   unfolding releaseTests firstMet

@@ -1,6 +1,5 @@
 -- When a release is taken, and what a step's answer names: the calls' answers in the machine's words.
 --     reached-room        in a machine that is reached 23 is never met where 22 isn't
---     reached-taken       so there an allowed release is taken
 --     named-runs          a step's answer names loop i on some core exactly where the machine chose it
 use Prim.Native.Nat.{ℕ, zero, suc, _+_, _-_, _≤_, _<_}
 use mathlib.Core.Path.{_≡_, refl, sym, _∙_}
@@ -20,18 +19,13 @@ use Rattle.tasks.specs.TaskSet.{TaskSet}
 use Rattle.tasks.specs.Content.{Content}
 use Rattle.tasks.specs.Tests.{tests}
 use Rattle.tasks.specs.TestsLaws.{tests-limits, tests-compliant, tests-bounded}
-use Rattle.machine.specs.Machine.{Machine, tooSoon, full, Allowed, chosen, idle, onCore, runs}
-use Rattle.machine.specs.Admission.{admitTests}
-use Rattle.machine.specs.AdmissionLaws.{allowed-taken}
+use Rattle.machine.specs.Machine.{Machine, tooSoon, full, chosen, idle, onCore, runs}
 use Rattle.machine.specs.Reached.{Reached}
 use Rattle.machine.specs.Theorem.{never-full}
 
 module _ (k : Content) (a : tests k ≡ Accepted) (M : Machine) (r : Reached (k .tasks) M) (i : ℕ) where
   pub reached-room : i < k .tasks .count → tooSoon (k .tasks) M i ≡ false → full M i ≡ false
   reached-room = never-full (k .tasks) (k .slack) (tests-limits k a) (tests-compliant k a) (tests-bounded k a) M r i
-
-  pub reached-taken : (c : ℕ) → Allowed (k .tasks) M i c → admitTests (k .tasks) M i c ≡ Accepted
-  reached-taken c A = allowed-taken (k .tasks) M i c A (reached-room (A .in-table) (A .apart))
 
 -- ---- what an answer names
 

@@ -1,8 +1,7 @@
 -- Laws of the parts that the tests are made of: a refusal at 0, at the lowest index, and the first of a list of tests.
---     refuse-passed, pass-refuse      refuse k b is no refusal exactly where b is false; refuse-met: where b is true
+--     refuse-passed      refuse k b is no refusal exactly where b is false; refuse-met: where b is true
 --     lowest-passed, pass-lowest      lowest k p n is no refusal exactly where p is false below n
 --     lowest-none, lowest-found       its value by what the search for p below n found
---     lowest-at                       its value at an index where p holds with none before
 --     lowest-ext                      tests that agree below n are met alike
 --     firstMet-pass, firstMet-stop    a list that begins with a test passed, or met
 --     firstMet-passed, pass-firstMet  no test of a list is met: not its first, and none of the rest
@@ -19,7 +18,7 @@ use native.Mathlib.Omega.{arith}
 use lib.Dec.{ltb}
 use borrow.Author.Tests.{ltb-false, lt-ltb, le-ltb}
 use Rattle.laws.specs.First.{first}
-use Rattle.laws.specs.FirstLaws.{first-or-none, first-none, none-first, first-unique, first-ext}
+use Rattle.laws.specs.FirstLaws.{first-or-none, first-none, none-first, first-ext}
 use Rattle.tasks.specs.declared.Answer.{Answer}
 use Rattle.tasks.specs.declared.Answer.the-variants.{Accepted, Refused}
 use Rattle.tasks.specs.Tests.{refuse, lowest, orNext, firstMet, outside}
@@ -27,9 +26,6 @@ use Rattle.tasks.specs.Tests.{refuse, lowest, orNext, firstMet, outside}
 pub refuse-passed : (k : ℕ) (b : Bool) → refuse k b ≡ Accepted → b ≡ false
 refuse-passed k true e = cc
 refuse-passed k false e = refl
-
-pub pass-refuse : (k : ℕ) (b : Bool) → b ≡ false → refuse k b ≡ Accepted
-pass-refuse k b e = rw e
 
 pub refuse-met : (k : ℕ) (b : Bool) → b ≡ true → refuse k b ≡ Refused k 0
 refuse-met k b e = rw e
@@ -42,9 +38,6 @@ module _ (k : ℕ) (p : ℕ → Bool) (n : ℕ) where
   pub lowest-found : (i : ℕ) → first p n ≡ i → i < n → lowest k p n ≡ Refused k i
   unfolding lowest
   lowest-found i e h = rw (e, lt-ltb i n h)
-
-  pub lowest-at : (i : ℕ) → i < n → p i ≡ true → ((j : ℕ) → j < i → p j ≡ false) → lowest k p n ≡ Refused k i
-  lowest-at i h e none = lowest-found i (first-unique p n i h e none) h
 
   pub pass-lowest : ((i : ℕ) → i < n → p i ≡ false) → lowest k p n ≡ Accepted
   pass-lowest none = lowest-none (none-first p n none)

@@ -62,9 +62,6 @@ kept-row f z n N h past i = go (ltb i n) refl
         let l = ltb-false i n e in
         cut-above n (λ j. getD (tab f N) j z) z i l ∙ sym (past i l)
 
-pub cut-again : {A : Type 0} (f : ℕ → A) (z : A) (n N : ℕ) → n ≤ N → (i : ℕ) → cut n (λ j. getD (tab (cut n f z) N) j z) z i ≡ cut n f z i
-cut-again f z n N h = kept-row (cut n f z) z n N h (cut-above n f z)
-
 -- the mark keeps a count that is 0 or n
 kept-offers : (x n : ℕ) → (x ≡ 0) ⊎ (x ≡ n) → cond (not (eqb x 0)) n 0 ≡ x
 kept-offers x n h = go (eqb x 0) refl h

@@ -1,9 +1,8 @@
 -- Found slack: the raising from zeros ends, and where it ends is the least compliant slack.
 --     found-compliant, found-least     it is compliant, and no larger at any loop than any compliant slack
---     found-high                       it is at most 800,000 at every loop
 --     found-length, found-past         it has one entry for each loop, and its row is 0 from there on
 --     found-only, found-unique         no other slack is compliant and least: by loops, and as a list
---     found-still, turn-ends           the search's slack is the found one where a turn changes nothing: by loops, and by `same`
+--     found-still           the search's slack is the found one where a turn changes nothing: by loops, and by `same`
 --     found-array                      so a longer array with zeros after it is the found slack's row
 use Prim.Native.Nat.{ℕ, zero, suc, _+_, _*_, _≤_, _<_}
 use mathlib.Core.Path.{_≡_, refl, sym, _∙_}
@@ -20,7 +19,7 @@ use Rattle.laws.specs.Tab.{tab}
 use Rattle.laws.specs.TabLaws.{ext-tab}
 use Rattle.tasks.specs.TaskSet.{TaskSet, Compliant, row, raise, same, unless, settle, found}
 use Rattle.tasks.specs.Limits.{Limits}
-use Rattle.tasks.specs.RisingLaws.{Raised, Rising, raise-row, raise-length, same-true, same-false, rising-start, rising-step, rising-high, rising-sum, rising-more, still-compliant}
+use Rattle.tasks.specs.RisingLaws.{Raised, Rising, raise-row, raise-length, same-true, same-false, rising-start, rising-step, rising-sum, rising-more, still-compliant}
 
 -- slack on the way that a turn leaves as it is
 record Settled (s : TaskSet) (x : List ℕ) : Type 0 where
@@ -65,9 +64,6 @@ module _ (s : TaskSet) (L : Limits s) where
   pub found-least : (y : ℕ → ℕ) → Compliant s y → (k : ℕ) → k < s .count → row (found s) k ≤ y k
   found-least = found-settled .rising .least
 
-  pub found-high : (k : ℕ) → k < s .count → row (found s) k ≤ 800000
-  found-high = rising-high s L (row (found s)) (found-settled .rising)
-
   pub found-length : length (found s) ≡ s .count
   found-length = found-settled .long
 
@@ -92,11 +88,6 @@ module _ (s : TaskSet) (L : Limits s) where
       (x y : ℕ → ℕ) → Rising s x → Raised s x y → ((k : ℕ) → k < s .count → x k ≡ y k)
       → (k : ℕ) → k < s .count → x k ≡ row (found s) k
   found-still x y r e still = found-only x (still-compliant s L x y e still) (r .least)
-
-  pub turn-ends :
-      (x y : List ℕ) → Rising s (row x) → Raised s (row x) (row y) → same s x y ≡ true
-      → (k : ℕ) → k < s .count → row x k ≡ row (found s) k
-  turn-ends x y r e q = found-still (row x) (row y) r e (same-true s x y q)
 
   pub found-array :
       (x : List ℕ) (n : ℕ) → length x ≡ n → ((k : ℕ) → k < s .count → row x k ≡ row (found s) k)

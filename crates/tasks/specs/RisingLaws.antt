@@ -1,6 +1,6 @@
 -- The slack on its way from zeros, for the search: each turn raises it, no compliant slack is below it, and it comes nearer to the ceiling.
 --     Raised                what a turn makes of a slack; raise-row, raise-length: `raise` does that
---     same-true, same-false, true-same     whether a turn changed nothing, by loops
+--     same-true, same-false     whether a turn changed nothing, by loops
 --     Rising                what holds of every slack on the way: the next turn takes nothing off it, and no compliant slack is below it
 --     rising-start          zeros
 --     rising-step           what a turn makes of it
@@ -8,7 +8,6 @@
 --     rising-sum            so its sum is at most n × 800,000
 --     rising-more           a turn that changes a loop makes the sum larger
 --     rising-falls          and n × 800,000 less the sum smaller: the search's measure
---     turn-falls            the same by `same`, as a loop over arrays tests it
 --     still-compliant       slack that a turn leaves as it is is compliant
 use Prim.Native.Nat.{ℕ, _-_, _*_, _≤_, _<_}
 use mathlib.Core.Path.{_≡_, refl}
@@ -20,9 +19,9 @@ use native.Mathlib.Omega.{arith}
 use lib.ListN.{length}
 use lib.Dec.{eqb}
 use lib.Arith.{lt-of-le-ne}
-use borrow.Author.Tests.{eqb-true, eqb-false, eq-eqb, not-true, not-false}
+use borrow.Author.Tests.{eqb-true, eqb-false, not-true, not-false}
 use Rattle.laws.specs.First.{first}
-use Rattle.laws.specs.FirstLaws.{first-le, first-holds, first-none, none-first}
+use Rattle.laws.specs.FirstLaws.{first-le, first-holds, first-none}
 use Rattle.laws.specs.Sum.{sum}
 use Rattle.laws.specs.SumLaws.{sum-less, sum-le-mul}
 use Rattle.laws.specs.TabLaws.{getD-tab, length-tab}
@@ -49,10 +48,6 @@ module _ (s : TaskSet) where
     pub same-true : same s x y ≡ true → (k : ℕ) → k < s .count → row x k ≡ row y k
     unfolding same
     same-true e k h = eqb-true _ _ (not-false _ (first-none _ (s .count) (eqb-true _ _ e) k h))
-
-    pub true-same : ((k : ℕ) → k < s .count → row x k ≡ row y k) → same s x y ≡ true
-    unfolding same
-    true-same e = eq-eqb _ _ (none-first _ (s .count) (λ k h. rw (eq-eqb (row x k) (row y k) (e k h))))
 
     pub same-false : same s x y ≡ false → (k : ℕ) × (k < s .count) × (row x k ≢ row y k)
     unfolding same
@@ -100,10 +95,3 @@ module _ (s : TaskSet) (L : Limits s) where
 
     pub rising-falls : s .count * 800000 - sum y (s .count) < s .count * 800000 - sum x (s .count)
     rising-falls = omega (arith, rising-more, rising-sum y (rising-step x y r e))
-
-  pub turn-falls :
-      (x y : List ℕ) → Rising s (row x) → Raised s (row x) (row y) → same s x y ≡ false
-      → s .count * 800000 - sum (row y) (s .count) < s .count * 800000 - sum (row x) (s .count)
-  turn-falls x y r e d =
-      let c = same-false s x y d in
-      rising-falls (row x) (row y) r e (c .0) (c .1) (c .2)

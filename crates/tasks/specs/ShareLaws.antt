@@ -5,14 +5,13 @@
 --     hyperperiod-divided      every T divides H
 --     hyperperiod-least        no other number that every T divides is smaller, but 0
 --     share-exact              share × T = H × C
---     share-low, share-le      1 ≤ share ≤ H
---     shares-le                the first k shares add up to k × H at most
+--     share-le      1 ≤ share ≤ H
 --     share-high, surplus-high, surpluses-high, weight-le, weight-high, cover-high
 --                              ceilings in figures, those of weight and cover for slack below 2^32
 --     weight-mono              a weight does not fall as the slack rises
-use Prim.Native.Nat.{ℕ, zero, suc, _+_, _*_, _/_, _%_, _≤_, _<_}
+use Prim.Native.Nat.{ℕ, _+_, _*_, _%_, _≤_, _<_}
 use mathlib.Core.Path.{_≡_, _∙_}
-use native.Mathlib.Nat.{mul-comm, mul-le-mul-left, mul-le-mul, le-of-mul-le-mul-right, le-trans, le-of-lt, one-le-mul, sub-le}
+use native.Mathlib.Nat.{mul-comm, mul-le-mul-left, mul-le-mul, le-of-mul-le-mul-right, le-trans, le-of-lt, sub-le}
 use native.Mathlib.Omega.{arith}
 use Rattle.laws.specs.Sum.{sum}
 use Rattle.laws.specs.SumLaws.{sum-le-mul}
@@ -57,17 +56,6 @@ module _ (s : TaskSet) (F : Timed s) where
       le-of-mul-le-mul-right
       (omega (arith, share-exact i h, mul-le-mul-left (hyperperiod s) (F .budget-high i h)))
       (F .separation-low i h)
-
-  pub share-low : (i : ℕ) → i < s .count → 1 ≤ share s i
-  share-low i h = go (share s i) (share-exact i h) (one-le-mul (hyperperiod-low s) (F .budget-low i h))
-    where
-      go : (k : ℕ) → k * s .task i .separation ≡ hyperperiod s * s .task i .budget →
-          1 ≤ hyperperiod s * s .task i .budget → 1 ≤ k
-      go zero e p = omega arith
-      go (suc k) e p = omega arith
-
-  pub shares-le : (k : ℕ) → k ≤ s .count → sum (share s) k ≤ k * hyperperiod s
-  shares-le k h = sum-le-mul (share s) (hyperperiod s) k (λ i l. share-le i (le-trans l h))
 
 module _ (s : TaskSet) (L : Limits s) where
   pub share-high : (i : ℕ) → i < s .count → share s i ≤ 1000000

@@ -3,14 +3,13 @@
 --     needed-covers      the slack needed for a covers a …
 --     needed-least       … and no smaller slack does
 --     needed-mono        it does not fall as a rises
---     needed-same        slack that covers a and is not above what is needed is what is needed: no division then
 --     compliant-covers, covers-compliant     compliant slack passes the test at every loop, and the other way
 --     compliant-needed, needed-compliant     compliant slack is nowhere below what its own A needs, and the other way
 --     compliant-ext      compliance depends on the slack of the loops alone
 use Prim.Native.Nat.{ℕ, suc, _+_, _-_, _*_, _/_, _≤_, _<_}
 use mathlib.Core.Path.{_≡_}
 use mathlib.Core.Bool.{true}
-use native.Mathlib.Nat.{mul-le-mul-left, le-trans, le-antisymm, one-le-mul, div-lt-iff-lt-mul, lt-div-mul-add}
+use native.Mathlib.Nat.{mul-le-mul-left, le-trans, one-le-mul, div-lt-iff-lt-mul, lt-div-mul-add}
 use native.Mathlib.Omega.{arith}
 use borrow.Author.Tests.{leb-true, le-leb}
 use Rattle.tasks.specs.TaskSet.{TaskSet, hyperperiod, amount, cover, Compliant, covers, needed}
@@ -55,11 +54,6 @@ module _ (s : TaskSet) (L : Limits s) where
 
   pub needed-mono : (a b k : ℕ) → a ≤ b → needed s a k ≤ needed s b k
   needed-mono a b k h = needed-least a k (needed s b k) (le-trans h (needed-covers b k))
-
-  pub needed-same :
-      (a k v : ℕ) → a ≤ s .cores * hyperperiod s * v + hyperperiod s * s .task k .budget → v ≤ needed s a k
-      → needed s a k ≡ v
-  needed-same a k v h l = le-antisymm (needed-least a k v h) l
 
   pub compliant-needed : (x : ℕ → ℕ) → Compliant s x → (k : ℕ) → k < s .count → needed s (amount s x) k ≤ x k
   unfolding Compliant cover
