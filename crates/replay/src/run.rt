@@ -20,7 +20,7 @@ ghost use Rattle.logs.specs.LogBytes.{entriesIn, reportsTo};
 ghost use Rattle.logs.specs.LogStages.{answerOfEntries};
 ghost use Rattle.running.specs.Running.{arrays};
 ghost use Rattle.running.specs.Entered.{Fitting};
-ghost use Rattle.running.specs.RunCode.{takenTo, Begun, EntersTo};
+ghost use Rattle.running.specs.RunCode.{takenTo, Begun, EntersTo, Started, Runs};
 ghost use Rattle.replay.specs.declared.run.Ran.{Ran};
 ghost use Rattle.replay.specs.Ran.{ranOf, runLeaves};
 
@@ -101,26 +101,25 @@ fn enter_all(
     }
 }
 
-// Runs a log, which fits the lent answer, on an accepted plan. Answers how many entries were taken.
-fn replay(plan: Plan, log: &[u8], count: usize, out: &mut [u8]) -> usize
+// All entries of a log, and then so many ticks that nothing is pending. Answers how many entries were taken.
+fn run_all(
+    log: &[u8],
+    count: usize,
+    cores: usize,
+    tasks: usize,
+    separations: &[u32; 16],
+    budgets: &[u32; 16],
+    offsets: &[u32; 16],
+    out: &mut [u8],
+) -> usize
     requires { ⌜
-        Fitting plan (entriesIn (now log)) (now out) × (count ≡ length (entriesIn (now log)))
-        × (length (now log) ≡ 2 + 9 * length (entriesIn (now log)))
+        ((p : Plan) × Started p (now out) (now log) count cores tasks (now separations) (now budgets) (now offsets))
         ⌝ }
     ensures { λ r. ⌜
-        (r ≡ takenTo plan (entriesIn (now (log .entry))) (length (entriesIn (now (log .entry)))))
-        × (now (out .exit)
-        ≡ reportsTo (report (machineEngine (contentOf plan .tasks)) (entriesIn (now (log .entry)))) (length (entriesIn (now (log .entry))))
-        (now (out .entry)))
+        Runs (now (log .entry)) count cores tasks (now (separations .entry)) (now (budgets .entry)) (now (offsets .entry)) (now (out .entry)) r
+        (now (out .exit))
         ⌝ }
 {
-    let cores = plan.cores;
-    let tasks = plan.tasks;
-    let task = plan.task;
-    let columns = split(task, tasks);
-    let separations = columns.separation;
-    let budgets = columns.budget;
-    let offsets = columns.offset;
     let mut jobs = [0usize; 16];
     let mut released = [false; 16];
     let mut last = [0u32; 16];
@@ -132,9 +131,9 @@ fn replay(plan: Plan, log: &[u8], count: usize, out: &mut [u8]) -> usize
         count,
         cores,
         tasks,
-        &separations,
-        &budgets,
-        &offsets,
+        separations,
+        budgets,
+        offsets,
         &mut jobs,
         &mut released,
         &mut last,
@@ -150,7 +149,7 @@ fn replay(plan: Plan, log: &[u8], count: usize, out: &mut [u8]) -> usize
         to,
         cores,
         log,
-        &offsets,
+        offsets,
         &mut jobs,
         &mut owners,
         &mut key,
@@ -159,6 +158,37 @@ fn replay(plan: Plan, log: &[u8], count: usize, out: &mut [u8]) -> usize
         out,
     );
     place.taken
+}
+
+// Runs a log, which fits the lent answer, on an accepted plan. Answers how many entries were taken.
+fn replay(plan: Plan, log: &[u8], count: usize, out: &mut [u8]) -> usize
+    requires { ⌜
+        Fitting plan (entriesIn (now log)) (now out) × (count ≡ length (entriesIn (now log)))
+        × (length (now log) ≡ 2 + 9 * length (entriesIn (now log)))
+        ⌝ }
+    ensures { λ r. ⌜
+        (r ≡ takenTo plan (entriesIn (now (log .entry))) (length (entriesIn (now (log .entry)))))
+        × (now (out .exit)
+        ≡ reportsTo (report (machineEngine (contentOf plan .tasks)) (entriesIn (now (log .entry)))) (length (entriesIn (now (log .entry))))
+        (now (out .entry)))
+        ⌝ }
+{
+    let tasks = plan.tasks;
+    let task = plan.task;
+    let columns = split(task, tasks);
+    let separations = columns.separation;
+    let budgets = columns.budget;
+    let offsets = columns.offset;
+    run_all(
+        log,
+        count,
+        plan.cores,
+        tasks,
+        &separations,
+        &budgets,
+        &offsets,
+        out,
+    )
 }
 
 fn refused(answer: Answer) -> Ran

@@ -3,7 +3,9 @@
 --     takenTo p l e                    how many of the first e entries are taken; taken-none, taken-more, taken-few
 --     Begun, EntersTo                  before the first entry; what the code that enters e entries gives
 --     enters-none, enters-ready, enters-more, enters-few      no entry; the next may be entered; one more, of which no more are taken
---     run-begun                        before the first entry
+--     Started, Runs                    begun with nothing pending; what the code of the whole run gives
+--     run-begun                        before the first entry, by the columns of a plan
+--     run-clock                        the clock after the last entry
 --     run-ready, run-end               after the last entry: the leaps until nothing is pending may be made, and then the answer is the document's
 use Prim.Native.Nat.{ℕ, zero, suc, _+_, _-_, _*_, _≤_, _<_}
 use mathlib.Core.Bool.{Bool, true, false, cond}
@@ -77,40 +79,6 @@ module _ (p : Plan) (l : List Entry) where
       one true = omega arith
       one false = omega arith
 
-module _ {p : Plan} {out₀ : List ℕ} (log : List ℕ) {e clock : ℕ} {separations budgets offsets : List ℕ} {W : Arrays} {released : List Bool} {last : List ℕ}
-    (X : Entered p (entriesIn log) out₀ e clock W released last) (C : Columns p (p .tasks) separations budgets offsets)
-    (long : length log ≡ 2 + 9 * length (entriesIn log)) (all : e ≡ length (entriesIn log)) where
-  abbrev l : List Entry
-  l = entriesIn log
-
-  pub run-clock : clock ≤ 1000000000
-  run-clock = entered-clock X (omega arith)
-
-  ready : (to : ℕ) → to ≤ 4000000000 → Ready (standing X) log (p .cores) offsets clock to W
-  ready to far = entered-ready X refl long (C .offsets-are) (omega arith) far
-
-  pub run-ready : (x : Standing) × Ready x log (p .cores) offsets clock (clock + 1600000) W
-  run-ready = (standing X, ready (clock + 1600000) (omega (arith, run-clock)))
-
-  pub run-end :
-      {W′ : Arrays} → Advanced log (p .cores) offsets clock (clock + 1600000) W (clock + 1600000) W′
-      → W′ .out ≡ reportsTo (report (machineEngine (contentOf p .tasks)) l) (length l) out₀
-  run-end {W′} A = go (clock + 1600000) (omega arith) (omega (arith, run-clock)) A
-    where
-      go :
-          (to : ℕ) → clock + 1600000 ≤ to → to ≤ 4000000000 → Advanced log (p .cores) offsets clock to W to W′
-          → W′ .out ≡ reportsTo (report (machineEngine (contentOf p .tasks)) l) (length l) out₀
-      go to far-on far B = let R = B (standing X) (ready to far) in said (R .owned-by) (R .stands .book)
-        where
-          said :
-              (O : ℕ → List ℕ) → Book p l out₀ e (wait (to - clock) (calls l e)) O (W′ .out)
-              → W′ .out ≡ reportsTo (report (machineEngine (contentOf p .tasks)) l) (length l) out₀
-          said O K =
-              let enough : longest ≤ to - clock = omega arith in
-              end-reports (X .fitting) enough (subst (λ n. Book p l out₀ n (wait (to - clock) (calls l n)) O (W′ .out)) all K)
-
--- ---- all entries
-
 pub record Begun (p : Plan) (out₀ log : List ℕ) (m cores tasks : ℕ) (separations budgets offsets : List ℕ) (W : Arrays)
     (released : List Bool) (last : List ℕ) : Type 0 where
   pub entered : Entered p (entriesIn log) out₀ 0 0 W released last
@@ -118,6 +86,43 @@ pub record Begun (p : Plan) (out₀ log : List ℕ) (m cores tasks : ℕ) (separ
   pub long : length log ≡ 2 + 9 * length (entriesIn log)
   pub cores-are : cores ≡ p .cores
   pub columns : Columns p tasks separations budgets offsets
+
+-- after the entries of a log that was begun
+module _ {p : Plan} {out₀ log : List ℕ} {e cores tasks clock : ℕ} {separations budgets offsets : List ℕ} {U W : Arrays} {started released : List Bool} {first last : List ℕ}
+    (B : Begun p out₀ log e cores tasks separations budgets offsets U started first)
+    (X : Entered p (entriesIn log) out₀ e clock W released last) where
+  abbrev l : List Entry
+  l = entriesIn log
+
+  pub run-clock : clock ≤ 1000000000
+  run-clock = entered-clock X (omega (arith, B .all))
+
+  ready : (to : ℕ) → to ≤ 4000000000 → Ready (standing X) log cores offsets clock to W
+  ready to far =
+      rw (B .cores-are)
+      (entered-ready X refl (B .long) (λ i h. B .columns .offsets-are i (omega (arith, B .columns .tasks-are))) (omega (arith, B .all)) far)
+
+  pub run-ready : (x : Standing) × Ready x log cores offsets clock (clock + 1600000) W
+  run-ready = (standing X, ready (clock + 1600000) (omega (arith, run-clock)))
+
+  pub run-end :
+      {W′ : Arrays} → Advanced log cores offsets clock (clock + 1600000) W (clock + 1600000) W′
+      → W′ .out ≡ reportsTo (report (machineEngine (contentOf p .tasks)) l) (length l) out₀
+  run-end {W′} A = go (clock + 1600000) (omega arith) (omega (arith, run-clock)) A
+    where
+      go :
+          (to : ℕ) → clock + 1600000 ≤ to → to ≤ 4000000000 → Advanced log cores offsets clock to W to W′
+          → W′ .out ≡ reportsTo (report (machineEngine (contentOf p .tasks)) l) (length l) out₀
+      go to far-on far G = let R = G (standing X) (ready to far) in said (R .owned-by) (R .stands .book)
+        where
+          said :
+              (O : ℕ → List ℕ) → Book p l out₀ e (wait (to - clock) (calls l e)) O (W′ .out)
+              → W′ .out ≡ reportsTo (report (machineEngine (contentOf p .tasks)) l) (length l) out₀
+          said O K =
+              let enough : longest ≤ to - clock = omega arith in
+              end-reports (X .fitting) enough (subst (λ n. Book p l out₀ n (wait (to - clock) (calls l n)) O (W′ .out)) (B .all) K)
+
+-- ---- all entries
 
 abbrev pub EntersTo :
     List ℕ → ℕ → ℕ → ℕ → List ℕ → List ℕ → List ℕ → Arrays → List Bool → List ℕ → ℕ → ℕ → ℕ → Arrays → List Bool → List ℕ → Type 0
@@ -159,14 +164,26 @@ module _ {log : List ℕ} {m cores tasks : ℕ} {separations budgets offsets : L
           ((p : Plan) × ((out₀ : List ℕ) × Begun p out₀ log m cores tasks separations budgets offsets W released last)) → took + one ≤ e + 1
       enters-few P = let t = enters-more (P .0) (P .1 .0) (P .1 .1) .1 in rw t (taken-few (P .0) (entriesIn log) (e + 1))
 
+-- begun with nothing pending
+abbrev pub Started : Plan → List ℕ → List ℕ → ℕ → ℕ → ℕ → List ℕ → List ℕ → List ℕ → Type 0
+Started p out log m cores tasks separations budgets offsets =
+    Begun p out log m cores tasks separations budgets offsets
+    (arrays (replicate 16 0) (replicate 256 0) (replicate 16 0) (replicate 16 0) 0 out) (replicate 16 false) (replicate 16 0)
+
+-- the run of all entries, and of what is pending after them
+abbrev pub Runs : List ℕ → ℕ → ℕ → ℕ → List ℕ → List ℕ → List ℕ → List ℕ → ℕ → List ℕ → Type 0
+Runs log m cores tasks separations budgets offsets out took out′ =
+    (p : Plan) → Started p out log m cores tasks separations budgets offsets
+    → (took ≡ takenTo p (entriesIn log) (length (entriesIn log)))
+    × (out′ ≡ reportsTo (report (machineEngine (contentOf p .tasks)) (entriesIn log)) (length (entriesIn log)) out)
+
 pub run-begun :
-    {p : Plan} {out log : List ℕ} {m : ℕ} {separations budgets offsets key left : List ℕ} → Fitting p (entriesIn log) out → m ≡ length (entriesIn log)
+    {p : Plan} {out log : List ℕ} {m : ℕ} {separations budgets offsets : List ℕ} → Fitting p (entriesIn log) out → m ≡ length (entriesIn log)
     → length log ≡ 2 + 9 * length (entriesIn log)
     → separations ≡ tab (cut (p .tasks) (λ i. taskOf (p .task) i .separation) 0) 16
     → budgets ≡ tab (cut (p .tasks) (λ i. taskOf (p .task) i .budget) 0) 16
     → offsets ≡ tab (cut (p .tasks) (λ i. taskOf (p .task) i .offset) 0) 16
-    → Begun p out log m (p .cores) (p .tasks) separations budgets offsets (arrays (replicate 16 0) (replicate 256 0) key left 0 out) (replicate 16 false)
-    (replicate 16 0)
+    → Started p out log m (p .cores) (p .tasks) separations budgets offsets
 run-begun {p} F all long a b c =
     record {
       entered = entered-none F;
