@@ -20,7 +20,7 @@ use Rattle.tasks.specs.AnswerLaws.{firstMet-passed}
 use Rattle.table.specs.declared.Judgement.{Judgement}
 use Rattle.codec.specs.Bytes.{digits, entries}
 use Rattle.codec.specs.ByteLaws.{length-digits, length-entries, entries-same}
-use Rattle.codec.specs.StoreLaws.{sets-whole}
+use Rattle.laws.specs.SetsLaws.{sets-whole}
 use Rattle.codec.specs.Table.{taskCount, taskSetIn, contentIn, verdict}
 use Rattle.table.specs.Judged.{judged}
 use Rattle.replay.specs.declared.run.Ran.{Ran}

@@ -1,5 +1,4 @@
 -- Laws of text that is stored piece by piece. `sets l i v` is l with v stored from i on.
---     sets-behind    v stored behind u
 --     words-next     one byte more of words that are copied
 --     put-one        the digit of a number below 10
 --     put-more       the last digit of any other behind its higher ones
@@ -12,18 +11,15 @@ use mathlib.Core.Path.{_≡_, refl}
 use mathlib.Core.List.{List, [], _∷_, _++_}
 use lib.ListN.{length, getD, set, take, length-append}
 use lib.Seq.{sets, take-suc, length-take-le}
+use Rattle.laws.specs.SetsLaws.{sets-next}
 use Rattle.decimal.specs.Decimal.{decimal, Stored}
 use Rattle.decimal.specs.DecimalLaws.{decimal-one, decimal-more, length-more}
-
-pub sets-behind : (l : List ℕ) (i j : ℕ) (u v : List ℕ) → j ≡ i + length u → sets (sets l i u) j v ≡ sets l i (u ++ v)
-sets-behind l i j [] v e = rw (e, add-zero)
-sets-behind l i j (a ∷ u) v e = sets-behind (set l i a) (suc i) j u v (omega arith)
 
 pub words-next :
     (l u w : List ℕ) (at i : ℕ) → u ≡ sets l at (take i w) → i < length w → set u (at + i) (getD w i 0) ≡ sets l at (take (i + 1) w)
 words-next l u w at i e h =
     rw (e, add-one, take-suc w i 0 h)
-    (sets-behind l at (at + i) (take i w) (getD w i 0 ∷ []) (omega (arith, length-take-le i w (omega arith))))
+    (sets-next l at (at + i) (take i w) (getD w i 0 ∷ []) (omega (arith, length-take-le i w (omega arith))))
 
 pub put-one : (l : List ℕ) (at v : ℕ) → v < 10 → Stored l at (decimal v) (at + 1) (set l at (48 + v))
 put-one l at v h = rw (decimal-one v h) (record { place = refl; left = refl })
@@ -34,7 +30,7 @@ pub put-more :
 put-more {l} {u} {at} {last} v h s =
     record {
       place = omega (arith, length-more v h, s .place);
-      left = rw (s .left, decimal-more v h) (sets-behind l at last (decimal (v / 10)) ((48 + v % 10) ∷ []) (s .place));
+      left = rw (s .left, decimal-more v h) (sets-next l at last (decimal (v / 10)) ((48 + v % 10) ∷ []) (s .place));
     }
 
 pub put-behind :
@@ -42,5 +38,5 @@ pub put-behind :
 put-behind {l} {l₁} {l₂} {u} {v} {at} {from} {end} s r =
     record {
       place = omega (arith, length-append u v, s .place, r .place);
-      left = rw (r .left, s .left) (sets-behind l at from u v (s .place));
+      left = rw (r .left, s .left) (sets-next l at from u v (s .place));
     }

@@ -12,3 +12,4 @@ pub mod SumLaws
 pub mod RankLaws
 pub mod LargestLaws
 pub mod ChoiceLaws
+pub mod SetsLaws

@@ -17,7 +17,7 @@ use Rattle.tasks.specs.Content.{Content, contentOf, taskOf, noTask}
 use Rattle.codec.specs.Bytes.{digits, entries}
 use Rattle.codec.specs.Table.{taskSize, tasksFrom, slackFrom, tableLength, taskBytes, bytesOf}
 use Rattle.codec.specs.ByteLaws.{length-digits, length-entries, entries-same}
-use Rattle.codec.specs.StoreLaws.{sets-three, sets-whole}
+use Rattle.laws.specs.SetsLaws.{sets-three, sets-whole}
 use Rattle.codec.specs.TaskLaws.{length-task}
 
 pub length-bytes : (c : Content) → length (bytesOf c) ≡ tableLength (c .tasks .cores) (c .tasks .count) (c .offers)

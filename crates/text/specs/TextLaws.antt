@@ -24,7 +24,7 @@ use Rattle.codec.specs.ByteLaws.{Bytes}
 use Rattle.codec.specs.Table.{coreCount, taskCount, slackCount, tasksAt, slackAt, contentIn, test1, test2, verdict}
 use Rattle.table.specs.declared.Judgement.{Judgement}
 use Rattle.table.specs.Judged.{judged}
-use Rattle.table.specs.WriteLaws.{sets-whole}
+use Rattle.laws.specs.SetsLaws.{sets-whole}
 use Rattle.roundtrip.specs.SectionLaws.{verdict-parts}
 use Rattle.roundtrip.specs.RoundTrip.{judged-kept}
 use Rattle.decimal.specs.Decimal.{Stored}

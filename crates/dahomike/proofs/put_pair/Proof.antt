@@ -4,7 +4,7 @@ use Prim.Native.Nat.{ℕ, _+_}
 use lib.Seq.{sets}
 use Rattle.codec.specs.Bytes.{digits}
 use mathlib.Core.Path.{_≡_, _∙_}
-use Rattle.codec.specs.StoreLaws.{sets-next}
+use Rattle.laws.specs.SetsLaws.{sets-next}
 use Rattle.codec.specs.ByteLaws.{length-digits}
 use native.Mathlib.Omega.{arith}
 use borrow.Author.Needs.{needs}

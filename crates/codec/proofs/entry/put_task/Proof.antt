@@ -4,7 +4,7 @@ use native.Mathlib.Omega.{arith}
 use borrow.Author.Needs.{needs}
 use Rattle.codec.specs.Table.{taskBytes}
 use Rattle.codec.specs.ByteLaws.{length-digits}
-use Rattle.codec.specs.StoreLaws.{sets-three}
+use Rattle.laws.specs.SetsLaws.{sets-three}
 use Rattle.codec.specs.Bytes.{digits}
 use Rattle.codec.proofs.entry.put_task.Statement.{statement}
 use Rattle.codec.proofs.entry.put_task.Tie as tie

@@ -4,7 +4,7 @@ use native.Mathlib.Omega.{arith}
 use lib.ListN.{length-set}
 use borrow.Author.Needs.{needs}
 use Rattle.codec.specs.Bytes.{digits}
-use Rattle.codec.specs.StoreLaws.{sets-four}
+use Rattle.laws.specs.SetsLaws.{sets-four}
 use Rattle.codec.proofs.numbers.put4.Statement.{statement}
 use Rattle.codec.proofs.numbers.put4.Tie as tie
 

@@ -4,7 +4,7 @@ use native.Mathlib.Omega.{arith}
 use mathlib.Core.Path.{_∙_}
 use Rattle.codec.specs.Bytes.{digits}
 use Rattle.codec.specs.ByteLaws.{length-digits}
-use Rattle.codec.specs.StoreLaws.{sets-next}
+use Rattle.laws.specs.SetsLaws.{sets-next}
 use borrow.Author.Needs.{needs}
 use Rattle.logs.proofs.report.put_report.Statement.{statement}
 use Rattle.logs.proofs.report.put_report.Tie as tie
