@@ -46,7 +46,7 @@ fn found_test(plan: Plan, found: [u32; 16]) -> Answer
     let other = first_other(&slack, &found, tasks);
     if other < tasks {
         return Answer::Refused {
-            number: refusal::SLACK,
+            number: refusal::SLACK_NOT_COMPLIANT,
             index: other as u16,
         };
     }

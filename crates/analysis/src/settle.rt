@@ -1,12 +1,12 @@
 // A plan's tests 3 to 12 and the slack that it has: offered slack is tested, and slack that is not offered is found.
 use fields::columns::split;
-use fields::fields::fields;
 use fields::frame::frame;
+use fields::ranges::task_ranges;
 use slack::amount::amount;
 use slack::amount::first_chosen;
 use slack::rates::rate;
-use slack::slack::first_uncovered;
-use slack::slack::search;
+use slack::vector::first_uncovered;
+use slack::vector::search;
 use tasks::Answer;
 use tasks::Plan;
 use tasks::refusal;
@@ -54,7 +54,7 @@ fn offered(
     let bad = first_uncovered(&used, budget, whole, multiple, cores as u64, tasks);
     if bad < tasks {
         return unsettled(Answer::Refused {
-            number: refusal::SLACK,
+            number: refusal::SLACK_NOT_COMPLIANT,
             index: bad as u16,
         });
     }
@@ -100,7 +100,7 @@ fn settle_rated(
     }
     if offers != tasks {
         return unsettled(Answer::Refused {
-            number: refusal::SLACK_COUNT,
+            number: refusal::SLACK_COUNT_WRONG,
             index: 0,
         });
     }
@@ -123,7 +123,7 @@ fn settle_tasks(plan: Plan, offers: usize) -> Settled
 {
     let tasks = plan.tasks;
     let task = plan.task;
-    let fielded = fields(task, tasks);
+    let fielded = task_ranges(task, tasks);
     let Answer::Accepted = fielded else {
         return unsettled(fielded);
     };

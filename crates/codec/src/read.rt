@@ -42,27 +42,27 @@ pub fn read_counts(t: &[u8]) -> Counts
     ensures { λ r. ⌜ Counted (now (t .entry)) r ⌝ }
 {
     if t.len() < 1 {
-        return refused(refusal::EDITION);
+        return refused(refusal::EDITION_UNKNOWN);
     }
     if count_at(t, 0) != 1 {
-        return refused(refusal::EDITION);
+        return refused(refusal::EDITION_UNKNOWN);
     }
     if t.len() < 2 {
-        return refused(refusal::LENGTH);
+        return refused(refusal::LENGTH_WRONG);
     }
     let cores = count_at(t, 1);
     let second = tasks_from(cores);
     if t.len() <= second {
-        return refused(refusal::LENGTH);
+        return refused(refusal::LENGTH_WRONG);
     }
     let tasks = count_at(t, second);
     let third = slack_from(cores, tasks);
     if t.len() <= third {
-        return refused(refusal::LENGTH);
+        return refused(refusal::LENGTH_WRONG);
     }
     let offers = count_at(t, third);
     if t.len() != table_length(cores, tasks, offers) {
-        return refused(refusal::LENGTH);
+        return refused(refusal::LENGTH_WRONG);
     }
     Counts::Read {
         cores,

@@ -63,7 +63,7 @@ pub extern "C" fn dahomike_judge(table: &[u8], out: &mut [u8]) -> u64
     let tasks = plan.tasks;
     if out.len() < 8 * tasks {
         return refused(Answer::Refused {
-            number: refusal::BUFFER,
+            number: refusal::BUFFER_TOO_SHORT,
             index: 0,
         });
     }

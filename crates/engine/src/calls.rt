@@ -26,13 +26,13 @@ fn step_test(state: State) -> Answer
 {
     if !sound(state) {
         return Answer::Refused {
-            number: refusal::SOUND,
+            number: refusal::STATE_NOT_SOUND,
             index: 0,
         };
     }
     if state.clock == limits::CLOCK_END {
         return Answer::Refused {
-            number: refusal::CLOCK,
+            number: refusal::CLOCK_AT_ITS_END,
             index: 0,
         };
     }
@@ -63,25 +63,25 @@ pub fn admission_test(
 {
     if demand < 1 {
         return Answer::Refused {
-            number: refusal::DEMAND,
+            number: refusal::DEMAND_OUTSIDE,
             index: 0,
         };
     }
     if budget < demand {
         return Answer::Refused {
-            number: refusal::DEMAND,
+            number: refusal::DEMAND_OUTSIDE,
             index: 0,
         };
     }
     if too_soon(separation, clock, flag, last) {
         return Answer::Refused {
-            number: refusal::APART,
+            number: refusal::RELEASE_TOO_SOON,
             index: 0,
         };
     }
     if limits::JOBS_HIGH <= jobs {
         return Answer::Refused {
-            number: refusal::ROOM,
+            number: refusal::NO_PLACE_FREE,
             index: 0,
         };
     }
@@ -118,7 +118,7 @@ pub fn release(state: State, task: usize, demand: u32) -> Released
     if tasks <= task {
         return Released {
             answer: Answer::Refused {
-                number: refusal::KNOWN,
+                number: refusal::TASK_NOT_IN_TABLE,
                 index: 0,
             },
             state,

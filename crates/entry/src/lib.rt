@@ -81,7 +81,7 @@ fn hand(
         ⌝ }
 {
     if tasks <= task {
-        put_refused(out, e, refusal::KNOWN);
+        put_refused(out, e, refusal::TASK_NOT_IN_TABLE);
         return stay(tick, heads, 0);
     }
     let held = jobs[task];
@@ -153,7 +153,7 @@ pub fn enter(
     let entry = release_at(log, e);
     let tick = entry.tick;
     if tick < clock {
-        put_refused(out, e, refusal::BACK);
+        put_refused(out, e, refusal::TICK_GOES_BACK);
         return stay(clock, heads, 0);
     }
     let heads = advance(

@@ -51,7 +51,7 @@ pub fn bounds(plan: Plan, slack: [u32; 16]) -> Answer
     let over = first_over(task, slack, tasks);
     if over < tasks {
         return Answer::Refused {
-            number: refusal::BOUND,
+            number: refusal::BOUND_TOO_LARGE,
             index: over as u16,
         };
     }

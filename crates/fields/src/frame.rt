@@ -43,32 +43,32 @@ pub fn frame(cores: usize, labels: &[u8; 8], tasks: usize) -> Answer
 {
     if cores < limits::CORES_LOW {
         return Answer::Refused {
-            number: refusal::CORES,
+            number: refusal::CORES_OUTSIDE,
             index: 0,
         };
     }
     if limits::CORES_HIGH < cores {
         return Answer::Refused {
-            number: refusal::CORES,
+            number: refusal::CORES_OUTSIDE,
             index: 0,
         };
     }
     let bad = bad_label(labels, cores);
     if bad < cores {
         return Answer::Refused {
-            number: refusal::LABEL,
+            number: refusal::LABEL_WRONG,
             index: bad as u16,
         };
     }
     if tasks <= cores {
         return Answer::Refused {
-            number: refusal::TASKS,
+            number: refusal::TASK_COUNT_OUTSIDE,
             index: 0,
         };
     }
     if limits::TASKS_HIGH < tasks {
         return Answer::Refused {
-            number: refusal::TASKS,
+            number: refusal::TASK_COUNT_OUTSIDE,
             index: 0,
         };
     }

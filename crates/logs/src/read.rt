@@ -60,15 +60,15 @@ pub fn read_entries(log: &[u8]) -> Entries
     ensures { λ r. ⌜ EntriesRead (now (log .entry)) r ⌝ }
 {
     if log.len() < 2 {
-        return refused(refusal::LOG_LENGTH, 0);
+        return refused(refusal::LOG_LENGTH_WRONG, 0);
     }
     let count = count(log);
     if log.len() != 2 + 9 * count {
-        return refused(refusal::LOG_LENGTH, 0);
+        return refused(refusal::LOG_LENGTH_WRONG, 0);
     }
     let late = first_late(log, count);
     if late < count {
-        return refused(refusal::LOG_TICK, late as u16);
+        return refused(refusal::LOG_TICK_TOO_LATE, late as u16);
     }
     Entries::Read { count }
 }

@@ -230,7 +230,7 @@ pub fn run_log(table: &[u8], log: &[u8], out: &mut [u8]) -> Ran
     };
     if out.len() < 8 * count {
         return refused(Answer::Refused {
-            number: refusal::ANSWER,
+            number: refusal::ANSWER_TOO_SHORT,
             index: 0,
         });
     }

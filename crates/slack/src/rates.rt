@@ -82,12 +82,12 @@ pub fn rate(
 {
     let multiple = common_multiple(separation, tasks);
     if limits::MULTIPLE_HIGH < multiple {
-        return refused(refusal::MULTIPLE);
+        return refused(refusal::HYPERPERIOD_TOO_LARGE);
     }
     let share = shares(separation, budget, multiple, tasks);
     let all = total(&share, tasks);
     if (cores as u64) * multiple < all {
-        return refused(refusal::SHARES);
+        return refused(refusal::SHARES_TOO_LARGE);
     }
     let surplus = surplus_of(&share, separation, offset, tasks);
     Rates {

@@ -1,48 +1,48 @@
-// Document 01's refusal numbers, by name.
-pub const EDITION: u8 = 1;
+// Document 01's refusal numbers, by what is wrong.
+pub const EDITION_UNKNOWN: u8 = 1;
 
-pub const LENGTH: u8 = 2;
+pub const LENGTH_WRONG: u8 = 2;
 
-pub const CORES: u8 = 3;
+pub const CORES_OUTSIDE: u8 = 3;
 
-pub const LABEL: u8 = 4;
+pub const LABEL_WRONG: u8 = 4;
 
-pub const TASKS: u8 = 5;
+pub const TASK_COUNT_OUTSIDE: u8 = 5;
 
-pub const SEPARATION: u8 = 6;
+pub const SEPARATION_OUTSIDE: u8 = 6;
 
-pub const BUDGET: u8 = 7;
+pub const BUDGET_OUTSIDE: u8 = 7;
 
-pub const OFFSET: u8 = 8;
+pub const OFFSET_TOO_LARGE: u8 = 8;
 
-pub const MULTIPLE: u8 = 9;
+pub const HYPERPERIOD_TOO_LARGE: u8 = 9;
 
-pub const SHARES: u8 = 10;
+pub const SHARES_TOO_LARGE: u8 = 10;
 
-pub const SLACK_COUNT: u8 = 11;
+pub const SLACK_COUNT_WRONG: u8 = 11;
 
-pub const SLACK: u8 = 12;
+pub const SLACK_NOT_COMPLIANT: u8 = 12;
 
-pub const BOUND: u8 = 13;
+pub const BOUND_TOO_LARGE: u8 = 13;
 
-pub const LOG_LENGTH: u8 = 14;
+pub const LOG_LENGTH_WRONG: u8 = 14;
 
-pub const LOG_TICK: u8 = 15;
+pub const LOG_TICK_TOO_LATE: u8 = 15;
 
-pub const ANSWER: u8 = 16;
+pub const ANSWER_TOO_SHORT: u8 = 16;
 
-pub const BACK: u8 = 17;
+pub const TICK_GOES_BACK: u8 = 17;
 
-pub const SOUND: u8 = 18;
+pub const STATE_NOT_SOUND: u8 = 18;
 
-pub const CLOCK: u8 = 19;
+pub const CLOCK_AT_ITS_END: u8 = 19;
 
-pub const KNOWN: u8 = 20;
+pub const TASK_NOT_IN_TABLE: u8 = 20;
 
-pub const DEMAND: u8 = 21;
+pub const DEMAND_OUTSIDE: u8 = 21;
 
-pub const APART: u8 = 22;
+pub const RELEASE_TOO_SOON: u8 = 22;
 
-pub const ROOM: u8 = 23;
+pub const NO_PLACE_FREE: u8 = 23;
 
-pub const BUFFER: u8 = 24;
+pub const BUFFER_TOO_SHORT: u8 = 24;

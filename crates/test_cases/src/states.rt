@@ -1,6 +1,7 @@
 // Lines about the state: the opened plan's, and then changed, right or wrong.
 use crate::world::World;
 use state::State;
+use tasks::Plan;
 use test_engine::made;
 use test_script::line::number;
 use test_script::say;
@@ -107,31 +108,30 @@ fn changed(state: State, what: &[u8], words: &[u8]) -> State {
     state
 }
 
-// `keep` and `keep-other` put the state aside, `kept` and `other` take it up again; `opened` opens the plan, `plan` makes it the table part.
+// `opened` opens the plan, `busy` and `full` are states of it with jobs, `plan` makes it the table part.
+fn made_of(state: State, plan: Plan, what: &[u8], words: &[u8]) -> State {
+    if check::same(what, b"opened") {
+        return made::opened(plan);
+    }
+    if check::same(what, b"busy") {
+        return made::busy(plan);
+    }
+    if check::same(what, b"full") {
+        return made::full(plan);
+    }
+    if check::same(what, b"plan") {
+        return made::on(state, plan);
+    }
+    if check::same(what, b"zeros") {
+        return made::zeros();
+    }
+    changed(state, what, words)
+}
+
 pub fn act(mut world: World, what: &[u8], words: &[u8]) -> World {
     let state = world.state;
     let plan = world.plan;
-    if check::same(what, b"keep") {
-        world.kept = state;
-        return world;
-    }
-    if check::same(what, b"keep-other") {
-        world.other = state;
-        return world;
-    }
-    let next = if check::same(what, b"kept") {
-        world.kept
-    } else if check::same(what, b"other") {
-        world.other
-    } else if check::same(what, b"opened") {
-        made::opened(plan)
-    } else if check::same(what, b"plan") {
-        made::on(state, plan)
-    } else if check::same(what, b"zeros") {
-        made::zeros()
-    } else {
-        changed(state, what, words)
-    };
+    let next = made_of(state, plan, what, words);
     world.state = next;
     world
 }

@@ -5,14 +5,12 @@ use test_engine::made;
 use test_tables::draft;
 use test_tables::draft::Draft;
 
-// A table and a log in the making, a plan, a state, and two states that were put aside.
+// A table and a log in the making, a plan, and a state.
 pub struct World {
     pub table: Draft,
     pub log: Draft,
     pub plan: Plan,
     pub state: State,
-    pub kept: State,
-    pub other: State,
 }
 
 pub fn start() -> World {
@@ -23,7 +21,5 @@ pub fn start() -> World {
         log: draft::empty(),
         plan,
         state,
-        kept: state,
-        other: state,
     }
 }

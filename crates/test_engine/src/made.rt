@@ -2,7 +2,7 @@
 // doesn't have changes nothing.
 use state::State;
 use tasks::Plan;
-use tasks::Task;
+use tasks::no_plan;
 
 // A plan opened.
 pub fn opened(plan: Plan) -> State {
@@ -68,23 +68,27 @@ pub fn two(state: State, i: usize, older: u32, left: u32, newer: u32, whole: u32
     place(last(held, i, true, newer), 16 * i + 1, newer, whole)
 }
 
+// A plan of three loops at tick 50: two jobs of loop 0, one of loop 1, none of loop 2, whose last release was at 20.
+pub fn busy(plan: Plan) -> State {
+    let state = at(opened(plan), 50);
+    last(one(two(state, 0, 30, 5, 40, 9), 1, 45, 9), 2, true, 20)
+}
+
+// At tick 200: loop 0 holds sixteen jobs, released at 0, 10 and so on to 150, each with one tick of work left.
+pub fn full(plan: Plan) -> State {
+    let mut state = holding(last(at(opened(plan), 200), 0, true, 150), 0, 16);
+    let mut k = 0;
+    while k < 16 {
+        state = place(state, k, 10 * k as u32, 1);
+        k += 1;
+    }
+    state
+}
+
 // "A refused … opening hands back a … state of zeros".
 pub fn zeros() -> State {
-    let task = [Task {
-        separation: 0,
-        budget: 0,
-        offset: 0,
-    }; 16];
-    let plan = Plan {
-        offered: false,
-        cores: 0,
-        tasks: 0,
-        labels: [0; 8],
-        task,
-        slack: [0; 16],
-    };
     State {
-        plan,
+        plan: no_plan(),
         clock: 0,
         jobs: [0; 16],
         released: [false; 16],

@@ -1,6 +1,7 @@
 // What the cases compare: plans, their unused places, and the bytes of a lent buffer that must stay.
 use tasks::Plan;
 use tasks::Task;
+use tasks::is_no_task;
 
 // What a buffer holds before it is lent.
 pub const FILL: u8 = 170;
@@ -57,10 +58,6 @@ pub fn same_plan(a: Plan, b: Plan) -> bool {
         && same_tasks(a, b)
 }
 
-fn no_task(task: Task) -> bool {
-    task.separation == 0 && task.budget == 0 && task.offset == 0
-}
-
 // Whether the labels are 0 from the core `from` on.
 fn clear_labels(plan: Plan, from: usize) -> bool {
     let mut i = from;
@@ -77,7 +74,7 @@ fn clear_labels(plan: Plan, from: usize) -> bool {
 fn clear_tasks(plan: Plan, from: usize) -> bool {
     let mut i = from;
     while i < 16 {
-        if !no_task(plan.task[i]) || plan.slack[i] != 0 {
+        if !is_no_task(plan.task[i]) || plan.slack[i] != 0 {
             return false;
         }
         i += 1;

@@ -8,11 +8,10 @@ use tasks::Answer;
 use tasks::Plan;
 use tasks::Task;
 use tasks::no_task;
+use tasks::refusal;
 ghost use mathlib.Core.Path.{_≡_};
 ghost use Rattle.state.specs.Calls.{releaseOf};
 ghost use Rattle.trial.specs.Trials.{answerCode, separationsOf, budgetsOf, offsetsOf, stepsOf, tasksIn, planIn, stateIn, TasksLeft, PlanLeft, StateLeft, ReleaseLeaves, StepsLeave};
-
-const CLOCK: u8 = 19;
 
 // A plan's tasks, field by field.
 struct Columns {
@@ -85,7 +84,7 @@ fn steps(state: State, more: usize) -> Stepped
         if state.clock == 4_000_000_000 {
             return Stepped {
                 answer: Answer::Refused {
-                    number: CLOCK,
+                    number: refusal::CLOCK_AT_ITS_END,
                     index: 0,
                 },
                 state,

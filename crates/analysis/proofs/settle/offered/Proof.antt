@@ -21,7 +21,7 @@ use Rattle.slack.proofs.amount.amount.Reads as amount-reads
 use Rattle.slack.proofs.amount.first_chosen.Reads as first-chosen-reads
 use Rattle.tasks.proofs.tidy.tidy_slack.Reads as tidy-slack-reads
 use Rattle.analysis.proofs.settle.unsettled.Reads as unsettled-reads
-use Rattle.slack.proofs.slack.first_uncovered.Reads as first-uncovered-reads
+use Rattle.slack.proofs.vector.first_uncovered.Reads as first-uncovered-reads
 
 -- as many are chosen at first as are counted
 starts : (s : TaskSet) (shares budgets offsets : List ℕ) (h surpluses m n : ℕ) → Settling s shares budgets offsets h surpluses m n →

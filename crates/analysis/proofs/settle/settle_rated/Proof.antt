@@ -25,7 +25,7 @@ use Rattle.analysis.proofs.settle.settle_rated.Lts as lts
 use Rattle.slack.proofs.rates.rate.Reads as rate-reads
 use Rattle.analysis.proofs.settle.offered.Reads as offered-reads
 use Rattle.analysis.proofs.settle.unsettled.Reads as unsettled-reads
-use Rattle.slack.proofs.slack.search.Reads as search-reads
+use Rattle.slack.proofs.vector.search.Reads as search-reads
 
 module _ (m n : ℕ) (separation budget offset slack : List ℕ) (k : ℕ) (f : Framed m n) (g : Ranges (setFrom m n separation budget offset))
     (r : Rates) (e : Rated (setFrom m n separation budget offset) r)

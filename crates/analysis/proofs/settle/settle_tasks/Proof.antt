@@ -24,7 +24,7 @@ use Rattle.analysis.proofs.settle.settle_tasks.Tie as tie
 use Rattle.analysis.proofs.settle.settle_tasks.Reads as reads
 use Rattle.analysis.proofs.settle.settle_tasks.Lts as lts
 use Rattle.fields.proofs.columns.split.Reads as split-reads
-use Rattle.fields.proofs.fields.fields.Reads as fields-reads
+use Rattle.fields.proofs.ranges.task_ranges.Reads as task-ranges-reads
 use Rattle.analysis.proofs.settle.settle_rated.Reads as settle-rated-reads
 use Rattle.analysis.proofs.settle.unsettled.Reads as unsettled-reads
 
@@ -62,8 +62,8 @@ module _ (p : Plan) (k : ℕ) (f : Framed (p .cores) (p .tasks)) (a : Answer) (e
 split-requires : tie.Need-split-requires
 split-requires c κs = search needs
 
-fields-requires : tie.Need-fields-requires
-fields-requires c κs = search needs
+task-ranges-requires : tie.Need-task-ranges-requires
+task-ranges-requires c κs = search needs
 
 enum-told : tie.Need-enum-told
 enum-told c = search needs
@@ -77,23 +77,23 @@ unsettled-requires c κs = search needs
 returns : tie.Need-returns
 returns c =
     let s = c .before .before .before .before .before in
-    refused (s .args .plan) (s .args .offers) (s .pre) _ (c .before .before .before .fields .ensures) _ _ _ (c .before .enum-told2 .given .1) (c .unsettled .ensures)
+    refused (s .args .plan) (s .args .offers) (s .pre) _ (c .before .before .before .task-ranges .ensures) _ _ _ (c .before .enum-told2 .given .1) (c .unsettled .ensures)
 
 settle-rated-requires : tie.Need-settle-rated-requires
 settle-rated-requires c κs =
     let s = c .before .before .before .before .before .before .before .before .before .before .before .before .before in
-    (s .pre, ranges (s .args .plan) (s .args .offers) (s .pre) _ (c .before .before .before .before .before .before .before .before .before .before .before .fields .ensures) _ (c .before .before .before .before .before .before .before .before .split .ensures) (c .before .before .before .before .before .before .before .before .before .enum-told .given .1))
+    (s .pre, ranges (s .args .plan) (s .args .offers) (s .pre) _ (c .before .before .before .before .before .before .before .before .before .before .before .task-ranges .ensures) _ (c .before .before .before .before .before .before .before .before .split .ensures) (c .before .before .before .before .before .before .before .before .before .enum-told .given .1))
 
 returns-2 : tie.Need-returns-2
 returns-2 c =
     let s = c .before .before .before .before .before .before .before .before .before .before .before .before .before .before in
-    settled (s .args .plan) (s .args .offers) (s .pre) _ (c .before .before .before .before .before .before .before .before .before .before .before .before .fields .ensures) _ (c .before .before .before .before .before .before .before .before .before .split .ensures) (c .before .before .before .before .before .before .before .before .before .before .enum-told .given .1) _ (c .settle-rated .ensures)
+    settled (s .args .plan) (s .args .offers) (s .pre) _ (c .before .before .before .before .before .before .before .before .before .before .before .before .task-ranges .ensures) _ (c .before .before .before .before .before .before .before .before .before .split .ensures) (c .before .before .before .before .before .before .before .before .before .before .enum-told .given .1) _ (c .settle-rated .ensures)
 
 pub settle-tasks-spec : {M : Type 1} → statement M
 settle-tasks-spec =
     tie.close
     (tie.spec
-    fields-requires
+    task-ranges-requires
     enum-told
     enum-told-2
     unsettled-requires

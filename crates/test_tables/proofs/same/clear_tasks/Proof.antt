@@ -13,14 +13,14 @@ abbrev μ-loop : tie.MeasureT-loop
 loop-holds : tie.Need-loop-holds Inv-loop μ-loop
 loop-holds c = search needs
 
-mul-no-task : tie.Need-mul-no-task Inv-loop μ-loop
-mul-no-task c = search needs
+mul-is-no-task : tie.Need-mul-is-no-task Inv-loop μ-loop
+mul-is-no-task c = search needs
 
-element-copy-out-no-task : tie.Need-element-copy-out-no-task Inv-loop μ-loop
-element-copy-out-no-task c = search needs
+element-copy-out-is-no-task : tie.Need-element-copy-out-is-no-task Inv-loop μ-loop
+element-copy-out-is-no-task c = search needs
 
-no-task-requires : tie.Need-no-task-requires Inv-loop μ-loop
-no-task-requires c κs = search needs
+is-no-task-requires : tie.Need-is-no-task-requires Inv-loop μ-loop
+is-no-task-requires c κs = search needs
 
 mul-if2 : tie.Need-mul-if2 Inv-loop μ-loop
 mul-if2 c = search needs
@@ -50,9 +50,9 @@ clear-tasks-spec =
     Inv-loop
     μ-loop
     loop-holds
-    mul-no-task
-    element-copy-out-no-task
-    no-task-requires
+    mul-is-no-task
+    element-copy-out-is-no-task
+    is-no-task-requires
     mul-if2
     element-copy-out-if2
     returns

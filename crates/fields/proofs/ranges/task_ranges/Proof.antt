@@ -1,10 +1,10 @@
--- `fields::fields::fields` meets its contract.
+-- `fields::ranges::task_ranges` meets its contract.
 use Rattle.tasks.specs.Tests.{firstMet}
 use Rattle.fields.specs.Stages.{fieldsTest}
 use Rattle.fields.specs.StageLaws.{scan-found, scan-none}
 use borrow.Author.Needs.{needs}
-use Rattle.fields.proofs.fields.fields.Statement.{statement}
-use Rattle.fields.proofs.fields.fields.Tie as tie
+use Rattle.fields.proofs.ranges.task_ranges.Statement.{statement}
+use Rattle.fields.proofs.ranges.task_ranges.Tie as tie
 
 first-separation-requires : tie.Need-first-separation-requires
 first-separation-requires c κs = search needs
@@ -54,8 +54,8 @@ returns-4 c =
       scan-none 8 _ _ _ (c .before .first-offset .ensures) (c .if3 .left),
     )
 
-pub fields-spec : {M : Type 1} → statement M
-fields-spec =
+pub task-ranges-spec : {M : Type 1} → statement M
+task-ranges-spec =
     tie.close
     (tie.spec
     first-separation-requires

@@ -1,9 +1,9 @@
 use borrow.Author.Tests.{lt-ltb, le-ltb}
 use Rattle.tasks.specs.Tests.{outside}
-use Rattle.fields.proofs.fields.is_outside.Statement.{statement}
-use Rattle.fields.proofs.fields.is_outside.Tie as tie
-use Rattle.fields.proofs.fields.is_outside.Reads as reads
-use Rattle.fields.proofs.fields.is_outside.Lts as lts
+use Rattle.fields.proofs.ranges.is_outside.Statement.{statement}
+use Rattle.fields.proofs.ranges.is_outside.Tie as tie
+use Rattle.fields.proofs.ranges.is_outside.Reads as reads
+use Rattle.fields.proofs.ranges.is_outside.Lts as lts
 
 -- src/fields.rt:16:9
 returns : tie.Need-returns

@@ -9,10 +9,10 @@ use borrow.Author.Needs.{needs}
 use native.Mathlib.Omega.{arith}
 use Prim.Native.Nat.{ℕ, _≤_, _<_, _*_, _-_}
 use mathlib.Core.Path.{_≡_, refl, sym}
-use Rattle.slack.proofs.slack.first_uncovered.Statement.{statement}
-use Rattle.slack.proofs.slack.first_uncovered.Tie as tie
-use Rattle.slack.proofs.slack.first_uncovered.Reads as reads
-use Rattle.slack.proofs.slack.first_uncovered.Lts as lts
+use Rattle.slack.proofs.vector.first_uncovered.Statement.{statement}
+use Rattle.slack.proofs.vector.first_uncovered.Tie as tie
+use Rattle.slack.proofs.vector.first_uncovered.Reads as reads
+use Rattle.slack.proofs.vector.first_uncovered.Lts as lts
 use Rattle.multiple.proofs.wide.Reads as wide-reads
 
 -- the two products, each within 2^56

@@ -1,17 +1,17 @@
--- `fields::fields::first_separation` meets its contract; the invariant says that no task before i meets the test.
+-- `fields::ranges::first_offset` meets its contract; the invariant says that no task before i meets the test.
 use Rattle.tasks.specs.Content.{taskOf, noTask}
-use Rattle.tasks.specs.Tests.{badSeparation}
+use Rattle.tasks.specs.Tests.{badOffset}
 use Rattle.laws.specs.First.{first}
 use Rattle.laws.specs.FirstLaws.{none-more, found-at}
 use borrow.Author.Needs.{needs}
 use native.Mathlib.Omega.{arith}
 use Prim.Native.Nat.{_≤_, _-_}
 use mathlib.Core.Path.{_≡_, refl, sym, _∙_}
-use Rattle.fields.proofs.fields.first_separation.Statement.{statement}
-use Rattle.fields.proofs.fields.first_separation.Tie as tie
+use Rattle.fields.proofs.ranges.first_offset.Statement.{statement}
+use Rattle.fields.proofs.ranges.first_offset.Tie as tie
 
 abbrev Inv-loop : tie.InvT-loop
-Inv-loop tasks task i₀ i = (i ≤ tasks) × (first (λ i. badSeparation (taskOf task i)) i ≡ i)
+Inv-loop tasks task i₀ i = (i ≤ tasks) × (first (λ i. badOffset (taskOf task i)) i ≡ i)
 
 abbrev μ-loop : tie.MeasureT-loop
 μ-loop tasks task i₀ i = tasks - i
@@ -26,12 +26,12 @@ mul-t c = search needs
 array-copy-out-t : tie.Need-array-copy-out-t Inv-loop μ-loop
 array-copy-out-t c = search needs
 
-bad-separation-requires : tie.Need-bad-separation-requires Inv-loop μ-loop
-bad-separation-requires c κs = search needs
+bad-offset-requires : tie.Need-bad-offset-requires Inv-loop μ-loop
+bad-offset-requires c κs = search needs
 
 returns : tie.Need-returns Inv-loop μ-loop
 unfolding taskOf noTask
-returns c = sym (found-at _ _ _ (c .before .before .before .before .loop .inv .1) (sym (c .before .bad-separation .ensures) ∙ c .if1 .taken) (omega arith))
+returns c = sym (found-at _ _ _ (c .before .before .before .before .loop .inv .1) (sym (c .before .bad-offset .ensures) ∙ c .if1 .taken) (omega arith))
 
 add-i : tie.Need-add-i Inv-loop μ-loop
 add-i c = search needs
@@ -41,13 +41,13 @@ loop-less c = search needs
 
 loop-again : tie.Need-loop-again Inv-loop μ-loop
 unfolding taskOf noTask
-loop-again c = (omega arith, none-more _ _ (c .before .before .before .before .loop .inv .1) (sym (c .before .bad-separation .ensures) ∙ c .if1 .left))
+loop-again c = (omega arith, none-more _ _ (c .before .before .before .before .loop .inv .1) (sym (c .before .bad-offset .ensures) ∙ c .if1 .left))
 
 returns-2 : tie.Need-returns-2 Inv-loop μ-loop
 returns-2 c = let e : c .before .loop .i ≡ c .before .before .args .tasks = omega arith in sym (rw e at (c .before .loop .inv .1))
 
-pub first-separation-spec : {M : Type 1} → statement M
-first-separation-spec =
+pub first-offset-spec : {M : Type 1} → statement M
+first-offset-spec =
     tie.close
     (tie.spec
     Inv-loop
@@ -55,7 +55,7 @@ first-separation-spec =
     loop-holds
     mul-t
     array-copy-out-t
-    bad-separation-requires
+    bad-offset-requires
     returns
     add-i
     loop-less

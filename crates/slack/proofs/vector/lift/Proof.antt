@@ -7,10 +7,10 @@ use Prim.Native.Nat.{ℕ, _≤_, _<_, _+_, _-_}
 use mathlib.Core.Path.{_≡_, ap, _∙_}
 use mathlib.Core.Logic.{⊎-elim}
 use borrow.Author.Needs.{needs}
-use Rattle.slack.proofs.slack.lift.Statement.{statement}
-use Rattle.slack.proofs.slack.lift.Tie as tie
-use Rattle.slack.proofs.slack.lift.Reads as reads
-use Rattle.slack.proofs.slack.lift.Lts as lts
+use Rattle.slack.proofs.vector.lift.Statement.{statement}
+use Rattle.slack.proofs.vector.lift.Tie as tie
+use Rattle.slack.proofs.vector.lift.Reads as reads
+use Rattle.slack.proofs.vector.lift.Lts as lts
 
 -- what is needed at least, from which arm it came
 module _ (whole over rest : ℕ) where

@@ -85,28 +85,28 @@ fn first_offset(task: [Task; 16], tasks: usize) -> usize
     tasks
 }
 
-pub fn fields(task: [Task; 16], tasks: usize) -> Answer
+pub fn task_ranges(task: [Task; 16], tasks: usize) -> Answer
     requires { ⌜ tasks ≤ 16 ⌝ }
     ensures { λ r. ⌜ r ≡ fieldsTest (taskOf task) tasks ⌝ }
 {
     let bad = first_separation(task, tasks);
     if bad < tasks {
         return Answer::Refused {
-            number: refusal::SEPARATION,
+            number: refusal::SEPARATION_OUTSIDE,
             index: bad as u16,
         };
     }
     let bad = first_budget(task, tasks);
     if bad < tasks {
         return Answer::Refused {
-            number: refusal::BUDGET,
+            number: refusal::BUDGET_OUTSIDE,
             index: bad as u16,
         };
     }
     let bad = first_offset(task, tasks);
     if bad < tasks {
         return Answer::Refused {
-            number: refusal::OFFSET,
+            number: refusal::OFFSET_TOO_LARGE,
             index: bad as u16,
         };
     }

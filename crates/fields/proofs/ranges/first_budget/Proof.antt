@@ -1,4 +1,4 @@
--- `fields::fields::first_budget` meets its contract; the invariant says that no task before i meets the test.
+-- `fields::ranges::first_budget` meets its contract; the invariant says that no task before i meets the test.
 use Rattle.tasks.specs.Content.{taskOf, noTask}
 use Rattle.tasks.specs.Tests.{badBudget}
 use Rattle.laws.specs.First.{first}
@@ -7,8 +7,8 @@ use borrow.Author.Needs.{needs}
 use native.Mathlib.Omega.{arith}
 use Prim.Native.Nat.{_≤_, _-_}
 use mathlib.Core.Path.{_≡_, refl, sym, _∙_}
-use Rattle.fields.proofs.fields.first_budget.Statement.{statement}
-use Rattle.fields.proofs.fields.first_budget.Tie as tie
+use Rattle.fields.proofs.ranges.first_budget.Statement.{statement}
+use Rattle.fields.proofs.ranges.first_budget.Tie as tie
 
 abbrev Inv-loop : tie.InvT-loop
 Inv-loop tasks task i₀ i = (i ≤ tasks) × (first (λ i. badBudget (taskOf task i)) i ≡ i)

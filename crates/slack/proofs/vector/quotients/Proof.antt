@@ -7,10 +7,10 @@ use borrow.Author.Needs.{needs}
 use native.Mathlib.Omega.{arith}
 use Prim.Native.Nat.{_≤_, _-_}
 use mathlib.Core.Path.{_≡_}
-use Rattle.slack.proofs.slack.quotients.Statement.{statement}
-use Rattle.slack.proofs.slack.quotients.Tie as tie
-use Rattle.slack.proofs.slack.quotients.Reads as reads
-use Rattle.slack.proofs.slack.quotients.Lts as lts
+use Rattle.slack.proofs.vector.quotients.Statement.{statement}
+use Rattle.slack.proofs.vector.quotients.Tie as tie
+use Rattle.slack.proofs.vector.quotients.Reads as reads
+use Rattle.slack.proofs.vector.quotients.Lts as lts
 
 abbrev Inv-loop : tie.InvT-loop
 Inv-loop budget cores tasks quotient₀ i₀ quotient i = (i ≤ tasks) × (quotient ≡ tab (cut i (λ i. row budget i / cores) 0) 16)

@@ -15,11 +15,11 @@ use Prim.Native.Nat.{ℕ, _≤_, _<_, _+_, _-_}
 use mathlib.Core.Path.{_≡_, refl, sym, _∙_}
 use mathlib.Core.Logic.{⊎-elim}
 use lib.ListN.{set}
-use Rattle.slack.proofs.slack.raise.Statement.{statement}
-use Rattle.slack.proofs.slack.raise.Tie as tie
-use Rattle.slack.proofs.slack.raise.Reads as reads
-use Rattle.slack.proofs.slack.raise.Lts as lts
-use Rattle.slack.proofs.slack.lift.Reads as lift-reads
+use Rattle.slack.proofs.vector.raise.Statement.{statement}
+use Rattle.slack.proofs.vector.raise.Tie as tie
+use Rattle.slack.proofs.vector.raise.Reads as reads
+use Rattle.slack.proofs.vector.raise.Lts as lts
+use Rattle.slack.proofs.vector.lift.Reads as lift-reads
 
 -- one turn: the entry at i, `old` before and `new` after, and whether an entry has changed
 module _ (f g : ℕ → ℕ) (l : List ℕ) (i old new : ℕ) (h : i < 16) (inv : l ≡ tab (upto i f g) 16) (o : old ≡ row l i) (v : new ≡ f i) where

@@ -17,15 +17,15 @@ use native.Mathlib.Omega.{arith}
 use Prim.Native.Nat.{ℕ, _≤_, _*_, _-_}
 use mathlib.Core.Path.{_≡_, refl, sym, _∙_}
 use lib.ListN.{length, getD}
-use Rattle.slack.proofs.slack.search.Statement.{statement}
-use Rattle.slack.proofs.slack.search.Tie as tie
-use Rattle.slack.proofs.slack.search.Reads as reads
-use Rattle.slack.proofs.slack.search.Lts as lts
+use Rattle.slack.proofs.vector.search.Statement.{statement}
+use Rattle.slack.proofs.vector.search.Tie as tie
+use Rattle.slack.proofs.vector.search.Reads as reads
+use Rattle.slack.proofs.vector.search.Lts as lts
 use Rattle.slack.proofs.amount.amount.Reads as amount-reads
 use Rattle.slack.proofs.amount.first_chosen.Reads as first-chosen-reads
-use Rattle.slack.proofs.slack.quotients.Reads as quotients-reads
-use Rattle.slack.proofs.slack.raise.Reads as raise-reads
-use Rattle.slack.proofs.slack.remainders.Reads as remainders-reads
+use Rattle.slack.proofs.vector.quotients.Reads as quotients-reads
+use Rattle.slack.proofs.vector.raise.Reads as raise-reads
+use Rattle.slack.proofs.vector.remainders.Reads as remainders-reads
 
 zeros : (k : ℕ) → row (replicate 16 0) k ≡ 0
 unfolding row

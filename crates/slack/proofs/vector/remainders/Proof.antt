@@ -7,10 +7,10 @@ use borrow.Author.Needs.{needs}
 use native.Mathlib.Omega.{arith}
 use Prim.Native.Nat.{_≤_, _-_}
 use mathlib.Core.Path.{_≡_}
-use Rattle.slack.proofs.slack.remainders.Statement.{statement}
-use Rattle.slack.proofs.slack.remainders.Tie as tie
-use Rattle.slack.proofs.slack.remainders.Reads as reads
-use Rattle.slack.proofs.slack.remainders.Lts as lts
+use Rattle.slack.proofs.vector.remainders.Statement.{statement}
+use Rattle.slack.proofs.vector.remainders.Tie as tie
+use Rattle.slack.proofs.vector.remainders.Reads as reads
+use Rattle.slack.proofs.vector.remainders.Lts as lts
 
 abbrev Inv-loop : tie.InvT-loop
 Inv-loop budget cores tasks rest₀ i₀ rest i = (i ≤ tasks) × (rest ≡ tab (cut i (λ i. row budget i % cores) 0) 16)
