@@ -38,7 +38,9 @@ module _ (t : List ℕ) where
   module _ (i : ℕ) (h : i < loopsOf t) where
     task-at : contentIn t .tasks .task i ≡ taskIn t (3 + byte t 1 + 12 * i)
     unfolding contentIn taskSetIn taskCount tasksAt coreCount
-    task-at = cut-below (loopsOf t) (λ k. taskIn t (3 + byte t 1 + 12 * k)) noTask i h
+    task-at =
+        let place : 2 + byte t 1 + 1 + 12 * i ≡ 3 + byte t 1 + 12 * i = omega arith in
+        cut-below (loopsOf t) (λ k. taskIn t (2 + byte t 1 + 1 + 12 * k)) noTask i h ∙ ap (taskIn t) place
 
     pub separation-at : contentIn t .tasks .task i .separation ≡ separationOf t i
     unfolding taskIn

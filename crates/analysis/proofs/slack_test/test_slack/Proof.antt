@@ -8,22 +8,22 @@ use Rattle.tasks.specs.TaskSet.{row}
 use Rattle.tasks.specs.Tests.{firstMet, orNext, test3, test4, test5, test6, test7, test8, test9, test10, test11}
 use Rattle.tasks.specs.AnswerLaws.{orNext-assoc}
 use Rattle.tasks.specs.LimitsLaws.{limitTests}
-use Rattle.analysis.specs.declared.settle.Settled.{Settled}
+use Rattle.analysis.specs.declared.slack_test.Tested.{Tested}
 use Rattle.fields.specs.Stages.{frameTest}
-use Rattle.slack.specs.SettleLaws.{frame-passed}
-use Rattle.analysis.specs.Settled.{offering, offeredTest, taskTests, TasksSettle, Settles}
-use Rattle.analysis.specs.SettledLaws.{frame-tests, limits-split, stopped, passed-on}
+use Rattle.slack.specs.StageLaws.{frame-passed}
+use Rattle.analysis.specs.SlackTest.{offering, offeredTest, taskTests, TasksTested, PlanTested}
+use Rattle.analysis.specs.SlackTestLaws.{frame-tests, limits-split, stopped, passed-on}
 use Rattle.fields.specs.StageLaws.{not-both}
 use Prim.Native.Nat.{ℕ}
 use mathlib.Core.Path.{_≡_, ap, sym, _∙_}
 use borrow.Author.Needs.{needs}
-use Rattle.analysis.proofs.settle.settle.Statement.{statement}
-use Rattle.analysis.proofs.settle.settle.Tie as tie
-use Rattle.analysis.proofs.settle.settle.Reads as reads
-use Rattle.analysis.proofs.settle.settle.Lts as lts
+use Rattle.analysis.proofs.slack_test.test_slack.Statement.{statement}
+use Rattle.analysis.proofs.slack_test.test_slack.Tie as tie
+use Rattle.analysis.proofs.slack_test.test_slack.Reads as reads
+use Rattle.analysis.proofs.slack_test.test_slack.Lts as lts
 use Rattle.fields.proofs.frame.frame.Reads as frame-reads
-use Rattle.analysis.proofs.settle.settle_tasks.Reads as settle-tasks-reads
-use Rattle.analysis.proofs.settle.unsettled.Reads as unsettled-reads
+use Rattle.analysis.proofs.slack_test.test_tasks.Reads as test-tasks-reads
+use Rattle.analysis.proofs.slack_test.untested.Reads as untested-reads
 
 regroup : (a b c d : Answer) → orNext (orNext a (orNext b c)) d ≡ orNext a (orNext b (orNext c d))
 regroup a b c d = orNext-assoc a (orNext b c) d ∙ ap (orNext a) (orNext-assoc b c d)
@@ -45,55 +45,49 @@ module _ (p : Plan) (k : ℕ) (a : Answer) (ea : a ≡ frameTest (p .cores) (row
       (firstMet (test9 (offering p k) ∷ test10 (offering p k) ∷ []))
       (firstMet (test11 (offering p k) ∷ offeredTest (offering p k) ∷ []))
 
-  refused : (t : Settled) (j i : ℕ) → a ≡ Refused j i → t .answer ≡ a → Settles p k t
+  refused : (t : Tested) (j i : ℕ) → a ≡ Refused j i → t .answer ≡ a → PlanTested p k t
   refused t j i e u =
       record {
         answer = u ∙ framed ∙ sym (stopped _ _ j i (sym framed ∙ e)) ∙ sym joined;
         slack = λ w. absurd (not-both _ j i (u ∙ e) w);
       }
 
-  settled : (t : Settled) → a ≡ Accepted → TasksSettle p k t → Settles p k t
-  settled t e g = record { answer = g .answer ∙ sym (passed-on _ _ (sym framed ∙ e)) ∙ sym joined; slack = g .slack }
+  tested : (t : Tested) → a ≡ Accepted → TasksTested p k t → PlanTested p k t
+  tested t e g = record { answer = g .answer ∙ sym (passed-on _ _ (sym framed ∙ e)) ∙ sym joined; slack = g .slack }
 
--- src/settle.rt:166:9
 frame-requires : tie.Need-frame-requires
 frame-requires c κs = search needs
 
 enum-told : tie.Need-enum-told
 enum-told c = search needs
 
--- src/settle.rt:168:9
 enum-told-2 : tie.Need-enum-told-2
 enum-told-2 c = search needs
 
--- src/settle.rt:168:9
-unsettled-requires : tie.Need-unsettled-requires
-unsettled-requires c κs = search needs
+untested-requires : tie.Need-untested-requires
+untested-requires c κs = search needs
 
--- src/settle.rt:168:9
 returns : tie.Need-returns
 returns c =
     let s = c .before .before .before .before .before .before in
-    refused (s .args .plan) (s .args .offers) _ (c .before .before .before .frame .ensures) _ _ _ (c .before .enum-told2 .given .1) (c .unsettled .ensures)
+    refused (s .args .plan) (s .args .offers) _ (c .before .before .before .frame .ensures) _ _ _ (c .before .enum-told2 .given .1) (c .untested .ensures)
 
--- src/settle.rt:170:5
-settle-tasks-requires : tie.Need-settle-tasks-requires
-settle-tasks-requires c κs = frame-passed _ _ _ (sym (c .before .before .frame .ensures) ∙ c .enum-told .given .1)
+test-tasks-requires : tie.Need-test-tasks-requires
+test-tasks-requires c κs = frame-passed _ _ _ (sym (c .before .before .frame .ensures) ∙ c .enum-told .given .1)
 
--- src/settle.rt:162:1
 returns-2 : tie.Need-returns-2
 returns-2 c =
     let s = c .before .before .before .before .before .before in
-    settled (s .args .plan) (s .args .offers) _ (c .before .before .before .frame .ensures) _ (c .before .enum-told .given .1) (c .settle-tasks .ensures)
+    tested (s .args .plan) (s .args .offers) _ (c .before .before .before .frame .ensures) _ (c .before .enum-told .given .1) (c .test-tasks .ensures)
 
-pub settle-spec : {M : Type 1} → statement M
-settle-spec =
+pub test-slack-spec : {M : Type 1} → statement M
+test-slack-spec =
     tie.close
     (tie.spec
     frame-requires
     enum-told
     enum-told-2
-    unsettled-requires
+    untested-requires
     returns
-    settle-tasks-requires
+    test-tasks-requires
     returns-2)

@@ -2,7 +2,7 @@
 --     uncovered    whether m × H × x + H × C of task k is below the amount
 --     lifted       the least slack, from what is needed and the budget, both divided by the number of cores
 --     upto         the row f below n and g from n on
---     Settling     the arrays and numbers are those of the task set s
+--     ArraysOf     the arrays and numbers are those of the task set s
 use Prim.Native.Nat.{ℕ, _+_, _*_, _-_, _<_}
 use mathlib.Core.Path.{_≡_}
 use mathlib.Core.Bool.{Bool, cond}
@@ -22,7 +22,7 @@ lifted whole over quotient rest = whole + cond (ltb rest over) 1 0 - quotient
 unfoldable pub upto : ℕ → (ℕ → ℕ) → (ℕ → ℕ) → ℕ → ℕ
 upto n f g i = cond (ltb i n) (f i) (g i)
 
-pub record Settling (s : TaskSet) (shares budgets offsets : List ℕ) (h surpluses m n : ℕ) : Type 0 where
+pub record ArraysOf (s : TaskSet) (shares budgets offsets : List ℕ) (h surpluses m n : ℕ) : Type 0 where
   pub limits : Limits s
   pub cores : m ≡ s .cores
   pub tasks : n ≡ s .count

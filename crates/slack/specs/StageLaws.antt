@@ -1,6 +1,6 @@
 -- What settles a plan's slack, from what the stages have worked out.
 --     frame-passed, ranges-passed    what 3 to 8 leave
---     settling-of                    the rates and columns of a task set past 3 to 10
+--     arrays-of                    the rates and columns of a task set past 3 to 10
 --     cores-low … amounts            what ties the arrays to a task set keeps every number small
 --     amount-row                     the amount that the code works out is A
 --     uncovered-test                 the code's test of one task is the condition's
@@ -35,7 +35,7 @@ use Rattle.fields.specs.Stages.{frameTest, fieldsTest}
 use Rattle.slack.specs.Rates.{Ranges, Figures}
 use Rattle.slack.specs.RatesLaws.{row-filled}
 use Rattle.slack.specs.Weights.{weightRow, Few}
-use Rattle.slack.specs.Settling.{uncovered, Settling}
+use Rattle.slack.specs.Arrays.{uncovered, ArraysOf}
 
 pub record Framed (m n : ℕ) : Type 0 where
   pub cores-low : 2 ≤ m
@@ -72,12 +72,12 @@ ranges-passed s f a =
       offset = λ i h. ltb-false _ _ (lowest-passed 8 _ (s .count) (r8 .0) i h);
     }
 
-pub settling-of :
+pub arrays-of :
     (m n : ℕ) (separation budget offset : List ℕ) (r : Rates) → n ≤ 16 → Limits (setFrom m n separation budget offset) →
     Figures (setFrom m n separation budget offset) r →
-    Settling (setFrom m n separation budget offset) (r .share) budget offset (r .multiple) (r .surplus) m n
+    ArraysOf (setFrom m n separation budget offset) (r .share) budget offset (r .multiple) (r .surplus) m n
 unfolding setFrom
-settling-of m n separation budget offset r h L f =
+arrays-of m n separation budget offset r h L f =
     record {
       limits = L;
       cores = refl;
@@ -100,7 +100,7 @@ pub row-of-filled : (n : ℕ) (f : ℕ → ℕ) → n ≤ 16 → row (tab (cut n
 unfolding row
 row-of-filled n f h = fun-ext (λ i. getD-cut n 16 f 0 h i)
 
-module _ (s : TaskSet) (shares budgets offsets : List ℕ) (h surpluses m n : ℕ) (g : Settling s shares budgets offsets h surpluses m n) where
+module _ (s : TaskSet) (shares budgets offsets : List ℕ) (h surpluses m n : ℕ) (g : ArraysOf s shares budgets offsets h surpluses m n) where
   -- every number is small
   pub cores-low : 2 ≤ m
   cores-low = omega (arith, g .cores, g .limits .cores-low)

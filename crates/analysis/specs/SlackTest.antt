@@ -1,12 +1,12 @@
--- What a plan's slack is settled to, before its bounds are tested.
+-- What a plan's slack is tested to, before its bounds are tested.
 --     offering       what a plan says, with a slack count of its own: a table's count may be wrong, a plan's mark can't
 --     offeredTest    12 of offered slack
 --     taskTests      6 to 12
 --     hadSlack       the slack: offered, or found
 --     Offered        12 of offered slack, and that slack with zeros in unused places
---     RatesSettle    the answer by 9 to 12, and the slack
---     TasksSettle    the answer by 6 to 12, and the slack
---     Settles        the answer by 3 to 12, and the slack where none is met
+--     RatesTested    the answer by 9 to 12, and the slack
+--     TasksTested    the answer by 6 to 12, and the slack
+--     PlanTested        the answer by 3 to 12, and the slack where none is met
 use Prim.Native.Nat.{ℕ}
 use mathlib.Core.Path.{_≡_}
 use mathlib.Core.Bool.{cond}
@@ -21,7 +21,7 @@ use Rattle.tasks.specs.Content.{Content, contentOf}
 use Rattle.tasks.specs.Tests.{refuse, firstMet, orNext, badOffers, compliantTest, test6, test7, test8, test9, test10, test11}
 use Rattle.tasks.specs.LimitsLaws.{limitTests}
 use Rattle.slack.specs.Rates.{ratesTest}
-use Rattle.analysis.specs.declared.settle.Settled.{Settled}
+use Rattle.analysis.specs.declared.slack_test.Tested.{Tested}
 
 unfoldable pub offering : Plan → ℕ → Content
 offering p k =
@@ -41,7 +41,7 @@ unfoldable pub hadSlack : Content → ℕ → ℕ
 hadSlack c = cond (eqb (c .offers) 0) (row (found (c .tasks))) (c .slack)
 
 -- 12 of offered slack, from an array that may hold more than the used places
-pub record Offered (s : TaskSet) (slack : List ℕ) (r : Settled) : Type 0 where
+pub record Offered (s : TaskSet) (slack : List ℕ) (r : Tested) : Type 0 where
   pub answer : r .answer ≡ compliantTest s (cut (s .count) (row slack) 0)
   pub had : r .answer ≡ Accepted → r .slack ≡ tab (cut (s .count) (row slack) 0) 16
 
@@ -52,16 +52,16 @@ slackTest s slack k =
     (refuse 11 (badOffers s k) ∷ cond (eqb k 0) Accepted (compliantTest s (cut (s .count) (row slack) 0)) ∷ [])
 
 -- 9 to 12
-pub record RatesSettle (s : TaskSet) (slack : List ℕ) (k : ℕ) (r : Settled) : Type 0 where
+pub record RatesTested (s : TaskSet) (slack : List ℕ) (k : ℕ) (r : Tested) : Type 0 where
   pub answer : r .answer ≡ orNext (ratesTest s) (slackTest s slack k)
   pub had : r .answer ≡ Accepted → r .slack ≡ tab (cond (eqb k 0) (row (found s)) (cut (s .count) (row slack) 0)) 16
 
 -- 6 to 12
-pub record TasksSettle (p : Plan) (k : ℕ) (r : Settled) : Type 0 where
+pub record TasksTested (p : Plan) (k : ℕ) (r : Tested) : Type 0 where
   pub answer : r .answer ≡ taskTests (offering p k)
   pub slack : r .answer ≡ Accepted → r .slack ≡ tab (hadSlack (offering p k)) 16
 
-pub record Settles (p : Plan) (k : ℕ) (r : Settled) : Type 0 where
+pub record PlanTested (p : Plan) (k : ℕ) (r : Tested) : Type 0 where
   pub answer :
       r .answer ≡ orNext (limitTests (offering p k)) (firstMet (test11 (offering p k) ∷ offeredTest (offering p k) ∷ []))
   pub slack : r .answer ≡ Accepted → r .slack ≡ tab (hadSlack (offering p k)) 16

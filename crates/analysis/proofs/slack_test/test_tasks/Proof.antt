@@ -7,32 +7,32 @@ use Rattle.tasks.specs.TaskSet.{plain}
 use Rattle.tasks.specs.Content.{taskOf, contentOf}
 use Rattle.tasks.specs.Tests.{firstMet, orNext, test6, test7, test8}
 use Rattle.fields.specs.declared.columns.Columns.{Columns}
-use Rattle.analysis.specs.declared.settle.Settled.{Settled}
+use Rattle.analysis.specs.declared.slack_test.Tested.{Tested}
 use Rattle.fields.specs.Columns.{columnsOf, setFrom}
 use Rattle.fields.specs.Stages.{fieldsTest}
 use Rattle.fields.specs.StageLaws.{fields-scan}
 use Rattle.slack.specs.Rates.{Ranges}
-use Rattle.slack.specs.SettleLaws.{Framed, ranges-passed}
-use Rattle.analysis.specs.Settled.{offering, taskTests, RatesSettle, TasksSettle}
-use Rattle.analysis.specs.SettledLaws.{columns-set, plain-ranges, fields-tests, rates-tests, stopped, passed-on, slack-tests, slack-had}
+use Rattle.slack.specs.StageLaws.{Framed, ranges-passed}
+use Rattle.analysis.specs.SlackTest.{offering, taskTests, RatesTested, TasksTested}
+use Rattle.analysis.specs.SlackTestLaws.{columns-set, plain-ranges, fields-tests, rates-tests, stopped, passed-on, slack-tests, slack-had}
 use Rattle.fields.specs.StageLaws.{not-both}
 use Prim.Native.Nat.{ℕ}
 use mathlib.Core.Path.{_≡_, ap₂, sym, subst, _∙_}
 use borrow.Author.Needs.{needs}
-use Rattle.analysis.proofs.settle.settle_tasks.Statement.{statement}
-use Rattle.analysis.proofs.settle.settle_tasks.Tie as tie
-use Rattle.analysis.proofs.settle.settle_tasks.Reads as reads
-use Rattle.analysis.proofs.settle.settle_tasks.Lts as lts
+use Rattle.analysis.proofs.slack_test.test_tasks.Statement.{statement}
+use Rattle.analysis.proofs.slack_test.test_tasks.Tie as tie
+use Rattle.analysis.proofs.slack_test.test_tasks.Reads as reads
+use Rattle.analysis.proofs.slack_test.test_tasks.Lts as lts
 use Rattle.fields.proofs.columns.split.Reads as split-reads
 use Rattle.fields.proofs.ranges.task_ranges.Reads as task-ranges-reads
-use Rattle.analysis.proofs.settle.settle_rated.Reads as settle-rated-reads
-use Rattle.analysis.proofs.settle.unsettled.Reads as unsettled-reads
+use Rattle.analysis.proofs.slack_test.test_rated.Reads as test-rated-reads
+use Rattle.analysis.proofs.slack_test.untested.Reads as untested-reads
 
 module _ (p : Plan) (k : ℕ) (f : Framed (p .cores) (p .tasks)) (a : Answer) (ea : a ≡ fieldsTest (taskOf (p .task)) (p .tasks)) where
   fielded : a ≡ firstMet (test6 (offering p k) ∷ test7 (offering p k) ∷ test8 (offering p k) ∷ [])
   fielded = ea ∙ fields-tests p k
 
-  refused : (t : Settled) (j i : ℕ) → a ≡ Refused j i → t .answer ≡ a → TasksSettle p k t
+  refused : (t : Tested) (j i : ℕ) → a ≡ Refused j i → t .answer ≡ a → TasksTested p k t
   unfolding taskTests
   refused t j i e u =
       record {
@@ -48,9 +48,9 @@ module _ (p : Plan) (k : ℕ) (f : Framed (p .cores) (p .tasks)) (a : Answer) (e
     unfolding contentOf
     ranges = subst Ranges (sym stands) (plain-ranges _ (ranges-passed (contentOf p .tasks) f (sym (fields-scan p) ∙ sym ea ∙ e)))
 
-    settled : (t : Settled) → RatesSettle (setFrom (p .cores) (p .tasks) (l .separation) (l .budget) (l .offset)) (p .slack) k t → TasksSettle p k t
+    tested : (t : Tested) → RatesTested (setFrom (p .cores) (p .tasks) (l .separation) (l .budget) (l .offset)) (p .slack) k t → TasksTested p k t
     unfolding taskTests offering
-    settled t g =
+    tested t g =
         record {
           answer =
               g .answer
@@ -71,33 +71,33 @@ enum-told c = search needs
 enum-told-2 : tie.Need-enum-told-2
 enum-told-2 c = search needs
 
-unsettled-requires : tie.Need-unsettled-requires
-unsettled-requires c κs = search needs
+untested-requires : tie.Need-untested-requires
+untested-requires c κs = search needs
 
 returns : tie.Need-returns
 returns c =
     let s = c .before .before .before .before .before in
-    refused (s .args .plan) (s .args .offers) (s .pre) _ (c .before .before .before .task-ranges .ensures) _ _ _ (c .before .enum-told2 .given .1) (c .unsettled .ensures)
+    refused (s .args .plan) (s .args .offers) (s .pre) _ (c .before .before .before .task-ranges .ensures) _ _ _ (c .before .enum-told2 .given .1) (c .untested .ensures)
 
-settle-rated-requires : tie.Need-settle-rated-requires
-settle-rated-requires c κs =
+test-rated-requires : tie.Need-test-rated-requires
+test-rated-requires c κs =
     let s = c .before .before .before .before .before .before .before .before .before .before .before .before .before in
     (s .pre, ranges (s .args .plan) (s .args .offers) (s .pre) _ (c .before .before .before .before .before .before .before .before .before .before .before .task-ranges .ensures) _ (c .before .before .before .before .before .before .before .before .split .ensures) (c .before .before .before .before .before .before .before .before .before .enum-told .given .1))
 
 returns-2 : tie.Need-returns-2
 returns-2 c =
     let s = c .before .before .before .before .before .before .before .before .before .before .before .before .before .before in
-    settled (s .args .plan) (s .args .offers) (s .pre) _ (c .before .before .before .before .before .before .before .before .before .before .before .before .task-ranges .ensures) _ (c .before .before .before .before .before .before .before .before .before .split .ensures) (c .before .before .before .before .before .before .before .before .before .before .enum-told .given .1) _ (c .settle-rated .ensures)
+    tested (s .args .plan) (s .args .offers) (s .pre) _ (c .before .before .before .before .before .before .before .before .before .before .before .before .task-ranges .ensures) _ (c .before .before .before .before .before .before .before .before .before .split .ensures) (c .before .before .before .before .before .before .before .before .before .before .enum-told .given .1) _ (c .test-rated .ensures)
 
-pub settle-tasks-spec : {M : Type 1} → statement M
-settle-tasks-spec =
+pub test-tasks-spec : {M : Type 1} → statement M
+test-tasks-spec =
     tie.close
     (tie.spec
     task-ranges-requires
     enum-told
     enum-told-2
-    unsettled-requires
+    untested-requires
     returns
     split-requires
-    settle-rated-requires
+    test-rated-requires
     returns-2)

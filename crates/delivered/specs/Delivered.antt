@@ -1,5 +1,5 @@
 -- The delivered engine: what can be seen of it is what `open`, `release` and `step` answer, for every input, tests 18 and 19 included.
---     named              whether a step's answer names a loop as running
+--     namesAsRunning     whether a step's answer names a loop as running
 --     nothingPending     whether no loop of a state has an unfinished job
 --     engineOf p         the engine opened on the plan p
 use Prim.Native.Nat.{ℕ}
@@ -15,8 +15,8 @@ use Rattle.state.specs.Calls.{openOf, releaseOf, stepOf}
 use Rattle.history.specs.Engine.{outcomeOf, Engine}
 
 -- "The answer says for each core which loop ran or that it was idle"
-unfoldable pub named : State → ℕ → Bool
-named s i = not (eqb i idle) && member i (stepOf s .runs)
+unfoldable pub namesAsRunning : State → ℕ → Bool
+namesAsRunning s i = not (eqb i idle) && member i (stepOf s .runs)
 
 unfoldable pub nothingPending : State → Bool
 nothingPending s = allOf (λ i. eqb (row (s .jobs) i) 0) 16
@@ -26,7 +26,7 @@ engineOf p =
     record {
       St = State;
       opened = openOf p .state;
-      runs = named;
+      runs = namesAsRunning;
       stepped = λ s. stepOf s .state;
       answer = λ s i c. outcomeOf (releaseOf s i c .answer);
       handed = λ s i c. releaseOf s i c .state;

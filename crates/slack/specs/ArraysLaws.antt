@@ -16,7 +16,7 @@ use Rattle.laws.specs.FirstLaws.{first-or-none, found-stays, none-more, found-a
 use Rattle.laws.specs.Tab.{tab}
 use Rattle.laws.specs.TabLaws.{set-tab, tab-ext, ext-tab, getD-tab}
 use Rattle.tasks.specs.TaskSet.{row}
-use Rattle.slack.specs.Settling.{upto}
+use Rattle.slack.specs.Arrays.{upto}
 
 module _ (f g : ℕ → ℕ) where
   pub upto-below : (n i : ℕ) → i < n → upto n f g i ≡ f i

@@ -3,7 +3,7 @@ use fields::columns::split;
 use fields::frame::frame;
 use fields::ranges::task_ranges;
 use slack::amount::amount;
-use slack::amount::first_chosen;
+use slack::amount::first_counted;
 use slack::rates::rate;
 use slack::vector::first_uncovered;
 use slack::vector::search;
@@ -13,22 +13,22 @@ use tasks::refusal;
 use tasks::tidy::tidy_slack;
 ghost use mathlib.Core.Path.{_≡_};
 ghost use Rattle.tasks.specs.TaskSet.{TaskSet};
-ghost use Rattle.slack.specs.Settling.{Settling};
-ghost use Rattle.slack.specs.SettleLaws.{Framed};
-ghost use Rattle.analysis.specs.Settled.{Settles, Offered, RatesSettle, TasksSettle};
+ghost use Rattle.slack.specs.Arrays.{ArraysOf};
+ghost use Rattle.slack.specs.StageLaws.{Framed};
+ghost use Rattle.analysis.specs.SlackTest.{PlanTested, Offered, RatesTested, TasksTested};
 ghost use Rattle.fields.specs.Columns.{setFrom};
 ghost use Rattle.slack.specs.Rates.{Ranges};
 
 // The answer, and where it is no refusal the slack, offered or found, with zeros in unused places.
-pub struct Settled {
+pub struct Tested {
     pub answer: Answer,
     pub slack: [u32; 16],
 }
 
-fn unsettled(answer: Answer) -> Settled
+fn untested(answer: Answer) -> Tested
     ensures { λ r. ⌜ r .answer ≡ answer ⌝ }
 {
-    Settled {
+    Tested {
         answer,
         slack: [0; 16],
     }
@@ -44,28 +44,28 @@ fn offered(
     surplus: u64,
     cores: usize,
     tasks: usize,
-) -> Settled
-    requires { ⌜ ((s : TaskSet) × Settling s (now share) (now budget) (now offset) multiple surplus cores tasks) ⌝ }
-    ensures { λ r. ⌜ ((s : TaskSet) → Settling s (now (share .entry)) (now (budget .entry)) (now (offset .entry)) multiple surplus cores tasks → Offered s (now (slack .entry)) r) ⌝ }
+) -> Tested
+    requires { ⌜ ((s : TaskSet) × ArraysOf s (now share) (now budget) (now offset) multiple surplus cores tasks) ⌝ }
+    ensures { λ r. ⌜ ((s : TaskSet) → ArraysOf s (now (share .entry)) (now (budget .entry)) (now (offset .entry)) multiple surplus cores tasks → Offered s (now (slack .entry)) r) ⌝ }
 {
     let used = tidy_slack(slack, tasks);
-    let mut chosen = first_chosen(cores - 1);
+    let mut chosen = first_counted(cores - 1);
     let whole = amount(share, offset, &used, &mut chosen, surplus, tasks);
     let bad = first_uncovered(&used, budget, whole, multiple, cores as u64, tasks);
     if bad < tasks {
-        return unsettled(Answer::Refused {
+        return untested(Answer::Refused {
             number: refusal::SLACK_NOT_COMPLIANT,
             index: bad as u16,
         });
     }
-    Settled {
+    Tested {
         answer: Answer::Accepted,
         slack: used,
     }
 }
 
 // Tests 9 to 12, of a task set that meets none of 3 to 8.
-fn settle_rated(
+fn test_rated(
     separation: &[u32; 16],
     budget: &[u32; 16],
     offset: &[u32; 16],
@@ -73,14 +73,14 @@ fn settle_rated(
     cores: usize,
     tasks: usize,
     offers: usize,
-) -> Settled
+) -> Tested
     requires { ⌜ Framed cores tasks × Ranges (setFrom cores tasks (now separation) (now budget) (now offset)) ⌝ }
-    ensures { λ r. ⌜ RatesSettle (setFrom cores tasks (now (separation .entry)) (now (budget .entry)) (now (offset .entry))) (now (slack .entry)) offers r ⌝ }
+    ensures { λ r. ⌜ RatesTested (setFrom cores tasks (now (separation .entry)) (now (budget .entry)) (now (offset .entry))) (now (slack .entry)) offers r ⌝ }
 {
     let rates = rate(separation, budget, offset, cores, tasks);
     let rated = rates.answer;
     let Answer::Accepted = rated else {
-        return unsettled(rated);
+        return untested(rated);
     };
     let share = rates.share;
     if offers == 0 {
@@ -93,13 +93,13 @@ fn settle_rated(
             cores,
             tasks,
         );
-        return Settled {
+        return Tested {
             answer: Answer::Accepted,
             slack: found,
         };
     }
     if offers != tasks {
-        return unsettled(Answer::Refused {
+        return untested(Answer::Refused {
             number: refusal::SLACK_COUNT_WRONG,
             index: 0,
         });
@@ -117,22 +117,22 @@ fn settle_rated(
 }
 
 // Tests 6 to 12.
-fn settle_tasks(plan: Plan, offers: usize) -> Settled
+fn test_tasks(plan: Plan, offers: usize) -> Tested
     requires { ⌜ Framed (plan .cores) (plan .tasks) ⌝ }
-    ensures { λ r. ⌜ TasksSettle plan offers r ⌝ }
+    ensures { λ r. ⌜ TasksTested plan offers r ⌝ }
 {
     let tasks = plan.tasks;
     let task = plan.task;
     let fielded = task_ranges(task, tasks);
     let Answer::Accepted = fielded else {
-        return unsettled(fielded);
+        return untested(fielded);
     };
     let columns = split(task, tasks);
     let separation = columns.separation;
     let budget = columns.budget;
     let offset = columns.offset;
     let slack = plan.slack;
-    settle_rated(
+    test_rated(
         &separation,
         &budget,
         &offset,
@@ -144,13 +144,13 @@ fn settle_tasks(plan: Plan, offers: usize) -> Settled
 }
 
 // Tests 3 to 12, with a slack count of `offers`: a table's count may be wrong, a plan's mark can't.
-pub fn settle(plan: Plan, offers: usize) -> Settled
-    ensures { λ r. ⌜ Settles plan offers r ⌝ }
+pub fn test_slack(plan: Plan, offers: usize) -> Tested
+    ensures { λ r. ⌜ PlanTested plan offers r ⌝ }
 {
     let labels = plan.labels;
     let framed = frame(plan.cores, &labels, plan.tasks);
     let Answer::Accepted = framed else {
-        return unsettled(framed);
+        return untested(framed);
     };
-    settle_tasks(plan, offers)
+    test_tasks(plan, offers)
 }

@@ -23,7 +23,7 @@ use Rattle.tasks.specs.Tests.{tests, testPlan}
 use Rattle.codec.specs.Table.{contentIn, verdict}
 use Rattle.table.specs.Judged.{judged}
 use Rattle.roundtrip.specs.SectionLaws.{verdict-parts}
-use Rattle.roundtrip.specs.RoundTrip.{judged-kept}
+use Rattle.roundtrip.specs.RoundTrip.{judged-fits}
 use Rattle.logs.specs.LogBytes.{entryCount, entriesIn, logTest}
 use Rattle.logs.specs.LogLaws.{entries-length, entry-at, log-ticks}
 use Rattle.state.specs.Calls.{stepOf}
@@ -33,8 +33,8 @@ use Rattle.history.specs.Log.{Entry, tickAt, outcome, whole, Finishes, Claim}
 use Rattle.history.specs.Report.{finished, refusal, met, report, report-finished, finished-report, report-refused, refused-report}
 use Rattle.history.specs.OnMachine.{machineEngine}
 use Rattle.history.specs.Refusals.{met-not-23}
-use Rattle.demand.specs.Delivered.{nothingPending, engineOf}
-use Rattle.demand.specs.DeliveredLaws.{plan-steps, plan-history, plan-demand, plan-numbers, plan-ends, plan-quiet, plan-reports}
+use Rattle.delivered.specs.Delivered.{nothingPending, engineOf}
+use Rattle.delivered.specs.DeliveredLaws.{plan-steps, plan-history, plan-demand, plan-numbers, plan-ends, plan-quiet, plan-reports}
 
 -- "The engine is opened anew": on the plan that the judgement of the table hands back
 abbrev pub runOn : List ℕ → Engine
@@ -53,17 +53,17 @@ log-early l b e h =
 module _ (t : List ℕ) (a : verdict t ≡ Accepted) where
   pub plan-passes : testPlan (judged t .plan) ≡ Accepted
   unfolding testPlan
-  plan-passes = ap tests (judged-kept t a) ∙ verdict-parts t a .content
+  plan-passes = ap tests (judged-fits t a) ∙ verdict-parts t a .content
 
   pub demand-histories : HistoryClaim (runOn t) (contentIn t .tasks) (contentIn t .slack) 4000000000
   demand-histories =
-      subst (λ (c : Content). HistoryClaim (runOn t) (c .tasks) (c .slack) 4000000000) (judged-kept t a)
+      subst (λ (c : Content). HistoryClaim (runOn t) (c .tasks) (c .slack) 4000000000) (judged-fits t a)
       (plan-history (judged t .plan) plan-passes)
 
   module _ (l : List ℕ) (b : logTest l ≡ Accepted) where
     pub demand-3 : Claim (runOn t) (contentIn t .tasks) (contentIn t .slack) (entriesIn l)
     demand-3 =
-        subst (λ (c : Content). Claim (runOn t) (c .tasks) (c .slack) (entriesIn l)) (judged-kept t a)
+        subst (λ (c : Content). Claim (runOn t) (c .tasks) (c .slack) (entriesIn l)) (judged-fits t a)
         (plan-demand (judged t .plan) plan-passes (entriesIn l) (log-early l b))
 
     pub demand-ends : clock (whole (runOn t) (entriesIn l)) < 4000000000
@@ -82,12 +82,12 @@ module _ (t : List ℕ) (a : verdict t ≡ Accepted) where
     -- what is written of the entries is what a run of the abstract machine of that table says
     pub demand-machine : report (runOn t) (entriesIn l) ≡ report (machineEngine (contentIn t .tasks)) (entriesIn l)
     demand-machine =
-        subst (λ (c : Content). report (runOn t) (entriesIn l) ≡ report (machineEngine (c .tasks)) (entriesIn l)) (judged-kept t a)
+        subst (λ (c : Content). report (runOn t) (entriesIn l) ≡ report (machineEngine (c .tasks)) (entriesIn l)) (judged-fits t a)
         (plan-reports (judged t .plan) plan-passes (entriesIn l) (log-early l b))
 
     pub demand-numbers : (e : ℕ) → outcome (runOn t) (entriesIn l) e ≡ met (runOn t) (contentIn t .tasks) (entriesIn l) e
     demand-numbers e =
-        subst (λ (c : Content). outcome (runOn t) (entriesIn l) e ≡ met (runOn t) (c .tasks) (entriesIn l) e) (judged-kept t a)
+        subst (λ (c : Content). outcome (runOn t) (entriesIn l) e ≡ met (runOn t) (c .tasks) (entriesIn l) e) (judged-fits t a)
         (plan-numbers (judged t .plan) plan-passes (entriesIn l) (log-early l b) e)
 
     pub never-23 : (e : ℕ) → outcome (runOn t) (entriesIn l) e ≡ refused 23 → ⊥

@@ -30,8 +30,8 @@ use Rattle.fields.specs.Columns.{columnsOf, setFrom}
 use Rattle.fields.specs.Stages.{frameTest, fieldsTest}
 use Rattle.fields.specs.StageLaws.{fields-scan}
 use Rattle.slack.specs.Rates.{Ranges, ratesTest}
-use Rattle.analysis.specs.Settled.{offering, slackTest, offeredTest, hadSlack}
-use Rattle.slack.specs.SettleLaws.{Framed}
+use Rattle.analysis.specs.SlackTest.{offering, slackTest, offeredTest, hadSlack}
+use Rattle.slack.specs.StageLaws.{Framed}
 
 -- a field of a list's tasks, as a column has it
 column : (n : ℕ) (l : List Task) (field : Task → ℕ) → field noTask ≡ 0 → n ≤ 16 → (i : ℕ) →

@@ -51,7 +51,7 @@ use Rattle.history.specs.Drain.{quiet-idle, idle-quiet, whole-quiet}
 use Rattle.history.specs.Mirror.{Mirrors, like, same-quiet, mirror-history}
 use Rattle.history.specs.MirrorLog.{same-whole, same-report, same-counts}
 use Rattle.history.specs.LogClock.{whole-clock, mirror-demand, mirror-numbers}
-use Rattle.demand.specs.Delivered.{named, nothingPending, engineOf}
+use Rattle.delivered.specs.Delivered.{namesAsRunning, nothingPending, engineOf}
 
 pub same-answer : (s : TaskSet) (M : Machine) (i c : ℕ) → outcomeOf (admitTests s M i c) ≡ answerOf s M i c
 unfolding answerOf
@@ -127,8 +127,8 @@ module _ (p : Plan) (a : testPlan p ≡ Accepted) where
     answers : (i c : ℕ) → outcomeOf (releaseOf u i c .answer) ≡ answerOf s M i c
     answers i c = rw (released i c) (same-answer s M i c)
 
-    names : (i : ℕ) → named u i ≡ runs s M i
-    unfolding named tickedOf
+    names : (i : ℕ) → namesAsRunning u i ≡ runs s M i
+    unfolding namesAsRunning tickedOf
     names i = rw stepped (go (eqb i idle) refl (runs s M i) refl)
       where
         go : (b : Bool) → eqb i idle ≡ b → (r : Bool) → runs s M i ≡ r → not b && member i (tab (onCore s M) 8) ≡ runs s M i

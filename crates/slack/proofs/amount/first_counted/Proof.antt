@@ -7,10 +7,10 @@ use native.Mathlib.Omega.{arith}
 use Prim.Native.Nat.{_≤_, _-_}
 use mathlib.Core.Path.{_≡_, ap, _∙_}
 use lib.ListN.{set}
-use Rattle.slack.proofs.amount.first_chosen.Statement.{statement}
-use Rattle.slack.proofs.amount.first_chosen.Tie as tie
-use Rattle.slack.proofs.amount.first_chosen.Reads as reads
-use Rattle.slack.proofs.amount.first_chosen.Lts as lts
+use Rattle.slack.proofs.amount.first_counted.Statement.{statement}
+use Rattle.slack.proofs.amount.first_counted.Tie as tie
+use Rattle.slack.proofs.amount.first_counted.Reads as reads
+use Rattle.slack.proofs.amount.first_counted.Lts as lts
 
 abbrev Inv-loop : tie.InvT-loop
 Inv-loop counted chosen₀ i₀ chosen i = (i ≤ counted) × (chosen ≡ tab (cut i (λ i. true) false) 16)
@@ -46,7 +46,7 @@ returns c =
     let e : c .before .loop .i ≡ c .before .before .args .counted = omega arith in
     rw e at (c .before .loop .inv .1)
 
-pub first-chosen-spec : {M : Type 1} → statement M
-first-chosen-spec =
+pub first-counted-spec : {M : Type 1} → statement M
+first-counted-spec =
     tie.close
     (tie.spec Inv-loop μ-loop loop-holds array-write-chosen add-i loop-less loop-again returns)
