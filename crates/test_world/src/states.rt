@@ -2,9 +2,9 @@
 use crate::world::World;
 use state::State;
 use tasks::Plan;
-use test_engine::made;
 use test_script::line::number;
 use test_script::say;
+use test_states::made;
 
 fn narrow(value: u64) -> u32 {
     (value % 4294967296) as u32

@@ -1,14 +1,14 @@
--- `test_engine::same::same_places` is safe and ends: the job places that are left are the measure.
+-- `test_states::same::same_numbers` is safe and ends: the loops that are left are the measure.
 use Prim.Native.Nat.{_-_, _≤_}
 use borrow.Author.Needs.{needs}
-use Rattle.test_engine.proofs.same.same_places.Statement.{statement}
-use Rattle.test_engine.proofs.same.same_places.Tie as tie
+use Rattle.test_states.proofs.same.same_numbers.Statement.{statement}
+use Rattle.test_states.proofs.same.same_numbers.Tie as tie
 
 abbrev Inv-loop : tie.InvT-loop
-Inv-loop a b k₀ k = k ≤ 256
+Inv-loop a b i₀ i = i ≤ 16
 
 abbrev μ-loop : tie.MeasureT-loop
-μ-loop a b k₀ k = 256 - k
+μ-loop a b i₀ i = 16 - i
 
 loop-holds : tie.Need-loop-holds Inv-loop μ-loop
 loop-holds c = search needs
@@ -28,8 +28,8 @@ element-copy-out-if1-2 c = search needs
 returns : tie.Need-returns Inv-loop μ-loop
 returns c = search needs
 
-add-k : tie.Need-add-k Inv-loop μ-loop
-add-k c = search needs
+add-i : tie.Need-add-i Inv-loop μ-loop
+add-i c = search needs
 
 loop-less : tie.Need-loop-less Inv-loop μ-loop
 loop-less c = search needs
@@ -40,8 +40,8 @@ loop-again c = search needs
 returns-2 : tie.Need-returns-2 Inv-loop μ-loop
 returns-2 c = search needs
 
-pub same-places-spec : {M : Type 1} → statement M
-same-places-spec =
+pub same-numbers-spec : {M : Type 1} → statement M
+same-numbers-spec =
     tie.close
     (tie.spec
     Inv-loop
@@ -52,7 +52,7 @@ same-places-spec =
     mul-if1-2
     element-copy-out-if1-2
     returns
-    add-k
+    add-i
     loop-less
     loop-again
     returns-2)

@@ -1,8 +1,8 @@
--- `test_engine::same::unused_zero` is safe and ends: the job places that are left are the measure.
+-- `test_states::same::unused_zero` is safe and ends: the job places that are left are the measure.
 use Prim.Native.Nat.{_-_, _≤_}
 use borrow.Author.Needs.{needs}
-use Rattle.test_engine.proofs.same.unused_zero.Statement.{statement}
-use Rattle.test_engine.proofs.same.unused_zero.Tie as tie
+use Rattle.test_states.proofs.same.unused_zero.Statement.{statement}
+use Rattle.test_states.proofs.same.unused_zero.Tie as tie
 
 abbrev Inv-loop : tie.InvT-loop
 Inv-loop jobs release remaining k₀ k = k ≤ 256

@@ -1,8 +1,8 @@
--- `test_engine::made::full` is safe and ends: the job places that are left are the measure.
+-- `test_states::made::full` is safe and ends: the job places that are left are the measure.
 use Prim.Native.Nat.{_-_, _≤_}
 use borrow.Author.Needs.{needs}
-use Rattle.test_engine.proofs.made.full.Statement.{statement}
-use Rattle.test_engine.proofs.made.full.Tie as tie
+use Rattle.test_states.proofs.made.full.Statement.{statement}
+use Rattle.test_states.proofs.made.full.Tie as tie
 
 abbrev Inv-loop : tie.InvT-loop
 Inv-loop state₀ k₀ state k = k ≤ 16
