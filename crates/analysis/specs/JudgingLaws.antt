@@ -19,19 +19,19 @@ use Rattle.tasks.specs.Content.{Content}
 use Rattle.tasks.specs.Tests.{firstMet, orNext, foundTest, boundsTest, test3, test4, test5, test6, test7, test8, test9, test10, test11, tests}
 use Rattle.tasks.specs.AnswerLaws.{pass-lowest}
 use Rattle.tasks.specs.LimitsLaws.{limitTests}
-use Rattle.analysis.specs.Settled.{offeredTest, hadSlack}
+use Rattle.analysis.specs.SlackTest.{offeredTest, hadSlack}
 use Rattle.analysis.specs.PlanTestLaws.{test-refused, few-tasks, test-found, test-offered}
 
 -- 3 to 12
-abbrev pub settledBy : Content → Answer
-settledBy c = orNext (limitTests c) (firstMet (test11 c ∷ offeredTest c ∷ []))
+abbrev pub testedBy : Content → Answer
+testedBy c = orNext (limitTests c) (firstMet (test11 c ∷ offeredTest c ∷ []))
 
 unfoldable pub judging : Content → Answer
-judging c = orNext (settledBy c) (boundsTest (c .tasks) (row (tab (hadSlack c) 16)))
+judging c = orNext (testedBy c) (boundsTest (c .tasks) (row (tab (hadSlack c) 16)))
 
 module _ (c : Content) (same : (i : ℕ) → i < c .tasks .count → c .slack i ≡ hadSlack c i) where
   -- where slack is not offered, the found one never meets 12
-  twelve : settledBy c ≡ Accepted → foundTest (c .slack) (row (tab (hadSlack c) 16)) (c .tasks .count) ≡ Accepted
+  twelve : testedBy c ≡ Accepted → foundTest (c .slack) (row (tab (hadSlack c) 16)) (c .tasks .count) ≡ Accepted
   unfolding row
   twelve e =
       pass-lowest 12 _ (c .tasks .count)
@@ -39,9 +39,9 @@ module _ (c : Content) (same : (i : ℕ) → i < c .tasks .count → c .slack i 
 
   pub judging-tests : judging c ≡ tests c
   unfolding judging
-  judging-tests = go (settledBy c) refl (eqb (c .offers) 0) refl
+  judging-tests = go (testedBy c) refl (eqb (c .offers) 0) refl
     where
-      go : (a : Answer) → settledBy c ≡ a → (b : Bool) → eqb (c .offers) 0 ≡ b → judging c ≡ tests c
+      go : (a : Answer) → testedBy c ≡ a → (b : Bool) → eqb (c .offers) 0 ≡ b → judging c ≡ tests c
       go (Refused j i) e b z = rw e (sym (test-refused c j i e))
       go Accepted e true z = rw e (sym (test-found c e (tab (hadSlack c) 16) refl (eqb-true _ _ z) ∙ rw (twelve e)))
       go Accepted e false z = rw e (sym (test-offered c e (tab (hadSlack c) 16) refl (eqb-false _ _ z)))

@@ -1,5 +1,5 @@
-pub mod Settled
-pub mod SettledLaws
+pub mod SlackTest
+pub mod SlackTestLaws
 pub mod PlanTest
 pub mod PlanTestLaws
 pub mod JudgingLaws

@@ -1,5 +1,5 @@
--- How the test of a plan by 3 to 13 is put together from its settling and its bounds.
---     test-refused     a refusal of the settling is the plan's
+-- How the test of a plan by 3 to 13 is put together from its tested-slack and its bounds.
+--     test-refused     a refusal of the tested-slack is the plan's
 --     test-found       a plan marked as found: 12 and 13 against the found slack
 --     test-offered     a plan marked as offered: 13
 use Prim.Native.Nat.{ℕ, _≤_, _<_}
@@ -20,7 +20,7 @@ use Rattle.tasks.specs.Content.{Content, contentOf}
 use Rattle.tasks.specs.Tests.{firstMet, orNext, foundTest, boundsTest, test11, test12, test13, tests}
 use Rattle.tasks.specs.AnswerLaws.{lowest-ext, lowest-passed, orNext-passed, firstMet-passed}
 use Rattle.tasks.specs.LimitsLaws.{limitTests, slackTests, tests-split, limits-passed}
-use Rattle.analysis.specs.Settled.{offering, offeredTest, hadSlack}
+use Rattle.analysis.specs.SlackTest.{offering, offeredTest, hadSlack}
 
 orNext-refused : (a b : Answer) (j i : ℕ) → orNext a b ≡ Refused j i → (a ≡ Refused j i) ⊎ ((a ≡ Accepted) × (b ≡ Refused j i))
 orNext-refused Accepted b j i e = inr (refl, e)
@@ -32,8 +32,8 @@ last (Refused k i) = refl
 
 module _ (c : Content) where
   -- 11, and 12 of offered slack
-  settling : Answer
-  settling = firstMet (test11 c ∷ offeredTest c ∷ [])
+  tested-slack : Answer
+  tested-slack = firstMet (test11 c ∷ offeredTest c ∷ [])
 
   -- where offered slack meets 12, so does the content
   offered-met : (j i : ℕ) → offeredTest c ≡ Refused j i → test12 c ≡ Refused j i
@@ -44,8 +44,8 @@ module _ (c : Content) where
       go true z = let w : Accepted ≡ Refused j i = rw z at e in cc
       go false z = rw z (rw z at e)
 
-  slack-refused : (j i : ℕ) → settling ≡ Refused j i → slackTests c ≡ Refused j i
-  unfolding settling slackTests firstMet
+  slack-refused : (j i : ℕ) → tested-slack ≡ Refused j i → slackTests c ≡ Refused j i
+  unfolding tested-slack slackTests firstMet
   slack-refused j i e =
       ⊎-elim
       (λ (h : test11 c ≡ Refused j i). rw h)
@@ -58,7 +58,7 @@ module _ (c : Content) where
       (orNext-refused (test11 c) (orNext (offeredTest c) Accepted) j i e)
 
   pub test-refused : (j i : ℕ) → orNext (limitTests c) (firstMet (test11 c ∷ offeredTest c ∷ [])) ≡ Refused j i → tests c ≡ Refused j i
-  unfolding settling
+  unfolding tested-slack
   test-refused j i e =
       tests-split c
       ∙ ⊎-elim

@@ -1,6 +1,6 @@
 // The analysis of a plan: its test by document 01's refusals 3 to 13, and the slack that it has.
 mod plan_test;
-pub mod settle;
+pub mod slack_test;
 
 pub use plan_test::plan_bounds;
 pub use plan_test::slack_count;

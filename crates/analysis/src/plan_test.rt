@@ -1,5 +1,5 @@
 // The test of a plan that is handed in unchecked, by 3 to 13: the writer's and the opening's.
-use crate::settle::settle;
+use crate::slack_test::test_slack;
 use fields::bounds::bounds;
 use tasks::Answer;
 use tasks::Plan;
@@ -67,12 +67,12 @@ pub fn test(plan: Plan) -> Answer
     ensures { λ r. ⌜ r ≡ testPlan plan ⌝ }
 {
     let offers = slack_count(plan.offered, plan.tasks);
-    let settled = settle(plan, offers);
-    let answer = settled.answer;
+    let tested = test_slack(plan, offers);
+    let answer = tested.answer;
     let Answer::Accepted = answer else {
         return answer;
     };
-    let had = settled.slack;
+    let had = tested.slack;
     if offers == 0 {
         return found_test(plan, had);
     }

@@ -1,6 +1,6 @@
 -- Laws of the heads' arrays.
 --     Ticks, over       the machine some ticks later, in which the same loops ran and none finished before the last; the loops that finished then
---     settled           the places that are left are that machine's heads, but for the loops that finished
+--     heads-remain           the places that are left are that machine's heads, but for the loops that finished
 --     inserted          a loop that was out is in; left-out: one without a job may count as in
 use Prim.Native.Nat.{ℕ, zero, suc, _+_, _-_, _≤_, _<_}
 use mathlib.Core.Bool.{Bool, true, false, cond, not, _&&_, true≢false, false≢true, and-false}
@@ -15,7 +15,7 @@ use Rattle.tasks.specs.TaskSet.{TaskSet, row}
 use Rattle.machine.specs.Machine.{Job, job, Machine, pending, waiting, runs, leftOf}
 use Rattle.machine.specs.Choice.{earliest}
 use Rattle.choice.specs.Key.{keyOf}
-use Rattle.heads.specs.Order.{headWork, Head, Heads, workAfter, Settles, Inserted}
+use Rattle.heads.specs.Order.{headWork, Head, Heads, workAfter, HeadsRun, Inserted}
 use Rattle.heads.specs.OrderLaws.{owns-key, place-runs, place-idle}
 
 -- N is M after d ticks in which the same loops run and none finishes before the last
@@ -69,7 +69,7 @@ module _ {s : TaskSet} {M N : Machine} {d : ℕ} (T : Ticks s M N d) where
 
   module _ {key left : List ℕ} {n : ℕ} (few : s .count ≤ 16) (known : (i : ℕ) → waiting M i ≡ true → i < s .count)
       (busy : (i : ℕ) → waiting M i ≡ true → 1 ≤ headWork (M .lane i .queue)) (A : Heads s M (λ i. false) key left n)
-      {key′ left′ : List ℕ} {c : ℕ} (S : Settles key left n (s .cores) d key′ left′ c) where
+      {key′ left′ : List ℕ} {c : ℕ} (S : HeadsRun key left n (s .cores) d key′ left′ c) where
     -- whether place b's loop runs, and what it has left
     module _ (b : ℕ) (h : b < n) where
       abbrev i : ℕ
@@ -123,8 +123,8 @@ module _ {s : TaskSet} {M N : Machine} {d : ℕ} (T : Ticks s M N d) where
         let e : A .sound (r .0) (r .1) .0 ≡ i = owns-key (λ j v. omega (arith, known j v)) A (r .0) i (r .1) (omega (arith, known i w)) (r .2) in
         (r .0, r .1, r .2, over-here (r .0) (r .1) false (ap (over s M d) e ∙ o))
 
-    pub settled : Heads s N (over s M d) key′ left′ c
-    settled =
+    pub heads-remain : Heads s N (over s M d) key′ left′ c
+    heads-remain =
         record {
           rises = λ a b l h.
               rw (S .keys a (omega arith), S .keys b h) (A .rises (S .from a) (S .from b) (S .from-rises a b l h) (S .from-low b h));

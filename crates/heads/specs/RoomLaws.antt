@@ -28,8 +28,8 @@ length-later f a (suc d) = ap suc (length-later f (suc a) d)
 
 module _ {s : TaskSet} {M : Machine} {out : ℕ → Bool} {key left : List ℕ} {n : ℕ} (low : (j : ℕ) → waiting M j ≡ true → j < 16)
     (A : Heads s M out key left n) where
-  named-in : (j : ℕ) → member j (later (loopIn key) 0 n) ≡ true → (waiting M j ≡ true) × (out j ≡ false)
-  named-in j m =
+  listed-in : (j : ℕ) → member j (later (loopIn key) 0 n) ≡ true → (waiting M j ≡ true) × (out j ≡ false)
+  listed-in j m =
       let r = later-in (loopIn key) 0 n j m in
       let h : r .0 < n = omega (arith, r .2) in
       let x = A .sound (r .0) h in
@@ -38,7 +38,7 @@ module _ {s : TaskSet} {M : Machine} {out : ℕ → Bool} {key left : List ℕ} 
 
   as-many : count (λ j. member j (later (loopIn key) 0 n)) 16 ≡ n
   as-many =
-      count-members (later (loopIn key) 0 n) 16 (rises-distinct (keyOf s M) (later (loopIn key) 0 n) (all-rise low A)) (λ j m. low j (named-in j m .0))
+      count-members (later (loopIn key) 0 n) 16 (rises-distinct (keyOf s M) (later (loopIn key) 0 n) (all-rise low A)) (λ j m. low j (listed-in j m .0))
       ∙ length-later (loopIn key) 0 n
 
   pub heads-few : n ≤ 16
@@ -54,5 +54,5 @@ module _ {s : TaskSet} {M : Machine} {out : ℕ → Bool} {key left : List ℕ} 
       )
     where
       absent : (b : Bool) → member i (later (loopIn key) 0 n) ≡ b → not b ≡ true
-      absent true m = absurd (true≢false (sym o ∙ named-in i m .1))
+      absent true m = absurd (true≢false (sym o ∙ listed-in i m .1))
       absent false m = refl

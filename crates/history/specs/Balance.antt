@@ -23,7 +23,7 @@ use Rattle.machine.specs.Reached.{Reached, opening, release}
 use Rattle.machine.specs.Choice.{earliest, reached-tick}
 use Rattle.machine.specs.Sound.{reached-sound}
 use Rattle.machine.specs.Work.{work, work-joined, work-served}
-use Rattle.history.specs.Engine.{Outcome, taken, refused, isTaken, outcomeOf, Call, step, ask, clock, state, verdict, demanded, named}
+use Rattle.history.specs.Engine.{Outcome, taken, refused, isTaken, outcomeOf, Call, step, ask, clock, state, verdict, demanded, namedTicks}
 use Rattle.history.specs.EngineLaws.{named-now}
 use Rattle.history.specs.OnMachine.{answerOf, ifTaken, handedOf, machineEngine}
 
@@ -96,8 +96,8 @@ module _ (s : TaskSet) where
 
   pub balance :
       (h : List Call) (i : ℕ)
-      → named (machineEngine s) h i (clock h) + work (state (machineEngine s) h .lane i .queue) ≡ demanded (machineEngine s) h i
-  unfolding named demanded opened tick advanced verdict admitted joined
+      → namedTicks (machineEngine s) h i (clock h) + work (state (machineEngine s) h .lane i .queue) ≡ demanded (machineEngine s) h i
+  unfolding namedTicks demanded opened tick advanced verdict admitted joined
   balance [] i = refl
   balance (step ∷ h) i =
       omega (
@@ -108,7 +108,7 @@ module _ (s : TaskSet) where
       )
   balance (ask j c ∷ h) i =
       handed-cases s (state (machineEngine s) h) j c
-      (λ o M. named (machineEngine s) h i (clock h) + work (M .lane i .queue)
+      (λ o M. namedTicks (machineEngine s) h i (clock h) + work (M .lane i .queue)
       ≡ demanded (machineEngine s) h i + cond (eqb i j && isTaken o) c 0)
       (λ e. more (state (machineEngine s) h) _ _ (eqb i j) (balance h i))
       (λ k e. same _ _ _ (eqb i j) (balance h i))

@@ -5,7 +5,7 @@
 --     Call, state, clock      a call; the state handed back by the last call of a history; the number of its steps
 --     verdict                 the answer to a release after a history
 --     isTaken, demanded       whether an answer is no refusal; what the taken releases of a loop demand together
---     named                   in how many of the first f steps the answer names a loop as running
+--     namedTicks                 in how many of the first f steps the answer names a loop as running
 --     Ends                    a loop is named often enough for the first time by f steps
 --     HistoryClaim            what is claimed of every history, whoever makes its calls
 use Prim.Native.Nat.{ℕ, suc, _+_, _≤_, _<_}
@@ -72,16 +72,16 @@ module _ (E : Engine) where
   demanded (ask j c ∷ h) i = demanded h i + cond (eqb i j && isTaken (verdict h j c)) c 0
 
   -- in how many of the first f steps of h the answer names loop i; a step is among them if the clock before it is below f
-  unfoldable pub named : List Call → ℕ → ℕ → ℕ
-  named [] i f = 0
-  named (step ∷ h) i f = named h i f + cond (ltb (clock h) f && E .runs (state h) i) 1 0
-  named (ask j c ∷ h) i f = named h i f
+  unfoldable pub namedTicks : List Call → ℕ → ℕ → ℕ
+  namedTicks [] i f = 0
+  namedTicks (step ∷ h) i f = namedTicks h i f + cond (ltb (clock h) f && E .runs (state h) i) 1 0
+  namedTicks (ask j c ∷ h) i f = namedTicks h i f
 
   -- "the first step by which the steps' answers since the opening have named that loop as running in as many ticks as" d
   pub record Ends (h : List Call) (i d f : ℕ) : Type 0 where
     pub made : f ≤ clock h
-    pub enough : named h i f ≡ d
-    pub first-so : (g : ℕ) → g < f → named h i g < d
+    pub enough : namedTicks h i f ≡ d
+    pub first-so : (g : ℕ) → g < f → namedTicks h i g < d
 
 -- Of every history with fewer than B steps. A release of loop i with demand c is asked after the calls h, it is taken, and the calls g follow it:
 -- the demands of the loop's releases up to and with it are `demanded E (ask i c ∷ h) i`.

@@ -17,35 +17,35 @@ use native.Mathlib.Nat.{le-refl, le-antisymm, le-of-suc-le-suc, lt-of-not-le}
 use native.Mathlib.Omega.{arith}
 use lib.Dec.{ltb}
 use borrow.Author.Tests.{lt-ltb, le-ltb, ltb-true}
-use Rattle.history.specs.Engine.{Engine, Call, step, ask, clock, state, demanded, named, Ends}
+use Rattle.history.specs.Engine.{Engine, Call, step, ask, clock, state, demanded, namedTicks, Ends}
 use Rattle.history.specs.Log.{wait, until}
 
 module _ (E : Engine) where
-  pub named-past : (h : List Call) (i f g : ℕ) → clock h ≤ f → clock h ≤ g → named E h i f ≡ named E h i g
-  unfolding named
+  pub named-past : (h : List Call) (i f g : ℕ) → clock h ≤ f → clock h ≤ g → namedTicks E h i f ≡ namedTicks E h i g
+  unfolding namedTicks
   named-past [] i f g p q = refl
   named-past (step ∷ h) i f g p q =
       rw (lt-ltb (clock h) f p, lt-ltb (clock h) g q, named-past h i f g (omega arith) (omega arith))
   named-past (ask j c ∷ h) i f g p q = named-past h i f g p q
 
-  pub named-mono : (h : List Call) (i f g : ℕ) → f ≤ g → named E h i f ≤ named E h i g
-  unfolding named
+  pub named-mono : (h : List Call) (i f g : ℕ) → f ≤ g → namedTicks E h i f ≤ namedTicks E h i g
+  unfolding namedTicks
   named-mono [] i f g p = omega arith
   named-mono (step ∷ h) i f g p = go (ltb (clock h) f) refl (named-mono h i f g p)
     where
       go :
-          (b : Bool) → ltb (clock h) f ≡ b → named E h i f ≤ named E h i g
-          → named E h i f + cond (b && E .runs (state E h) i) 1 0 ≤ named E h i g + cond (ltb (clock h) g && E .runs (state E h) i) 1 0
+          (b : Bool) → ltb (clock h) f ≡ b → namedTicks E h i f ≤ namedTicks E h i g
+          → namedTicks E h i f + cond (b && E .runs (state E h) i) 1 0 ≤ namedTicks E h i g + cond (ltb (clock h) g && E .runs (state E h) i) 1 0
       go true e ih = rw (lt-ltb (clock h) g (omega (arith, ltb-true (clock h) f e))) (omega arith)
       go false e ih = omega arith
   named-mono (ask j c ∷ h) i f g p = named-mono h i f g p
 
-  pub named-before : (h : List Call) (i f : ℕ) → f ≤ clock h → named E (step ∷ h) i f ≡ named E h i f
-  unfolding named
+  pub named-before : (h : List Call) (i f : ℕ) → f ≤ clock h → namedTicks E (step ∷ h) i f ≡ namedTicks E h i f
+  unfolding namedTicks
   named-before h i f p = rw (le-ltb (clock h) f p) (omega arith)
 
-  pub named-now : (h : List Call) (i : ℕ) → named E (step ∷ h) i (suc (clock h)) ≡ named E h i (clock h) + cond (E .runs (state E h) i) 1 0
-  unfolding named
+  pub named-now : (h : List Call) (i : ℕ) → namedTicks E (step ∷ h) i (suc (clock h)) ≡ namedTicks E h i (clock h) + cond (E .runs (state E h) i) 1 0
+  unfolding namedTicks
   named-now h i = rw (lt-ltb (clock h) (suc (clock h)) (le-refl _), named-past h i (suc (clock h)) (clock h) (omega arith) (le-refl _))
 
   pub ends-step : (h : List Call) (i d f : ℕ) → Ends E h i d f → Ends E (step ∷ h) i d f
@@ -57,11 +57,11 @@ module _ (E : Engine) where
       }
 
   pub ends-ask : (h : List Call) (j c i d f : ℕ) → Ends E h i d f → Ends E (ask j c ∷ h) i d f
-  unfolding named
+  unfolding namedTicks
   ends-ask h j c i d f x = record { made = x .made; enough = x .enough; first-so = x .first-so }
 
   pub ends-now :
-      (h : List Call) (i d : ℕ) → named E h i (clock h) + 1 ≡ d → E .runs (state E h) i ≡ true → Ends E (step ∷ h) i d (suc (clock h))
+      (h : List Call) (i d : ℕ) → namedTicks E h i (clock h) + 1 ≡ d → E .runs (state E h) i ≡ true → Ends E (step ∷ h) i d (suc (clock h))
   ends-now h i d e r =
       record {
         made = le-refl _;

@@ -9,7 +9,7 @@ pub mod Balance
 pub mod Life
 pub mod Refusals
 pub mod Drain
-pub mod Demand
+pub mod MachineClaim
 pub mod Mirror
 pub mod MirrorLog
 pub mod LogClock

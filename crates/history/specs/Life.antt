@@ -24,7 +24,7 @@ use Rattle.machine.specs.Reached.{AllInTime, Reached}
 use Rattle.machine.specs.Theorem.{bound-theorem, never-full}
 use Rattle.machine.specs.Sound.{Rising, reached-sound}
 use Rattle.machine.specs.Work.{work}
-use Rattle.history.specs.Engine.{taken, refused, outcomeOf, Call, step, ask, clock, state, verdict, demanded, named, Ends, HistoryClaim}
+use Rattle.history.specs.Engine.{taken, refused, outcomeOf, Call, step, ask, clock, state, verdict, demanded, namedTicks, Ends, HistoryClaim}
 use Rattle.history.specs.EngineLaws.{named-now, named-mono, ends-step, ends-ask, ends-now, ends-once}
 use Rattle.history.specs.OnMachine.{answerOf, handedOf, machineEngine}
 use Rattle.history.specs.Balance.{not-refused, other, answer-allowed, handed-cases, reached, machine-clock, balance}
@@ -68,7 +68,7 @@ upto-in-time t b r k (job a w ∷ q) h (inr p) = omega (arith, upto-in-time (t +
 -- loop i's release at tick r, whose demand and those before it add up to d
 pub data Life (s : TaskSet) (x : ℕ → ℕ) (h : List Call) (i d r : ℕ) : Type 0 where
   pending :
-      (k : ℕ) → Upto r (suc k) (state (machineEngine s) h .lane i .queue) → named (machineEngine s) h i (clock h) + suc k ≡ d
+      (k : ℕ) → Upto r (suc k) (state (machineEngine s) h .lane i .queue) → namedTicks (machineEngine s) h i (clock h) + suc k ≡ d
       → Life s x h i d r
   ended : (f : ℕ) → Ends (machineEngine s) h i d f → f ≤ r + bound s x i → Life s x h i d r
 
@@ -86,7 +86,7 @@ module _ (s : TaskSet) (x : ℕ → ℕ) (L : Limits s) (C : Compliant s x) wher
     where
       go :
           (b : Bool) → runs s (state (machineEngine s) h) i ≡ b → (k : ℕ) → Upto r (suc k) (state (machineEngine s) h .lane i .queue)
-          → named (machineEngine s) h i (clock h) + suc k ≡ d → Life s x (step ∷ h) i d r
+          → namedTicks (machineEngine s) h i (clock h) + suc k ≡ d → Life s x (step ∷ h) i d r
       go false e k u n = pending k (rw e u) (omega (arith, rw e at (named-now (machineEngine s) h i)))
       go true e zero u n = ended (suc (clock h)) (ends-now (machineEngine s) h i d n e) (omega (arith, in-time h i r 1 l u))
       go true e (suc k) u n =
@@ -97,7 +97,7 @@ module _ (s : TaskSet) (x : ℕ → ℕ) (L : Limits s) (C : Compliant s x) wher
           (omega (arith, rw e at (named-now (machineEngine s) h i)))
 
   pub life-ask : (h : List Call) (j c i d r : ℕ) → Life s x h i d r → Life s x (ask j c ∷ h) i d r
-  unfolding admitted joined named
+  unfolding admitted joined namedTicks
   life-ask h j c i d r (ended f e b) = ended f (ends-ask (machineEngine s) h j c i d f e) b
   life-ask h j c i d r (pending k u n) =
       pending k
@@ -115,7 +115,7 @@ module _ (s : TaskSet) (x : ℕ → ℕ) (L : Limits s) (C : Compliant s x) wher
   pub life-new :
       (h : List Call) (i c : ℕ) → verdict (machineEngine s) h i c ≡ taken
       → Life s x (ask i c ∷ h) i (demanded (machineEngine s) (ask i c ∷ h) i) (clock h)
-  unfolding verdict demanded named handedOf admitted joined
+  unfolding verdict demanded namedTicks handedOf admitted joined
   life-new h i c e = go c (answer-allowed s (state (machineEngine s) h) i c e .0 .demand-low) e
     where
       go :

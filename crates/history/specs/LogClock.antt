@@ -32,7 +32,7 @@ use Rattle.history.specs.OnMachine.{quietOf, machineEngine}
 use Rattle.history.specs.Balance.{reached, machine-clock}
 use Rattle.history.specs.Refusals.{last-wait, machine-met}
 use Rattle.history.specs.Drain.{idle-quiet}
-use Rattle.history.specs.Demand.{machine-claim}
+use Rattle.history.specs.MachineClaim.{machine-claim}
 use Rattle.history.specs.Mirror.{Mirrors}
 use Rattle.history.specs.MirrorLog.{mirror-claim, mirror-met}
 use Rattle.history.specs.Report.{met}

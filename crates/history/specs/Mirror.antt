@@ -9,7 +9,7 @@ use mathlib.Core.Logic.{_↔_}
 use mathlib.Core.List.{List, [], _∷_, _++_}
 use native.Mathlib.Omega.{arith}
 use Rattle.tasks.specs.TaskSet.{TaskSet}
-use Rattle.history.specs.Engine.{Engine, Call, step, ask, clock, state, verdict, demanded, named, Ends, HistoryClaim}
+use Rattle.history.specs.Engine.{Engine, Call, step, ask, clock, state, verdict, demanded, namedTicks, Ends, HistoryClaim}
 use Rattle.history.specs.EngineLaws.{clock-later}
 
 pub record Mirrors (E F : Engine) (B : ℕ) : Type 1 where
@@ -35,8 +35,8 @@ module _ (E F : Engine) (B : ℕ) (m : Mirrors E F B) where
   pub same-quiet : (h : List Call) → clock h < B → E .quiet (state E h) ≡ F .quiet (state F h)
   same-quiet h l = m .quiets (clock h) (state E h) (state F h) l (like h l)
 
-  pub same-named : (h : List Call) (i f : ℕ) → clock h ≤ B → named E h i f ≡ named F h i f
-  unfolding named
+  pub same-named : (h : List Call) (i f : ℕ) → clock h ≤ B → namedTicks E h i f ≡ namedTicks F h i f
+  unfolding namedTicks
   same-named [] i f l = refl
   same-named (step ∷ h) i f l =
       rw (same-named h i f (omega arith), m .runs (clock h) (state E h) (state F h) i l (like h l))

@@ -19,7 +19,7 @@ use Rattle.laws.specs.First.{first}
 use Rattle.laws.specs.FirstLaws.{first-or-none, first-holds, first-before, first-none, first-unique, none-first}
 use Rattle.laws.specs.Sum.{sum, count}
 use Rattle.tasks.specs.TaskSet.{TaskSet}
-use Rattle.history.specs.Engine.{isTaken, named, Engine, clock, state}
+use Rattle.history.specs.Engine.{isTaken, namedTicks, Engine, clock, state}
 use Rattle.history.specs.EngineLaws.{clock-wait, until-clock}
 use Rattle.history.specs.Log.{Entry, noEntry, tickAt, loopAt, demandAt, largest, wait, until, calls, outcome, Taken, owed, allOwed, rest, whole, Latest, Admissible, InTime, Claim}
 use Rattle.history.specs.LogLaws.{largest-le, largest-least, clock-calls, claim-of}
@@ -108,7 +108,7 @@ module _ (E F : Engine) (B : ℕ) (m : Mirrors E F B) (l : List Entry) (ends : c
       (λ n. reportOf (outcome F l e) (first (λ f. leb (owed F l (loopAt l e) (suc e)) (n f)) (suc (clock (whole F l)))))
       names)
     where
-      names : named E (whole F l) (loopAt l e) ≡ named F (whole F l) (loopAt l e)
+      names : namedTicks E (whole F l) (loopAt l e) ≡ namedTicks F (whole F l) (loopAt l e)
       names = fun-ext (λ f. same-named E F B m (whole F l) (loopAt l e) f (omega arith))
 
   pub same-counts : (takenCount E l ≡ takenCount F l) × (refusedCount E l ≡ refusedCount F l)

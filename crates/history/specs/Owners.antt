@@ -24,7 +24,7 @@ use Rattle.tasks.specs.TaskSet.{TaskSet}
 use Rattle.machine.specs.Machine.{Job, job, joined, admitted, runs, served, advanced, tick}
 use Rattle.machine.specs.Sound.{Rising, reached-sound}
 use Rattle.machine.specs.Work.{work}
-use Rattle.history.specs.Engine.{Engine, Call, step, clock, state, verdict, named, Ends}
+use Rattle.history.specs.Engine.{Engine, Call, step, clock, state, verdict, namedTicks, Ends}
 use Rattle.history.specs.EngineLaws.{demanded-until, named-now, ends-now}
 use Rattle.history.specs.Log.{Entry, tickAt, loopAt, demandAt, until, calls, Taken, owed}
 use Rattle.history.specs.LogLaws.{taken-call, demanded-calls}
@@ -85,7 +85,7 @@ module _ (s : TaskSet) (l : List Entry) where
   pub owed-new :
       (e : ℕ) → Taken (machineEngine s) l e
       → owed (machineEngine s) l (loopAt l e) (suc e)
-      ≡ named (machineEngine s) (until (tickAt l e) (calls l e)) (loopAt l e) (clock (until (tickAt l e) (calls l e)))
+      ≡ namedTicks (machineEngine s) (until (tickAt l e) (calls l e)) (loopAt l e) (clock (until (tickAt l e) (calls l e)))
       + work (state (machineEngine s) (until (tickAt l e) (calls l e)) .lane (loopAt l e) .queue)
       + demandAt l e
   unfolding owed sum
@@ -102,11 +102,11 @@ module _ (s : TaskSet) (l : List Entry) where
   pub owners-taken :
       (e : ℕ) (os : List ℕ) → Taken (machineEngine s) l e
       → Owned (machineEngine s) l (loopAt l e)
-      (named (machineEngine s) (until (tickAt l e) (calls l e)) (loopAt l e) (clock (until (tickAt l e) (calls l e)))) os
+      (namedTicks (machineEngine s) (until (tickAt l e) (calls l e)) (loopAt l e) (clock (until (tickAt l e) (calls l e)))) os
       (state (machineEngine s) (until (tickAt l e) (calls l e)) .lane (loopAt l e) .queue)
-      → Owned (machineEngine s) l (loopAt l e) (named (machineEngine s) (calls l (suc e)) (loopAt l e) (clock (calls l (suc e))))
+      → Owned (machineEngine s) l (loopAt l e) (namedTicks (machineEngine s) (calls l (suc e)) (loopAt l e) (clock (calls l (suc e))))
       (os ++ e ∷ []) (state (machineEngine s) (calls l (suc e)) .lane (loopAt l e) .queue)
-  unfolding named verdict handedOf admitted joined
+  unfolding namedTicks verdict handedOf admitted joined
   owners-taken e os t p =
       let c = taken-call l (machineEngine s) e t in
       rw (c .2, c .1, eq-eqb (loopAt l e) (loopAt l e) refl)
@@ -115,24 +115,24 @@ module _ (s : TaskSet) (l : List Entry) where
 
   module _ (h : List Call) (i : ℕ) (os : List ℕ) (less : i < s .count) where
     pub owner-ends :
-        Owned (machineEngine s) l i (named (machineEngine s) h i (clock h)) os (state (machineEngine s) h .lane i .queue)
+        Owned (machineEngine s) l i (namedTicks (machineEngine s) h i (clock h)) os (state (machineEngine s) h .lane i .queue)
         → runs s (state (machineEngine s) h) i ≡ true → finishing (state (machineEngine s) h .lane i .queue) ≡ true
         → Ends (machineEngine s) (step ∷ h) i (owed (machineEngine s) l i (suc (getD os 0 0))) (suc (clock h))
     owner-ends p r f =
         ends-now (machineEngine s) h i _
         (sym (owned-head (machineEngine s) l i (s .task i .separation) (s .task i .budget) (state (machineEngine s) h .clock) 0
-        (named (machineEngine s) h i (clock h)) os (state (machineEngine s) h .lane i .queue)
+        (namedTicks (machineEngine s) h i (clock h)) os (state (machineEngine s) h .lane i .queue)
         (reached-sound s (reached s h) .lanes i less .rising) p f .2))
         r
 
     pub owners-tick :
-        Owned (machineEngine s) l i (named (machineEngine s) h i (clock h)) os (state (machineEngine s) h .lane i .queue)
-        → Owned (machineEngine s) l i (named (machineEngine s) (step ∷ h) i (suc (clock h)))
+        Owned (machineEngine s) l i (namedTicks (machineEngine s) h i (clock h)) os (state (machineEngine s) h .lane i .queue)
+        → Owned (machineEngine s) l i (namedTicks (machineEngine s) (step ∷ h) i (suc (clock h)))
         (cond (runs s (state (machineEngine s) h) i && finishing (state (machineEngine s) h .lane i .queue)) (drop 1 os) os)
         (state (machineEngine s) (step ∷ h) .lane i .queue)
     unfolding tick advanced
     owners-tick p =
         rw (named-now (machineEngine s) h i)
         (owned-tick (machineEngine s) l i (s .task i .separation) (s .task i .budget) (state (machineEngine s) h .clock) 0
-        (named (machineEngine s) h i (clock h)) os (state (machineEngine s) h .lane i .queue) (runs s (state (machineEngine s) h) i)
+        (namedTicks (machineEngine s) h i (clock h)) os (state (machineEngine s) h .lane i .queue) (runs s (state (machineEngine s) h) i)
         (reached-sound s (reached s h) .lanes i less .rising) p)

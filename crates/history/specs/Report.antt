@@ -25,7 +25,7 @@ use Rattle.tasks.specs.TaskSet.{TaskSet}
 use Rattle.tasks.specs.Tests.{refuse, firstMet}
 use Rattle.machine.specs.Machine.{within}
 use Rattle.machine.specs.Admission.{unknown, badDemand}
-use Rattle.history.specs.Engine.{Outcome, taken, refused, isTaken, outcomeOf, Engine, clock, named}
+use Rattle.history.specs.Engine.{Outcome, taken, refused, isTaken, outcomeOf, Engine, clock, namedTicks}
 use Rattle.history.specs.Log.{Entry, tickAt, loopAt, demandAt, back, outcome, owed, whole, Finishes, Claim}
 
 -- "kind 1 and finish tick, or kind 2 and refusal number"
@@ -44,7 +44,7 @@ module _ (E : Engine) (l : List Entry) where
   lastTaken i (suc e) = cond (eqb i (loopAt l e) && isTaken (outcome E l e)) (some (tickAt l e)) (lastTaken i e)
 
   unfoldable pub finishTick : ℕ → ℕ
-  finishTick e = first (λ f. leb (owed E l (loopAt l e) (suc e)) (named E (whole E l) (loopAt l e) f)) (suc (clock (whole E l)))
+  finishTick e = first (λ f. leb (owed E l (loopAt l e) (suc e)) (namedTicks E (whole E l) (loopAt l e) f)) (suc (clock (whole E l)))
 
   unfoldable pub report : ℕ → Report
   report e = reportOf (outcome E l e) (finishTick e)

@@ -18,7 +18,7 @@ use Rattle.tasks.specs.Tests.{firstMet, outside}
 use Rattle.machine.specs.Admission.{joinTests, admitTests}
 use Rattle.machine.specs.Machine.{opened, joined, admitted, waiting, point, before, chosen, runs, served, advanced, tick}
 use Rattle.machine.specs.Met.{p3}
-use Rattle.history.specs.Engine.{Engine, verdict, demanded, named}
+use Rattle.history.specs.Engine.{Engine, verdict, demanded, namedTicks}
 use Rattle.history.specs.Log.{Entry, largest, back, until, calls, outcome, owed, allOwed, rest, whole}
 use Rattle.history.specs.OnMachine.{answerOf, handedOf, quietOf, machineEngine}
 use Rattle.history.specs.Report.{Report, finished, refusal, finishTick, report, takenCount, refusedCount}
@@ -101,5 +101,5 @@ agreeAll [] = true
 agreeAll (c ∷ l) = agrees c && agreeAll l
 
 pub worked : T (agreeAll cases)
-unfolding cases same agree agrees agreeAll p3 first sum count tab place ranked member noTask taskOf outside firstMet opened joinTests admitTests joined admitted waiting point before chosen runs served advanced tick verdict demanded named largest back until calls outcome owed allOwed rest whole answerOf handedOf quietOf finishTick report takenCount refusedCount
+unfolding cases same agree agrees agreeAll p3 first sum count tab place ranked member noTask taskOf outside firstMet opened joinTests admitTests joined admitted waiting point before chosen runs served advanced tick verdict demanded namedTicks largest back until calls outcome owed allOwed rest whole answerOf handedOf quietOf finishTick report takenCount refusedCount
 worked = tt

@@ -11,5 +11,5 @@ pub mod MemberLaws
 pub mod SumLaws
 pub mod RankLaws
 pub mod LargestLaws
-pub mod ChoiceLaws
+pub mod SwapLaws
 pub mod SetsLaws

@@ -3,7 +3,7 @@
 use choice::head_key;
 use heads::insert;
 use heads::least;
-use heads::settle;
+use heads::run_heads;
 use logs::read::release_at;
 use logs::report::put_finished;
 use service::move_down;
@@ -149,10 +149,10 @@ fn leap(
     let ticks = least(left, fewer(cores, heads), to - clock);
     let reached = clock + ticks;
     let mut done = [0usize; 16];
-    let settled = settle(key, left, &mut done, heads, cores, ticks);
+    let after = run_heads(key, left, &mut done, heads, cores, ticks);
     let heads = finish_all(
         &done,
-        settled.finished,
+        after.finished,
         reached,
         log,
         offsets,
@@ -160,7 +160,7 @@ fn leap(
         owners,
         key,
         left,
-        settled.heads,
+        after.heads,
         out,
     );
     Stop {

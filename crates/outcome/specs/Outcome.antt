@@ -5,8 +5,8 @@
 --     entriesOf, tickOf, loopOf, demandOf           of a log l: its number of entries, and entry e's three numbers
 --     kindOf, numberOf                              of a log run's answer w: entry e's kind, and the finish tick or refusal number behind it
 --     slackOf, boundOf                              of a judgement's answer b: loop i's slack and bound
---     Fits                                          the four conditions of an entry
---     Kept                                          the log keeps the table
+--     FourConditions                                the four conditions of an entry
+--     KeepsTable                                    the log keeps the table
 --     Outcome                                       the statement
 use Prim.Native.Nat.{ℕ, _+_, _*_, _≤_, _<_}
 use mathlib.Core.Path.{_≡_}
@@ -55,7 +55,7 @@ slackOf b i = number 4 b (8 * i)
 abbrev pub boundOf : List ℕ → ℕ → ℕ
 boundOf b i = number 4 b (8 * i + 4)
 
-pub record Fits (t l w : List ℕ) (e : ℕ) : Type 0 where
+pub record FourConditions (t l w : List ℕ) (e : ℕ) : Type 0 where
   -- 17: the tick is below no earlier entry's
   pub onward : (j : ℕ) → j < e → tickOf l j ≤ tickOf l e
   -- 20: the loop is in the table
@@ -68,7 +68,7 @@ pub record Fits (t l w : List ℕ) (e : ℕ) : Type 0 where
       (j : ℕ) → j < e → loopOf l j ≡ loopOf l e → kindOf w j ≡ 1 → tickOf l j + separationOf t (loopOf l e) ≤ tickOf l e
 
 -- ticks never go back, every loop is in the table, every demand is 1 to C, and any two entries of one loop are T or more apart
-pub record Kept (t l : List ℕ) : Type 0 where
+pub record KeepsTable (t l : List ℕ) : Type 0 where
   pub onward : (j e : ℕ) → j < e → e < entriesOf l → tickOf l j ≤ tickOf l e
   pub in-table : (e : ℕ) → e < entriesOf l → loopOf l e < loopsOf t
   pub demand-low : (e : ℕ) → e < entriesOf l → 1 ≤ demandOf l e
@@ -80,7 +80,7 @@ pub record Outcome (t l w b : List ℕ) : Type 0 where
   -- "kind 1 and finish tick, or kind 2 and refusal number"; "23 is never met in such a run"
   pub kinds : (e : ℕ) → e < entriesOf l → (kindOf w e ≡ 1) ⊎ ((kindOf w e ≡ 2) × (numberOf w e ≤ 22))
   -- "a release is taken exactly when document 01's four conditions hold"
-  pub taken : (e : ℕ) → e < entriesOf l → (kindOf w e ≡ 1) ↔ Fits t l w e
+  pub taken : (e : ℕ) → e < entriesOf l → (kindOf w e ≡ 1) ↔ FourConditions t l w e
   -- "and every taken release finishes within offset + slack + budget"
   pub in-time :
       (e : ℕ) → e < entriesOf l → kindOf w e ≡ 1
@@ -90,6 +90,6 @@ pub record Outcome (t l w b : List ℕ) : Type 0 where
       ((e : ℕ) → e < entriesOf l
       → (kindOf w e ≡ 1)
       × (numberOf w e ≤ tickOf l e + (offsetOf t (loopOf l e) + slackOf b (loopOf l e) + budgetOf t (loopOf l e))))
-      ↔ Kept t l
+      ↔ KeepsTable t l
   -- "The bound of a loop is Y + x + C"
   pub bounds : (i : ℕ) → i < loopsOf t → boundOf b i ≡ offsetOf t i + slackOf b i + budgetOf t i

@@ -26,10 +26,10 @@ use Rattle.history.specs.Log.{Entry, tickAt, loopAt, demandAt, outcome as outco
 use Rattle.history.specs.ClaimLaws.{Conditions, in-time-sum, takes-conditions, history-log}
 use Rattle.history.specs.Refusals.{met-high}
 use Rattle.history.specs.Report.{report, report-finished, report-refused, takenCount, refusedCount}
-use Rattle.demand.specs.Demand3.{runOn, log-early, demand-3, demand-histories, demand-numbers, demand-ends}
+use Rattle.delivered.specs.Demand3.{runOn, log-early, demand-3, demand-histories, demand-numbers, demand-ends}
 use Rattle.replay.specs.Ran.{runTest, ranOf, runLeaves}
 use Rattle.dahomike.specs.Answers.{answerNumber, judgeTest, judgeNumber, judgeLeaves, runNumber}
-use Rattle.outcome.specs.Outcome.{loopsOf, separationOf, budgetOf, offsetOf, entriesOf, tickOf, loopOf, demandOf, kindOf, numberOf, slackOf, boundOf, Fits, Kept, Outcome}
+use Rattle.outcome.specs.Outcome.{loopsOf, separationOf, budgetOf, offsetOf, entriesOf, tickOf, loopOf, demandOf, kindOf, numberOf, slackOf, boundOf, FourConditions, KeepsTable, Outcome}
 use Rattle.outcome.specs.ReadLaws.{same-loops, separation-at, budget-at, offset-at, finish-kind, refusal-kind, finish-number, refusal-number, sum-high, slack-at, bound-at}
 
 module _ (t l : List ℕ) (a : verdict t ≡ Accepted) (b : logTest l ≡ Accepted) (out : List ℕ) where
@@ -158,7 +158,7 @@ module _ (t l : List ℕ) (a : verdict t ≡ Accepted) (b : logTest l ≡ Accept
         go (inr p) = ap not (p .0) ∙ sym (eq-eqb (kindOf w e) 2 (p .1))
 
   module _ (e : ℕ) (h : e < entriesOf l) where
-    fits : Conditions E s L e → Fits t l w e
+    fits : Conditions E s L e → FourConditions t l w e
     fits D =
         record {
           onward = λ j less. omega (arith, D .onward j less, tick-is j (earlier j less), tick-is e h);
@@ -181,7 +181,7 @@ module _ (t l : List ℕ) (a : verdict t ≡ Accepted) (b : logTest l ≡ Accept
         i : loopOf l e < loopsOf t
         i = omega (arith, D .in-table, loop-is e h, same-loops t)
 
-    meets : Fits t l w e → Conditions E s L e
+    meets : FourConditions t l w e → Conditions E s L e
     meets F =
         record {
           onward = λ j less. omega (arith, F .onward j less, tick-is j (earlier j less), tick-is e h);
@@ -201,7 +201,7 @@ module _ (t l : List ℕ) (a : verdict t ≡ Accepted) (b : logTest l ≡ Accept
         earlier : (j : ℕ) → j < e → j < entriesOf l
         earlier j less = omega arith
 
-  kept : Keeps s L → Kept t l
+  kept : Keeps s L → KeepsTable t l
   kept K =
       record {
         onward = λ j e less h.
@@ -223,7 +223,7 @@ module _ (t l : List ℕ) (a : verdict t ≡ Accepted) (b : logTest l ≡ Accept
       inside : (e : ℕ) → e < entriesOf l → loopOf l e < loopsOf t
       inside e h = omega (arith, K .in-table e (in-log h), loop-is e h, same-loops t)
 
-  keeps : Kept t l → Keeps s L
+  keeps : KeepsTable t l → Keeps s L
   keeps K =
       record {
         onward = λ j e less m.
@@ -263,7 +263,7 @@ module _ (t l : List ℕ) (a : verdict t ≡ Accepted) (b : logTest l ≡ Accept
         let i = known e h (kind-taken e h q) in
         (q, omega (arith, late e h (numberOf w e) (finishes e h q), slack-is (loopOf l e) i))
 
-    all-kept : ((e : ℕ) → e < entriesOf l → TakenInTime e) → Kept t l
+    all-kept : ((e : ℕ) → e < entriesOf l → TakenInTime e) → KeepsTable t l
     unfolding TakenInTime
     all-kept all =
         kept
@@ -274,7 +274,7 @@ module _ (t l : List ℕ) (a : verdict t ≡ Accepted) (b : logTest l ≡ Accept
         in-time-sum E s x L e .1
         (numberOf w e, finishes e h (all e h .0), omega (arith, all e h .1, slack-is (loopOf l e) i, tick-is e h, sum-is e h i))))
 
-    kept-all : Kept t l → (e : ℕ) → e < entriesOf l → TakenInTime e
+    kept-all : KeepsTable t l → (e : ℕ) → e < entriesOf l → TakenInTime e
     unfolding TakenInTime
     kept-all K e h =
         let T = in-time-sum E s x L e .0 (claim .all-in-time .1 (keeps K) e (in-log h)) in

@@ -11,7 +11,7 @@ use Rattle.tasks.specs.Tests.{refuse, firstMet, unlessRefused}
 use Rattle.codec.specs.Table.{verdict}
 use Rattle.logs.specs.LogBytes.{entryCount, entriesIn, logTest, reportsTo}
 use Rattle.history.specs.Report.{report, takenCount, refusedCount}
-use Rattle.demand.specs.Demand3.{runOn}
+use Rattle.delivered.specs.Demand3.{runOn}
 use Rattle.replay.specs.declared.run.Ran.{Ran}
 
 -- "A log run judges the table first." "16. The lent answer is shorter than 8 × count."

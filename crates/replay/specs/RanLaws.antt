@@ -19,8 +19,8 @@ use Rattle.logs.specs.LogBytes.{entryCount, entriesIn, logTest, reportsTo}
 use Rattle.logs.specs.LogLaws.{entries-length}
 use Rattle.history.specs.Report.{report, takenCount, refusedCount, counts-all}
 use Rattle.history.specs.OnMachine.{machineEngine}
-use Rattle.demand.specs.DeliveredLaws.{plan-reports, plan-counts}
-use Rattle.demand.specs.Demand3.{runOn, plan-passes, log-early}
+use Rattle.delivered.specs.DeliveredLaws.{plan-reports, plan-counts}
+use Rattle.delivered.specs.Demand3.{runOn, plan-passes, log-early}
 use Rattle.running.specs.Entered.{Fitting}
 use Rattle.running.specs.RunCode.{takenTo}
 use Rattle.replay.specs.declared.run.Ran.{Ran}

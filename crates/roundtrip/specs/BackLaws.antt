@@ -1,7 +1,7 @@
 -- A content's bytes, read back.
 --     back-cores, back-tasks, back-offers, back-tasks-at, back-slack-at    the counts and places in them
 --     back-label, back-task, back-slack                                     the entries
---     read-back        such a content, kept by a plan and with the found slack where none is offered, is read back from its bytes
+--     read-back        such a content, which fits a plan and with the found slack where none is offered, is read back from its bytes
 use Prim.Native.Nat.{ℕ, _+_, _*_, _^_, _≤_, _<_}
 use native.Mathlib.Nat.{zero-add}
 use native.Mathlib.Omega.{arith}
@@ -24,7 +24,7 @@ use Rattle.codec.specs.Bytes.{byte, number, digits, entries}
 use Rattle.codec.specs.Table.{taskSize, tasksFrom, slackFrom, coreCount, taskCount, tasksAt, slackCount, slackAt, taskIn, taskSetIn, contentIn, taskBytes, bytesOf}
 use Rattle.codec.specs.ByteLaws.{number-after, number-digits, length-digits, length-entries, byte-entries, number-entries}
 use Rattle.codec.specs.TaskLaws.{length-task, task-same, limits-narrow, task-back}
-use Rattle.tasks.specs.ContentLaws.{content-ext, Kept}
+use Rattle.tasks.specs.ContentLaws.{content-ext, Fits}
 
 -- the edition and the cores' section of a content's bytes
 abbrev front : Content → List ℕ
@@ -145,7 +145,7 @@ cut-row n m f g z e below past i = go (ltb i m) refl
         let h = ltb-false i m q in
         cut-above n f z i (omega arith) ∙ sym (past i h)
 
-module _ (c : Content) (k : Kept c) (q : Passed c) where
+module _ (c : Content) (k : Fits c) (q : Passed c) where
   pub back-task : (i : ℕ) → i < c .tasks .count → taskIn (bytesOf c) (tasksAt (bytesOf c) + taskSize * i) ≡ c .tasks .task i
   back-task i h =
       rw (back-tasks-at c)

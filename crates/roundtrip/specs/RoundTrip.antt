@@ -1,6 +1,6 @@
 -- From bytes to a plan and back, and from a plan to bytes and back.
 --     rewritten         an accepted table's content, written, is that table, byte by byte
---     judged-kept       the plan of an accepted table says what the table says
+--     judged-fits       the plan of an accepted table says what the table says
 --     judged-rewritten  so that plan, written, is the table; judged-tidy: its unused places are zero
 --     plan-back         a plan that meets none of 3 to 13, written, says what it said
 --     verdict-back, judged-back    and is accepted, with zeros in its unused places; same-back: as the same plan
@@ -28,8 +28,8 @@ use Rattle.codec.specs.Table.{countedLength, taskSetIn, contentIn, verdict, byt
 use Rattle.table.specs.Judged.{judged, writeTest, writtenLength, writtenTo}
 use Rattle.codec.specs.Bytes.{byte}
 use Rattle.codec.specs.ByteLaws.{Bytes}
-use Rattle.tasks.specs.ContentLaws.{Kept, kept, kept-plan}
-use Rattle.roundtrip.specs.SectionLaws.{Parts, verdict-parts, parts-verdict, table-parts, labels-again, tasks-again, slack-again, kept-table}
+use Rattle.tasks.specs.ContentLaws.{Fits, fits-back, plan-fits}
+use Rattle.roundtrip.specs.SectionLaws.{Parts, verdict-parts, parts-verdict, table-parts, labels-again, tasks-again, slack-again, table-fits}
 use Rattle.table.specs.WriteLaws.{length-bytes}
 use Rattle.roundtrip.specs.BackLaws.{back-cores, back-tasks, back-offers, read-back}
 
@@ -44,28 +44,28 @@ module _ (t : List ℕ) (a : verdict t ≡ Accepted) where
       rw (labels-again t b (parts .long), tasks-again t b (parts .long), slack-again t b (parts .long) (q .offers))
       (sym (table-parts t (parts .edition) (parts .long)))
 
-  pub judged-kept : contentOf (judged t .plan) ≡ contentIn t
+  pub judged-fits : contentOf (judged t .plan) ≡ contentIn t
   unfolding judged
-  judged-kept = rw a (kept (contentIn t) (kept-table t (parts .content)))
+  judged-fits = rw a (fits-back (contentIn t) (table-fits t (parts .content)))
 
   pub judged-rewritten : Bytes t → bytesOf (contentOf (judged t .plan)) ≡ t
-  judged-rewritten b = ap bytesOf judged-kept ∙ rewritten b
+  judged-rewritten b = ap bytesOf judged-fits ∙ rewritten b
 
   pub judged-tidy : tidy (judged t .plan) ≡ judged t .plan
   unfolding tidy judged
-  judged-tidy = rw a (ap planOf (kept (contentIn t) (kept-table t (parts .content))))
+  judged-tidy = rw a (ap planOf (fits-back (contentIn t) (table-fits t (parts .content))))
 
 module _ (p : Plan) (a : testPlan p ≡ Accepted) where
   passed : Passed (contentOf p)
   unfolding testPlan
   passed = tests-passed (contentOf p) a
 
-  pub plan-kept : Kept (contentOf p)
+  pub plan-again-fits : Fits (contentOf p)
   unfolding contentOf
-  plan-kept = kept-plan p (passed .limits .cores-high) (passed .limits .tasks-high)
+  plan-again-fits = plan-fits p (passed .limits .cores-high) (passed .limits .tasks-high)
 
   pub plan-back : contentIn (bytesOf (contentOf p)) ≡ contentOf p
-  plan-back = read-back (contentOf p) plan-kept passed
+  plan-back = read-back (contentOf p) plan-again-fits passed
 
   back-edition : byte (bytesOf (contentOf p)) 0 ≡ 1
   unfolding byte bytesOf
@@ -88,7 +88,7 @@ module _ (p : Plan) (a : testPlan p ≡ Accepted) where
   -- "two plans are the same if their used entries and that mark agree"
   pub same-back : Same p (judged (bytesOf (contentOf p)) .plan)
   unfolding Same tidy
-  same-back = sym (ap (λ (j : Judgement). contentOf (j .plan)) judged-back ∙ kept (contentOf p) plan-kept)
+  same-back = sym (ap (λ (j : Judgement). contentOf (j .plan)) judged-back ∙ fits-back (contentOf p) plan-again-fits)
 
 -- an accepted table's judgement
 judged-accepted : (t : List ℕ) → verdict t ≡ Accepted → judged t ≡ record { answer = Accepted; plan = judged t .plan }
@@ -98,7 +98,7 @@ judged-accepted t a = λ i. record { answer = a i; plan = judged t .plan }
 pub judged-again : (t : List ℕ) → verdict t ≡ Accepted → judged (bytesOf (contentOf (judged t .plan))) ≡ judged t
 unfolding testPlan
 judged-again t a =
-    judged-back (judged t .plan) (ap tests (judged-kept t a) ∙ verdict-parts t a .content)
+    judged-back (judged t .plan) (ap tests (judged-fits t a) ∙ verdict-parts t a .content)
     ∙ ap (λ (p : Plan). record { answer = Accepted; plan = p }) (judged-tidy t a)
     ∙ sym (judged-accepted t a)
 
@@ -126,7 +126,7 @@ module _ (t : List ℕ) (a : verdict t ≡ Accepted) (b : Bytes t) (out : List �
   table-again =
       let w = judged-rewritten t a b in
       let e : writeTest (judged t .plan) (length out) ≡ Accepted =
-      roomy (judged t .plan) (length out) (rw w fits) ∙ ap tests (judged-kept t a) ∙ verdict-parts t a .content in
+      roomy (judged t .plan) (length out) (rw w fits) ∙ ap tests (judged-fits t a) ∙ verdict-parts t a .content in
       (e, rw (e, w), rw (e, w))
 
 -- the bytes that a write of a plan leaves in a buffer, as many as it answers

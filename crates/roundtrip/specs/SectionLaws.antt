@@ -2,7 +2,7 @@
 --     verdict-parts      an accepted table has the edition, the length that its counts give, and content that passes 3 to 13
 --     parts-verdict      a table that has these is accepted
 --     table-parts        a table of that length is its edition, its counts and the bytes of its sections
---     kept-table         what a table says that meets none of 3 to 13 is kept by a plan
+--     table-fits         what a table says that meets none of 3 to 13 fits a plan
 --     slack-read         offered slack, as the content has it
 --     labels-again, tasks-again, slack-again    the entries written of what is read are the sections' bytes
 use Prim.Native.Nat.{ℕ, suc, _+_, _*_, _<_}
@@ -29,7 +29,7 @@ use Rattle.codec.specs.Bytes.{byte, number, digits, entries}
 use Rattle.codec.specs.Table.{taskSize, tasksFrom, slackFrom, tableLength, countedLength, coreCount, taskCount, tasksAt, slackCount, slackAt, taskIn, taskSetIn, contentIn, test1, test2, verdict, taskBytes}
 use Rattle.codec.specs.ByteLaws.{Bytes, digits-number, entries-same, entries-parts}
 use Rattle.codec.specs.TaskLaws.{task-again}
-use Rattle.tasks.specs.ContentLaws.{Kept}
+use Rattle.tasks.specs.ContentLaws.{Fits}
 
 pub record Parts (t : List ℕ) : Type 0 where
   pub edition : byte t 0 ≡ 1
@@ -136,9 +136,9 @@ either-zero : (b : Bool) (f g : ℕ → ℕ) (i : ℕ) → f i ≡ 0 → g i ≡
 either-zero true f g i e q = e
 either-zero false f g i e q = q
 
-pub kept-table : (t : List ℕ) → tests (contentIn t) ≡ Accepted → Kept (contentIn t)
+pub table-fits : (t : List ℕ) → tests (contentIn t) ≡ Accepted → Fits (contentIn t)
 unfolding contentIn taskSetIn
-kept-table t a =
+table-fits t a =
     let q : Passed (contentIn t) = tests-passed (contentIn t) a in
     record {
       cores-high = q .limits .cores-high;

@@ -15,7 +15,7 @@ use borrow.Author.Tests.{ltb-true, ltb-false}
 use Rattle.tasks.specs.TaskSet.{row}
 use Rattle.history.specs.Engine.{Call}
 use Rattle.history.specs.Log.{wait}
-use Rattle.heads.specs.Order.{lowest, Settles, Finishes}
+use Rattle.heads.specs.Order.{lowest, HeadsRun, Finishes}
 use Rattle.running.specs.Running.{Arrays, arrays, tasksOn, countsIn}
 use Rattle.running.specs.BookLaws.{ended, andOne, ownersNow}
 use Rattle.running.specs.Leap.{Standing, Frame, Ready, Reaches, Turning, Fewer, Leapt}
@@ -80,7 +80,7 @@ module _ {x : Standing} {bytes : List ℕ} {cores : ℕ} {offsets : List ℕ} {c
   pub leap-in : (1 ≤ d) × (clock + d ≤ to)
   leap-in = leap-ticks R less r-is d-is
 
-  module _ {key′ left′ : List ℕ} {c : ℕ} (S : Settles (W .key) (W .left) (W .heads) cores d key′ left′ c) {done : List ℕ} {f : ℕ}
+  module _ {key′ left′ : List ℕ} {c : ℕ} (S : HeadsRun (W .key) (W .left) (W .heads) cores d key′ left′ c) {done : List ℕ} {f : ℕ}
       (D : Finishes (W .key) (W .left) (W .heads) cores d done f) where
     next : d ≡ suc (d - 1)
     next = some-less d (leap-in .0)
@@ -127,7 +127,7 @@ module _ {x : Standing} {bytes : List ℕ} {cores : ℕ} {offsets : List ℕ} {c
 pub leap-made :
     {bytes : List ℕ} {cores : ℕ} {offsets : List ℕ} {clock to : ℕ} {W : Arrays} → ((x : Standing) × Ready x bytes cores offsets clock to W)
     → clock < to → {r d : ℕ} → r ≡ min cores (W .heads) → d ≡ lowest (W .left) (to - clock) r
-    → {key′ left′ : List ℕ} {c : ℕ} → Settles (W .key) (W .left) (W .heads) cores d key′ left′ c
+    → {key′ left′ : List ℕ} {c : ℕ} → HeadsRun (W .key) (W .left) (W .heads) cores d key′ left′ c
     → {done : List ℕ} {f : ℕ} → Finishes (W .key) (W .left) (W .heads) cores d done f
     → {W′ : Arrays} → AllFinished done f (clock + d) bytes offsets (arrays (W .jobs) (W .owners) key′ left′ c (W .out)) f W′
     → Leapt bytes cores offsets clock to W (clock + d) W′

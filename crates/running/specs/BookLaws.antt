@@ -25,7 +25,7 @@ use Rattle.machine.specs.Machine.{Job, job, runs, served, advanced, tick}
 use Rattle.machine.specs.Sound.{Rising, reached-sound}
 use Rattle.machine.specs.Choice.{earliest}
 use Rattle.state.specs.Fit.{Fit}
-use Rattle.history.specs.Engine.{refused, Call, step, clock, state, named, Ends}
+use Rattle.history.specs.Engine.{refused, Call, step, clock, state, namedTicks, Ends}
 use Rattle.history.specs.EngineLaws.{ends-step}
 use Rattle.history.specs.Log.{Entry, loopAt, wait, outcome, Taken, owed}
 use Rattle.history.specs.Report.{finished, refusal}
@@ -98,8 +98,8 @@ module _ (s : TaskSet) (l : List Entry) where
 
   owned-wait :
       (h : List Call) (k i : ℕ) (os : List ℕ) → i < s .count → MoreThan s (state (machineEngine s) h) k
-      → Owned (machineEngine s) l i (named (machineEngine s) h i (clock h)) os (state (machineEngine s) h .lane i .queue)
-      → Owned (machineEngine s) l i (named (machineEngine s) (wait k h) i (clock (wait k h))) os (state (machineEngine s) (wait k h) .lane i .queue)
+      → Owned (machineEngine s) l i (namedTicks (machineEngine s) h i (clock h)) os (state (machineEngine s) h .lane i .queue)
+      → Owned (machineEngine s) l i (namedTicks (machineEngine s) (wait k h) i (clock (wait k h))) os (state (machineEngine s) (wait k h) .lane i .queue)
   owned-wait h zero i os less more w = w
   owned-wait h (suc k) i os less more w =
       rw (none-ends h k more i) at
@@ -188,9 +188,9 @@ module _ {p : Plan} {l : List Entry} {out₀ : List ℕ} where
       pub ended-known : i < (tasksOn p) .count
       ended-known = earliest (tasksOn p) (state (engineOn p) g) .heads i runs-now .0
 
-      owner : (loopAt l firstOwner ≡ i) × Taken (engineOn p) l firstOwner × (owed (engineOn p) l i (suc firstOwner) ≡ named (engineOn p) g i (clock g) + 1)
+      owner : (loopAt l firstOwner ≡ i) × Taken (engineOn p) l firstOwner × (owed (engineOn p) l i (suc firstOwner) ≡ namedTicks (engineOn p) g i (clock g) + 1)
       owner =
-          owned-head (engineOn p) l i ((tasksOn p) .task i .separation) ((tasksOn p) .task i .budget) (state (engineOn p) g .clock) 0 (named (engineOn p) g i (clock g)) (O i)
+          owned-head (engineOn p) l i ((tasksOn p) .task i .separation) ((tasksOn p) .task i .budget) (state (engineOn p) g .clock) 0 (namedTicks (engineOn p) g i (clock g)) (O i)
           (state (engineOn p) g .lane i .queue) (reached-sound (tasksOn p) (reached (tasksOn p) g) .lanes i ended-known .rising) (B .owned i ended-known) last-now
 
       ends : Ends (engineOn p) (step ∷ g) i (owed (engineOn p) l i (suc firstOwner)) (suc (clock g))

@@ -31,7 +31,7 @@ use Rattle.history.specs.Log.{Entry, loopAt, wait, calls, outcome, Taken, owed,
 use Rattle.history.specs.Report.{finished, report, report-finished, report-refused}
 use Rattle.history.specs.OnMachine.{machineEngine}
 use Rattle.history.specs.Drain.{quiet-idle}
-use Rattle.history.specs.Demand.{machine-claim}
+use Rattle.history.specs.MachineClaim.{machine-claim}
 use Rattle.history.specs.LogClock.{longest, quiet-after, rest-high}
 use Rattle.history.specs.Owners.{owned-length}
 use Rattle.logs.specs.LogBytes.{reportsTo}

@@ -20,7 +20,7 @@ use Rattle.tasks.specs.declared.Plan.{Plan}
 use Rattle.tasks.specs.TaskSet.{TaskSet}
 use Rattle.machine.specs.Machine.{Job, job, admitted, joined}
 use Rattle.state.specs.State.{releasedIn, lastIn}
-use Rattle.history.specs.Engine.{refused, Call, ask, clock, state, verdict, named, Ends}
+use Rattle.history.specs.Engine.{refused, Call, ask, clock, state, verdict, namedTicks, Ends}
 use Rattle.history.specs.EngineLaws.{ends-ask}
 use Rattle.history.specs.Log.{Entry, tickAt, loopAt, demandAt, until, calls, outcome, Taken, owed}
 use Rattle.history.specs.LogLaws.{taken-call, clock-entry}
@@ -63,7 +63,7 @@ module _ {p : Plan} {l : List Entry} {out₀ : List ℕ} where
     -- a refusal written, with calls made that change neither queues nor what was named
     pub book-refused :
         {h g : List Call} {n : ℕ} → outcome (engineOn p) l e ≡ refused n
-        → ((i : ℕ) → Owned (engineOn p) l i (named (engineOn p) h i (clock h)) (O i) (state (engineOn p) h .lane i .queue) → Owned (engineOn p) l i (named (engineOn p) g i (clock g)) (O i) (state (engineOn p) g .lane i .queue))
+        → ((i : ℕ) → Owned (engineOn p) l i (namedTicks (engineOn p) h i (clock h)) (O i) (state (engineOn p) h .lane i .queue) → Owned (engineOn p) l i (namedTicks (engineOn p) g i (clock g)) (O i) (state (engineOn p) g .lane i .queue))
         → ((i : ℕ) → Rooted l (O i) (state (engineOn p) h .lane i .queue) → Rooted l (O i) (state (engineOn p) g .lane i .queue))
         → ((i d f : ℕ) → Ends (engineOn p) h i d f → Ends (engineOn p) g i d f)
         → Book p l out₀ e h O out → Book p l out₀ (suc e) g O (sets out (8 * e) (reportBytes (refusal n)))
@@ -108,7 +108,7 @@ module _ {p : Plan} {l : List Entry} {out₀ : List ℕ} where
     pub book-taken :
         (t : Taken (engineOn p) l e) → Book p l out₀ e (until (tickAt l e) (calls l e)) O out → loopAt l e < (tasksOn p) .count
         → Book p l out₀ (suc e) (calls l (suc e)) (ownersWith e O (loopAt l e)) out
-    unfolding named handedOf verdict admitted joined
+    unfolding namedTicks handedOf verdict admitted joined
     book-taken t B known =
         record {
           owned = λ j less. owned j less (eqb j i) refl;
@@ -132,7 +132,7 @@ module _ {p : Plan} {l : List Entry} {out₀ : List ℕ} where
 
         owned :
             (j : ℕ) → j < (tasksOn p) .count → (b : Bool) → eqb j i ≡ b
-            → Owned (engineOn p) l j (named (engineOn p) (calls l (suc e)) j (clock (calls l (suc e)))) (cond b (O j ++ e ∷ []) (O j)) (state (engineOn p) (calls l (suc e)) .lane j .queue)
+            → Owned (engineOn p) l j (namedTicks (engineOn p) (calls l (suc e)) j (clock (calls l (suc e)))) (cond b (O j ++ e ∷ []) (O j)) (state (engineOn p) (calls l (suc e)) .lane j .queue)
         owned j less true q =
             let same : j ≡ i = eqb-true j i q in
             rw same (owners-taken (tasksOn p) l e (O i) t (B .owned i known))

@@ -31,7 +31,7 @@ use Rattle.heads.specs.Order.{headWork, Heads, Inserted}
 use Rattle.heads.specs.HeadLaws.{SameHead, heads-same, inserted}
 use Rattle.heads.specs.RoomLaws.{room-for}
 use Rattle.history.specs.Engine as history
-use Rattle.history.specs.Engine.{taken, refused, Call, ask, state, verdict, named}
+use Rattle.history.specs.Engine.{taken, refused, Call, ask, state, verdict, namedTicks}
 use Rattle.history.specs.EngineLaws.{ends-ask}
 use Rattle.history.specs.Log.{Entry, tickAt, loopAt, demandAt, back, wait, until, calls, outcome}
 use Rattle.history.specs.LogLaws.{largest-least, clock-calls, clock-entry}
@@ -189,8 +189,8 @@ module _ {p : Plan} {l : List Entry} {out₀ : List ℕ} {e : ℕ} {W : Arrays} 
     unfolding handedOf
     same-machine = rw (made, met)
 
-    same-named : (j : ℕ) → named (engineOn p) (calls l (suc e)) j (history.clock (calls l (suc e))) ≡ named (engineOn p) (upTo l e) j (history.clock (upTo l e))
-    unfolding named
+    same-named : (j : ℕ) → namedTicks (engineOn p) (calls l (suc e)) j (history.clock (calls l (suc e))) ≡ namedTicks (engineOn p) (upTo l e) j (history.clock (upTo l e))
+    unfolding namedTicks
     same-named j = rw made
 
     pub refused-entered : Entered p l out₀ (suc e) (tickAt l e) (arrays (W .jobs) (W .owners) (W .key) (W .left) (W .heads) (sets (W .out) (8 * e) (reportBytes (refusal m)))) released last

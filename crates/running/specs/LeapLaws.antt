@@ -1,7 +1,7 @@
 -- A leap's code reaches where it says.
 --     ready-waits, ready-busy      nobody beyond the table waits, and a head has work left
 --     leap-ticks                   how many ticks a leap takes: at least one, and not past its end
---     turning-none                 the heads settled, nobody noted
+--     turning-none                 the heads that are left, nobody noted
 --     goneTo                       the loops of the first places of a list
 --     done-ended, done-new, all-gone      the loops that were taken out are those that finish, each once
 --     turning-end                  all of them noted, the leap is made
@@ -28,9 +28,9 @@ use Rattle.history.specs.OnMachine.{machineEngine}
 use Rattle.history.specs.Balance.{reached}
 use Rattle.history.specs.Owners.{finishing}
 use Rattle.choice.specs.Key.{keyOf}
-use Rattle.heads.specs.Order.{headWork, Heads, lowest, workAfter, Settles, Finishes}
+use Rattle.heads.specs.Order.{headWork, Heads, lowest, workAfter, HeadsRun, Finishes}
 use Rattle.heads.specs.OrderLaws.{loopIn, loop-at, owns-key, runs-place}
-use Rattle.heads.specs.HeadLaws.{Ticks, over, settled, after-here, over-here}
+use Rattle.heads.specs.HeadLaws.{Ticks, over, heads-remain, after-here, over-here}
 use Rattle.running.specs.Lower.{lowerHead, lowered}
 use Rattle.running.specs.LowerLaws.{MoreThan, lowered-runs, wait-lowered}
 use Rattle.running.specs.Running.{Arrays, arrays, Book}
@@ -204,9 +204,9 @@ module _ {x : Standing} {bytes : List ℕ} {cores : ℕ} {offsets : List ℕ} {c
                   far l ne = ⊎-elim (λ (y : d ≡ w). absurd (ne (sym y))) (λ (y : d < w). omega arith) (eq-or-lt-of-le l)
           go false r q z = rw r
 
-      module _ {key′ left′ : List ℕ} {c : ℕ} (S : Settles (W .key) (W .left) (W .heads) cores d key′ left′ c) where
-        settles : Settles key left n (s .cores) d key′ left′ c
-        settles = subst (λ m. Settles key left n m d key′ left′ c) (R .frame .cores-are ∙ sym (in-cores p)) S
+      module _ {key′ left′ : List ℕ} {c : ℕ} (S : HeadsRun (W .key) (W .left) (W .heads) cores d key′ left′ c) where
+        remain : HeadsRun key left n (s .cores) d key′ left′ c
+        remain = subst (λ m. HeadsRun key left n m d key′ left′ c) (R .frame .cores-are ∙ sym (in-cores p)) S
 
         -- before anybody is noted
         pub turning-none : (now : ℕ) → now ≡ clock + d → Turning x g (λ i. false) now (arrays (W .jobs) (W .owners) key′ left′ c (W .out))
@@ -221,7 +221,7 @@ module _ {x : Standing} {bytes : List ℕ} {cores : ℕ} {offsets : List ℕ} {c
               heads-are =
                   subst (λ f. Heads s N f key′ left′ c)
                   (fun-ext (λ j. sym (and-true (ended s g j) ∙ over-ended j)))
-                  (settled leap-makes few ready-waits ready-busy A settles);
+                  (heads-remain leap-makes few ready-waits ready-busy A remain);
               stage = stage-none (R .frame .room) kept;
             }
           where
@@ -253,7 +253,7 @@ module _ {x : Standing} {bytes : List ℕ} {cores : ℕ} {offsets : List ℕ} {c
               go true q = ap isOver (done-loop a l) ∙ over-ended (A .sound b u .0) ∙ q
               go false q =
                   absurd
-                  (omega (arith, over-here leap-makes few ready-waits ready-busy A settles b u false q, finishes .none-left a l))
+                  (omega (arith, over-here leap-makes few ready-waits ready-busy A remain b u false q, finishes .none-left a l))
 
           -- two places have different loops
           apart : (a b : ℕ) → a < b → b < f → row done a ≢ row done b
@@ -286,7 +286,7 @@ module _ {x : Standing} {bytes : List ℕ} {cores : ℕ} {offsets : List ℕ} {c
               let low : j < 16 = omega (arith, earliest s M .heads j (both .0) .0, few) in
               let e : A .sound (r .0) (r .1) .0 ≡ j = owns-key waits-low A (r .0) j (r .1) low (r .3) in
               let w : workAfter left (s .cores) d (r .0) ≡ 0 =
-              after-here leap-makes few ready-waits ready-busy A settles (r .0) (r .1)
+              after-here leap-makes few ready-waits ready-busy A remain (r .0) (r .1)
               ∙ rw (e, both .0) (omega (arith, eqb-true (headWork (M .lane j .queue)) d (both .1))) in
               let q = finishes .all (r .0) (r .1) w in
               let same : row done (q .0) ≡ j =

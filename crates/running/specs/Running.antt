@@ -21,7 +21,7 @@ use Rattle.tasks.specs.declared.Plan.{Plan}
 use Rattle.tasks.specs.TaskSet.{TaskSet}
 use Rattle.tasks.specs.Content.{contentOf}
 use Rattle.machine.specs.Machine.{Job, job}
-use Rattle.history.specs.Engine.{refused, Engine, Call, clock, state, named, Ends}
+use Rattle.history.specs.Engine.{refused, Engine, Call, clock, state, namedTicks, Ends}
 use Rattle.history.specs.Log.{Entry, tickAt, loopAt, demandAt, outcome, Taken, owed}
 use Rattle.history.specs.Report.{finished, refusal}
 use Rattle.history.specs.OnMachine.{machineEngine}
@@ -76,7 +76,7 @@ engineOn p = machineEngine (tasksOn p)
 
 module _ (p : Plan) (l : List Entry) (out₀ : List ℕ) where
   pub record Book (e : ℕ) (h : List Call) (O : ℕ → List ℕ) (out : List ℕ) : Type 0 where
-    pub owned : (i : ℕ) → i < (tasksOn p) .count → Owned (engineOn p) l i (named (engineOn p) h i (clock h)) (O i) (state (engineOn p) h .lane i .queue)
+    pub owned : (i : ℕ) → i < (tasksOn p) .count → Owned (engineOn p) l i (namedTicks (engineOn p) h i (clock h)) (O i) (state (engineOn p) h .lane i .queue)
     pub rooted : (i : ℕ) → i < (tasksOn p) .count → Rooted l (O i) (state (engineOn p) h .lane i .queue)
     pub unowned : (i : ℕ) → (tasksOn p) .count ≤ i → O i ≡ []
     pub small : (i : ℕ) → Below e (O i)

@@ -1,8 +1,8 @@
 pub mod Rates
 pub mod RatesLaws
-pub mod Settling
-pub mod SettlingLaws
+pub mod Arrays
+pub mod ArraysLaws
 pub mod NeedLaws
 pub mod Weights
-pub mod SettleLaws
+pub mod StageLaws
 pub mod SearchLaws

@@ -14,7 +14,7 @@ use Rattle.tasks.specs.TaskSet.{TaskSet, hyperperiod, needed}
 use Rattle.tasks.specs.Limits.{Limits}
 use Rattle.tasks.specs.ShareLaws.{hyperperiod-low}
 use Rattle.tasks.specs.SlackLaws.{needed-covers, needed-least}
-use Rattle.slack.specs.Settling.{lifted}
+use Rattle.slack.specs.Arrays.{lifted}
 
 -- ⌈a / h⌉
 unfoldable pub need : ℕ → ℕ → ℕ

@@ -1,5 +1,5 @@
 -- One turn of the slack search: x is raised to y, from the amount a of x and d, what is needed of it.
---     chosen-first    the first k tasks chosen are k
+--     counted-first    the first k tasks chosen are k
 --     turn-need       what is needed is small
 --     turn-raised     y is x raised
 --     turn-length, turn-past    y has sixteen places, and zeros from n on
@@ -26,13 +26,13 @@ use Rattle.tasks.specs.SlackLaws.{needed-covers}
 use Rattle.tasks.specs.RisingLaws.{Raised, Rising, rising-step, raised-high, rising-falls}
 use Rattle.tasks.specs.FoundLaws.{found-still, found-array}
 use Rattle.slack.specs.RatesLaws.{row-filled}
-use Rattle.slack.specs.Settling.{lifted, upto, Settling}
-use Rattle.slack.specs.SettlingLaws.{upto-below, upto-above}
+use Rattle.slack.specs.Arrays.{lifted, upto, ArraysOf}
+use Rattle.slack.specs.ArraysLaws.{upto-below, upto-above}
 use Rattle.slack.specs.NeedLaws.{need, need-least, needed-lifted}
 
-pub chosen-first : (k n : ℕ) → k ≤ n → n ≤ 16 → count (λ i. getD (tab (cut k (λ i. true) false) 16) i false) n ≡ k
+pub counted-first : (k n : ℕ) → k ≤ n → n ≤ 16 → count (λ i. getD (tab (cut k (λ i. true) false) 16) i false) n ≡ k
 unfolding count
-chosen-first k n h l =
+counted-first k n h l =
     sum-ext _ (cut k (λ i. 1) 0) n (λ i t. one i t (ltb i k) refl) ∙ sum-cut (λ i. 1) k n h ∙ sum-const 1 k ∙ mul-one k
   where
     one : (i : ℕ) → i < n → (b : Bool) → ltb i k ≡ b → _≡_ {A = ℕ} (cond (getD (tab (cut k (λ i. true) false) 16) i false) 1 0) (cut k (λ i. 1) 0 i)
@@ -41,7 +41,7 @@ chosen-first k n h l =
     one i t false e =
         rw (getD-cut k 16 (λ i. true) false (le-trans h l) i, cut-above k (λ i. true) false i (ltb-false i k e), cut-above {A = ℕ} k (λ i. 1) 0 i (ltb-false i k e))
 
-module _ (s : TaskSet) (shares budgets offsets : List ℕ) (h surpluses m n : ℕ) (g : Settling s shares budgets offsets h surpluses m n)
+module _ (s : TaskSet) (shares budgets offsets : List ℕ) (h surpluses m n : ℕ) (g : ArraysOf s shares budgets offsets h surpluses m n)
     (x : List ℕ) (a d : ℕ) (ea : a ≡ amount s (row x)) (ed : d ≡ (a + (h - 1)) / h) (z : Rising s (row x))
   where
     few : n ≤ 16

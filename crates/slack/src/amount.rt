@@ -25,7 +25,7 @@ fn weigh(share: &[u64; 16], offset: &[u32; 16], slack: &[u32; 16], tasks: usize)
 }
 
 // The first `counted` tasks, for a start: the choice is put right by the first pass.
-pub fn first_chosen(counted: usize) -> [bool; 16]
+pub fn first_counted(counted: usize) -> [bool; 16]
     requires { ⌜ counted ≤ 16 ⌝ }
     ensures { λ r. ⌜ r ≡ tab (cut counted (λ i. true) false) 16 ⌝ }
 {

@@ -1,6 +1,6 @@
 // The slack: offered slack tested by document 01's inequality, and slack found by raising zeros until nothing changes.
 use crate::amount::amount;
-use crate::amount::first_chosen;
+use crate::amount::first_counted;
 use multiple::wide;
 ghost use mathlib.Core.Path.{_≡_};
 ghost use mathlib.Core.Bool.{not};
@@ -10,7 +10,7 @@ ghost use lib.ListN.{length};
 ghost use Rattle.laws.specs.First.{first};
 ghost use Rattle.laws.specs.Tab.{tab, cut};
 ghost use Rattle.tasks.specs.TaskSet.{TaskSet, row, found};
-ghost use Rattle.slack.specs.Settling.{uncovered, lifted, upto, Settling};
+ghost use Rattle.slack.specs.Arrays.{uncovered, lifted, upto, ArraysOf};
 
 // The lowest task whose m × H × x + H × C is below the amount, or `tasks` where there is none.
 pub fn first_uncovered(
@@ -111,13 +111,13 @@ pub fn search(
     cores: usize,
     tasks: usize,
 ) -> [u32; 16]
-    requires { ⌜ ((s : TaskSet) × Settling s (now share) (now budget) (now offset) multiple surplus cores tasks) ⌝ }
-    ensures { λ r. ⌜ ((s : TaskSet) → Settling s (now (share .entry)) (now (budget .entry)) (now (offset .entry)) multiple surplus cores tasks → r ≡ tab (row (found s)) 16) ⌝ }
+    requires { ⌜ ((s : TaskSet) × ArraysOf s (now share) (now budget) (now offset) multiple surplus cores tasks) ⌝ }
+    ensures { λ r. ⌜ ((s : TaskSet) → ArraysOf s (now (share .entry)) (now (budget .entry)) (now (offset .entry)) multiple surplus cores tasks → r ≡ tab (row (found s)) 16) ⌝ }
 {
     let divisor = cores as u32;
     let quotient = quotients(budget, divisor, tasks);
     let rest = remainders(budget, divisor, tasks);
-    let mut chosen = first_chosen(cores - 1);
+    let mut chosen = first_counted(cores - 1);
     let mut slack = [0u32; 16];
     loop {
         let whole = amount(share, offset, &slack, &mut chosen, surplus, tasks);

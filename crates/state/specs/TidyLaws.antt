@@ -15,7 +15,7 @@ use Rattle.tasks.specs.declared.Plan.{Plan}
 use Rattle.tasks.specs.declared.Answer.the-variants.{Accepted}
 use Rattle.tasks.specs.TaskSet.{row}
 use Rattle.tasks.specs.Content.{noTask, zeroTask, taskOf, contentOf, planOf, tidy}
-use Rattle.tasks.specs.ContentLaws.{mark-kept, zero-task, no-task, content-tidy}
+use Rattle.tasks.specs.ContentLaws.{mark-back, zero-task, no-task, content-tidy}
 use Rattle.tasks.specs.Tests.{testPlan}
 use Rattle.state.specs.SoundState.{tidyLabel, tidyTask, tidyTest}
 use Rattle.state.specs.AllLaws.{both, and-both, all-at, of-all}
@@ -36,7 +36,7 @@ module _ (p : Plan) where
   tidy-from S n e =
       λ i.
       record {
-        offered = mark-kept (p .offered) (p .tasks) n i;
+        offered = mark-back (p .offered) (p .tasks) n i;
         cores = p .cores;
         tasks = p .tasks;
         labels = labels i;

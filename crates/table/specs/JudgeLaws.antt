@@ -1,4 +1,4 @@
--- From the settling and the bounds of the plan that a table's sections fill to the table's verdict.
+-- From the tested-slack and the bounds of the plan that a table's sections fill to the table's verdict.
 --     Judges       what the judging of a plan with a slack count answers
 --     answer-in, judged-from    past 1 and 2 that is the table's verdict and judgement
 --     counts-refused    a table that meets 1 or 2
@@ -18,9 +18,9 @@ use Rattle.tasks.specs.Content.{Content, contentOf, planOf, zeroPlan}
 use Rattle.tasks.specs.Tests.{firstMet, orNext, test3, test4, test5, test6, test7, test8, test9, test10, test11, tests, unlessRefused}
 use Rattle.tasks.specs.AnswerLaws.{refuse-passed, orNext-passed, firstMet-passed, firstMet-append}
 use Rattle.tasks.specs.LimitsLaws.{limitTests, slackTests, tests-split, limits-passed}
-use Rattle.analysis.specs.Settled.{offering, offeredTest, hadSlack}
+use Rattle.analysis.specs.SlackTest.{offering, offeredTest, hadSlack}
 use Rattle.analysis.specs.PlanTest.{boundsOf}
-use Rattle.analysis.specs.SettledLaws.{passed-on}
+use Rattle.analysis.specs.SlackTestLaws.{passed-on}
 use Rattle.analysis.specs.JudgingLaws.{judging, judging-tests, judging-found, judging-limits, judging-count}
 use Rattle.table.specs.declared.Judgement.{Judgement}
 use Rattle.codec.specs.Table.{coreCount, taskCount, slackCount, taskSetIn, contentIn, test1, test2, verdict}
@@ -156,18 +156,18 @@ module _ (t : List ℕ) where
       ∙ passed-on _ _ e
       ∙ alone (tests (contentIn t))
 
-  chosen :
+  judged-case :
       (a : Answer) → a ≡ tests (contentIn t) →
       unlessRefused a (withSlack (loaded t) (tab (hadSlack said) 16)) zeroPlan ≡ unlessRefused a (planOf (contentIn t)) zeroPlan
-  chosen Accepted e = plan-in (sym e)
-  chosen (Refused j i) e = refl
+  judged-case Accepted e = plan-in (sym e)
+  judged-case (Refused j i) e = refl
 
   -- past 1 and 2 the judging of the loaded plan is the table's judgement
   pub judged-from : countsTest t ≡ Accepted → (r : Judgement) → Judges (loaded t) (slackCount t) r → r ≡ judged t
   unfolding judged said
   judged-from e r g =
       let a = g .answer ∙ answer-in ∙ sym (past-two e) in
-      let p = g .plan ∙ ap (λ (b : Answer). unlessRefused b (withSlack (loaded t) (tab (hadSlack said) 16)) zeroPlan) a ∙ chosen (verdict t) (past-two e) in
+      let p = g .plan ∙ ap (λ (b : Answer). unlessRefused b (withSlack (loaded t) (tab (hadSlack said) 16)) zeroPlan) a ∙ judged-case (verdict t) (past-two e) in
       λ i. record { answer = a i; plan = p i }
 
 -- a table that meets 1 or 2

@@ -18,7 +18,7 @@ use Rattle.tasks.specs.Tests.{outside, firstMet, test3, test4, test5, test6, te
 use Rattle.tasks.specs.LimitsLaws.{limitTests}
 use Rattle.codec.specs.Bytes.{byte, number}
 use Rattle.codec.specs.Table.{taskSize, tasksFrom, slackFrom, coreCount, taskCount, tasksAt, slackCount, slackAt, taskIn, taskSetIn, contentIn}
-use Rattle.tasks.specs.ContentLaws.{plan-ext, withSlack, kept-tasks, kept-labels, kept-slack}
+use Rattle.tasks.specs.ContentLaws.{plan-ext, withSlack, tasks-back, labels-back, slack-back}
 use Rattle.codec.specs.CountedLaws.{CountsIn}
 
 unfoldable pub loaded : List ℕ → Plan
@@ -52,17 +52,17 @@ module _ (t : List ℕ) (m n k : ℕ) (g : CountsIn t m n k) where
 module _ (t : List ℕ) where
   pub tasks-in : taskCount t ≤ 16 → contentOf (loaded t) .tasks ≡ contentIn t .tasks
   unfolding loaded contentIn taskSetIn
-  tasks-in h = kept-tasks (contentIn t) _ h (cut-above (taskCount t) (λ i. taskIn t (tasksAt t + taskSize * i)) noTask)
+  tasks-in h = tasks-back (contentIn t) _ h (cut-above (taskCount t) (λ i. taskIn t (tasksAt t + taskSize * i)) noTask)
 
   pub labels-in : coreCount t ≤ 8 → contentOf (loaded t) .label ≡ contentIn t .label
   unfolding loaded contentIn taskSetIn
-  labels-in h = kept-labels (contentIn t) _ h (cut-above (coreCount t) (λ i. byte t (2 + i)) 0)
+  labels-in h = labels-back (contentIn t) _ h (cut-above (coreCount t) (λ i. byte t (2 + i)) 0)
 
   pub slack-in : taskCount t ≤ 16 → slackCount t ≡ taskCount t → (slackCount t ≡ 0 → ⊥) → contentOf (loaded t) .slack ≡ contentIn t .slack
   unfolding loaded withSlack planOf contentOf contentIn taskSetIn
   slack-in h e z =
       rw (ne-eqb (slackCount t) 0 z, e)
-      (kept-slack (cut (taskCount t) (λ i. number 4 t (slackAt t + 4 * i)) 0) (taskCount t) h
+      (slack-back (cut (taskCount t) (λ i. number 4 t (slackAt t + 4 * i)) 0) (taskCount t) h
       (cut-above (taskCount t) (λ i. number 4 t (slackAt t + 4 * i)) 0))
 
 -- 3 to 10 look at the tasks and labels only

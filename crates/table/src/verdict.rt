@@ -1,7 +1,7 @@
 // The judgement of a table's bytes, and the part of them that is its slack section.
 use crate::Judgement;
 use analysis::plan_bounds;
-use analysis::settle::settle;
+use analysis::slack_test::test_slack;
 use codec::places::slack_from;
 use codec::places::tasks_from;
 use codec::read::Counts;
@@ -49,12 +49,12 @@ fn load(table: &[u8], cores: usize, tasks: usize, offers: usize) -> Plan
 fn judge_plan(plan: Plan, offers: usize) -> Judgement
     ensures { λ r. ⌜ Judges plan offers r ⌝ }
 {
-    let settled = settle(plan, offers);
-    let answer = settled.answer;
+    let tested = test_slack(plan, offers);
+    let answer = tested.answer;
     let Answer::Accepted = answer else {
         return refused(answer);
     };
-    let slack = settled.slack;
+    let slack = tested.slack;
     let bounded = plan_bounds(plan, slack);
     let Answer::Accepted = bounded else {
         return refused(bounded);

@@ -1,13 +1,13 @@
--- A plan cut at its used places, and the contents that a plan keeps: the plan of such a content says that content again.
+-- A plan cut at its used places, and the contents that fit a plan: the plan of such a content says that content again.
 --     plan-ext        plans with equal fields are the same
 --     content-ext     contents with the same tasks, labels, slack count and slack are the same
 --     withSlack       a plan with this slack in place of its own
---     Kept            the content's counts are within a plan's arrays, and its rows are zero past the counts
---     kept-row        a row that is zero past n, kept in a list and read below n; cut-again: a row cut off at n
---     kept-tasks, kept-labels, kept-slack    the plan of a content whose rows are zero past the counts, with whatever slack, says its tasks and labels
---     kept            the plan of such a content says it; kept-plan: what a plan says is kept
+--     Fits            the content's counts are within a plan's arrays, and its rows are zero past the counts
+--     row-back        a row that is zero past n, put in a list and read below n; cut-again: a row cut off at n
+--     tasks-back, labels-back, slack-back    the plan of a content whose rows are zero past the counts, with whatever slack, says its tasks and labels
+--     fits-back       the plan of such a content says it; plan-fits: what a plan says fits
 --     content-tidy    so a plan with zeros in its unused places says what the plan says; tidy-tidy: and has no more to lose
---     mark-kept       the mark of a plan with tasks comes back from its slack count
+--     mark-back       the mark of a plan with tasks comes back from its slack count
 --     tidied-code     the tidied plan, array by array
 --     zero-task       a task that the test of zeros passes is the task of zeros; no-task: and back
 use Prim.Native.Nat.{ℕ, _≤_}
@@ -42,7 +42,7 @@ unfoldable pub withSlack : Plan → List ℕ → Plan
 withSlack p x =
     record { offered = p .offered; cores = p .cores; tasks = p .tasks; labels = p .labels; task = p .task; slack = x }
 
-pub record Kept (c : Content) : Type 0 where
+pub record Fits (c : Content) : Type 0 where
   pub cores-high : c .tasks .cores ≤ 8
   pub tasks-high : c .tasks .count ≤ 16
   pub label-past : (i : ℕ) → c .tasks .cores ≤ i → c .label i ≡ 0
@@ -50,9 +50,9 @@ pub record Kept (c : Content) : Type 0 where
   pub slack-past : (i : ℕ) → c .tasks .count ≤ i → c .slack i ≡ 0
   pub offers : (c .offers ≡ 0) ⊎ (c .offers ≡ c .tasks .count)
 
--- a row that is z from n on, kept in a list of N, and read below n again
-pub kept-row : {A : Type 0} (f : ℕ → A) (z : A) (n N : ℕ) → n ≤ N → ((i : ℕ) → n ≤ i → f i ≡ z) → (i : ℕ) → cut n (λ j. getD (tab f N) j z) z i ≡ f i
-kept-row f z n N h past i = go (ltb i n) refl
+-- a row that is z from n on, put in a list of N, and read below n again
+pub row-back : {A : Type 0} (f : ℕ → A) (z : A) (n N : ℕ) → n ≤ N → ((i : ℕ) → n ≤ i → f i ≡ z) → (i : ℕ) → cut n (λ j. getD (tab f N) j z) z i ≡ f i
+row-back f z n N h past i = go (ltb i n) refl
   where
     go : (b : Bool) → ltb i n ≡ b → cut n (λ j. getD (tab f N) j z) z i ≡ f i
     go true e =
@@ -63,44 +63,44 @@ kept-row f z n N h past i = go (ltb i n) refl
         cut-above n (λ j. getD (tab f N) j z) z i l ∙ sym (past i l)
 
 -- the mark keeps a count that is 0 or n
-kept-offers : (x n : ℕ) → (x ≡ 0) ⊎ (x ≡ n) → cond (not (eqb x 0)) n 0 ≡ x
-kept-offers x n h = go (eqb x 0) refl h
+offers-back : (x n : ℕ) → (x ≡ 0) ⊎ (x ≡ n) → cond (not (eqb x 0)) n 0 ≡ x
+offers-back x n h = go (eqb x 0) refl h
   where
     go : (b : Bool) → eqb x 0 ≡ b → (x ≡ 0) ⊎ (x ≡ n) → cond (not (eqb x 0)) n 0 ≡ x
     go true e q = rw e (sym (eqb-true x 0 e))
     go false e q = rw e (⊎-elim (λ (z : x ≡ 0). absurd (eqb-false x 0 e z)) (λ (w : x ≡ n). sym w) q)
 
-pub kept-slack : (x : ℕ → ℕ) (n : ℕ) → n ≤ 16 → ((i : ℕ) → n ≤ i → x i ≡ 0) → cut n (row (tab x 16)) 0 ≡ x
+pub slack-back : (x : ℕ → ℕ) (n : ℕ) → n ≤ 16 → ((i : ℕ) → n ≤ i → x i ≡ 0) → cut n (row (tab x 16)) 0 ≡ x
 unfolding row
-kept-slack x n h past = fun-ext (kept-row x 0 n 16 h past)
+slack-back x n h past = fun-ext (row-back x 0 n 16 h past)
 
 module _ (c : Content) (x : List ℕ) where
-  pub kept-tasks :
+  pub tasks-back :
       c .tasks .count ≤ 16 → ((i : ℕ) → c .tasks .count ≤ i → c .tasks .task i ≡ noTask)
       → contentOf (withSlack (planOf c) x) .tasks ≡ c .tasks
   unfolding contentOf withSlack planOf taskOf
-  kept-tasks h past =
+  tasks-back h past =
       set-ext (contentOf (withSlack (planOf c) x) .tasks) (c .tasks) refl refl
-      (kept-row (c .tasks .task) noTask (c .tasks .count) 16 h past)
+      (row-back (c .tasks .task) noTask (c .tasks .count) 16 h past)
 
-  pub kept-labels :
+  pub labels-back :
       c .tasks .cores ≤ 8 → ((i : ℕ) → c .tasks .cores ≤ i → c .label i ≡ 0) → contentOf (withSlack (planOf c) x) .label ≡ c .label
   unfolding contentOf withSlack planOf row
-  kept-labels h past = fun-ext (kept-row (c .label) 0 (c .tasks .cores) 8 h past)
+  labels-back h past = fun-ext (row-back (c .label) 0 (c .tasks .cores) 8 h past)
 
-pub kept : (c : Content) → Kept c → contentOf (planOf c) ≡ c
+pub fits-back : (c : Content) → Fits c → contentOf (planOf c) ≡ c
 unfolding contentOf planOf withSlack
-kept c k =
+fits-back c k =
     content-ext (contentOf (planOf c)) c
-    (kept-tasks c (tab (c .slack) 16) (k .tasks-high) (k .task-past))
-    (kept-labels c (tab (c .slack) 16) (k .cores-high) (k .label-past))
-    (kept-offers (c .offers) (c .tasks .count) (k .offers))
-    (kept-slack (c .slack) (c .tasks .count) (k .tasks-high) (k .slack-past))
+    (tasks-back c (tab (c .slack) 16) (k .tasks-high) (k .task-past))
+    (labels-back c (tab (c .slack) 16) (k .cores-high) (k .label-past))
+    (offers-back (c .offers) (c .tasks .count) (k .offers))
+    (slack-back (c .slack) (c .tasks .count) (k .tasks-high) (k .slack-past))
 
 module _ (p : Plan) (m : p .cores ≤ 8) (n : p .tasks ≤ 16) where
-  pub kept-plan : Kept (contentOf p)
+  pub plan-fits : Fits (contentOf p)
   unfolding contentOf
-  kept-plan =
+  plan-fits =
       record {
         cores-high = m;
         tasks-high = n;
@@ -116,15 +116,15 @@ module _ (p : Plan) (m : p .cores ≤ 8) (n : p .tasks ≤ 16) where
 
   pub content-tidy : contentOf (tidy p) ≡ contentOf p
   unfolding tidy
-  content-tidy = kept (contentOf p) kept-plan
+  content-tidy = fits-back (contentOf p) plan-fits
 
   pub tidy-tidy : tidy (tidy p) ≡ tidy p
   unfolding tidy
   tidy-tidy = ap planOf content-tidy
 
-pub mark-kept : (b : Bool) (n : ℕ) → 1 ≤ n → not (eqb (cond b n 0) 0) ≡ b
-mark-kept true n h = rw (ne-eqb n 0 (λ z. omega arith))
-mark-kept false n h = refl
+pub mark-back : (b : Bool) (n : ℕ) → 1 ≤ n → not (eqb (cond b n 0) 0) ≡ b
+mark-back true n h = rw (ne-eqb n 0 (λ z. omega arith))
+mark-back false n h = refl
 
 pub tidied-code :
     (p : Plan) (labels slack : List ℕ) (task : List Task) → 1 ≤ p .tasks
@@ -133,7 +133,7 @@ pub tidied-code :
     → slack ≡ tab (cut (p .tasks) (row (p .slack)) 0) 16
     → _≡_ {A = Plan} (record { offered = p .offered; cores = p .cores; tasks = p .tasks; labels = labels; task = task; slack = slack }) (tidy p)
 unfolding tidy planOf contentOf
-tidied-code p labels slack task n e f g = plan-ext _ (tidy p) (sym (mark-kept (p .offered) (p .tasks) n)) refl refl e f g
+tidied-code p labels slack task n e f g = plan-ext _ (tidy p) (sym (mark-back (p .offered) (p .tasks) n)) refl refl e f g
 
 -- ---- a task of zeros
 

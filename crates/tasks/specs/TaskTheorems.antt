@@ -1,7 +1,7 @@
 -- What document 01 says of H, of the counted loops and of found slack, for every table or plan that passes 3 to 10, and of late.
 --     Common          a number that is at least 1 and that every separation divides
 --     H-is-least      H is one, and none is smaller
---     Choice          m − 1 loops of the table
+--     Candidates          m − 1 loops of the table
 --     most-weight     the counted loops are such a choice, and none has a larger sum of weights
 --     Least           compliant slack that is no larger at any loop than any other
 --     found-exists    found slack is that, with one entry for each loop
@@ -38,7 +38,7 @@ pub record Common (s : TaskSet) (h : ℕ) : Type 0 where
   pub positive : 1 ≤ h
   pub divided : (i : ℕ) → i < s .count → h % s .task i .separation ≡ 0
 
-pub record Choice (s : TaskSet) (l : List ℕ) : Type 0 where
+pub record Candidates (s : TaskSet) (l : List ℕ) : Type 0 where
   pub loops : (i : ℕ) → member i l ≡ true → i < s .count
   pub distinct : Distinct l
   pub many : length l ≡ s .cores - 1
@@ -60,8 +60,8 @@ module _ (c : Content) (passed : limitTests c ≡ Accepted) where
   -- "the m − 1 largest weights"
   pub most-weight :
       (x : ℕ → ℕ)
-      → Choice (c .tasks) (counted (c .tasks) x)
-      × ((l : List ℕ) → Choice (c .tasks) l → sumOver (weight (c .tasks) x) l ≤ sumOver (weight (c .tasks) x) (counted (c .tasks) x))
+      → Candidates (c .tasks) (counted (c .tasks) x)
+      × ((l : List ℕ) → Candidates (c .tasks) l → sumOver (weight (c .tasks) x) l ≤ sumOver (weight (c .tasks) x) (counted (c .tasks) x))
   most-weight x = (
     record {
       loops = counted-below (c .tasks) x;

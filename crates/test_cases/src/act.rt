@@ -1,13 +1,13 @@
 // A line of a script: what it is about, what is done to it, and numbers.
 use crate::calls;
-use crate::drafts;
-use crate::plans;
-use crate::states;
-use crate::world::World;
 use test_script::line::find;
 use test_script::line::front;
 use test_script::line::rest;
 use test_script::say;
+use test_world::drafts;
+use test_world::plans;
+use test_world::states;
+use test_world::world::World;
 
 // A line that has no meaning is printed, so that the output shows it.
 fn unknown(world: World, line: &[u8]) -> World {

@@ -1,5 +1,4 @@
 // Lines that make a call, print its case under the name at the line's end and, of a release or a step, take the state that it hands back.
-use crate::world::World;
 use state::State;
 use tasks::Plan;
 use test_engine::calls;
@@ -12,6 +11,7 @@ use test_script::say;
 use test_tables::draft::Draft;
 use test_tables::judged;
 use test_tables::written;
+use test_world::world::World;
 
 fn judge(table: Draft, words: &[u8]) {
     let bytes = table.bytes;

@@ -2,14 +2,11 @@
 // have. The stored output is worked out from documents 01 and 02 by other means.
 mod act;
 mod calls;
-mod drafts;
-mod plans;
-mod states;
-mod world;
 
 use libc::STDIN_FILENO;
 use test_script::line::find;
 use test_script::line::front;
+use test_world::world;
 
 // The script from `from` on, with at most as many lines as it has bytes.
 fn run(script: &[u8]) {

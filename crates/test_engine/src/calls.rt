@@ -1,13 +1,13 @@
 // A case for each call: what it answers, and the state that it hands back.
-use crate::made::zeros;
-use crate::same::idle;
-use crate::same::same_state;
-use crate::same::same_table;
 use crate::show;
 use state::State;
 use tasks::Answer;
 use tasks::Plan;
 use test_script::say;
+use test_states::made::zeros;
+use test_states::same::idle;
+use test_states::same::same_state;
+use test_states::same::same_table;
 use test_tables::same::same_plan;
 use test_tables::same::unused_zero;
 

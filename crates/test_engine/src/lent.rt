@@ -1,10 +1,10 @@
 // A case of `step_in_place`: what it answers and leaves in the lent state, beside what `step` hands back.
-use crate::same::same_state;
-use crate::same::same_step;
 use crate::show;
 use state::State;
 use state::Stepped;
 use test_script::say;
+use test_states::same::same_state;
+use test_states::same::same_step;
 
 // The answer of a call, and the state that was lent to it.
 struct After {

@@ -26,7 +26,7 @@ use Rattle.table.specs.declared.Judgement.{Judgement}
 use Rattle.table.specs.Judged.{judged}
 use Rattle.laws.specs.SetsLaws.{sets-whole}
 use Rattle.roundtrip.specs.SectionLaws.{verdict-parts}
-use Rattle.roundtrip.specs.RoundTrip.{judged-kept}
+use Rattle.roundtrip.specs.RoundTrip.{judged-fits}
 use Rattle.decimal.specs.Decimal.{Stored}
 use Rattle.text.specs.Printed.{refusalLine, planText, printed}
 use Rattle.text.specs.PrintedLaws.{within, lines-short, counts-short, plan-text}
@@ -37,7 +37,7 @@ module _ (t : List ℕ) (j : Judgement) (e : j ≡ judged t) where
   verdict-is = ap (λ (r : Judgement). r .answer) e
 
   content-is : j .answer ≡ Accepted → contentOf (j .plan) ≡ contentIn t
-  content-is a = ap (λ (r : Judgement). contentOf (r .plan)) e ∙ judged-kept t (sym verdict-is ∙ a)
+  content-is a = ap (λ (r : Judgement). contentOf (r .plan)) e ∙ judged-fits t (sym verdict-is ∙ a)
 
   pub judged-passed : j .answer ≡ Accepted → testPlan (j .plan) ≡ Accepted
   unfolding testPlan

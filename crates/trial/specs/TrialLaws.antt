@@ -1,5 +1,5 @@
 -- Steps one after another: what the code's loop has after some turns.
---     Kept                 the state is sound, and its arrays have their lengths
+--     SoundShape                 the state is sound, and its arrays have their lengths
 --     step-kept            a step that isn't refused keeps that; tick-kept: so does a tick
 --     steps-next           a tick is the next step; steps-end: at the clock's end the rest of the steps are refused 19
 --     steps-refused        where the first step is refused, so is each later one
@@ -29,11 +29,11 @@ use Rattle.state.specs.FitLaws.{sound-fit, fit-sound, shaped}
 use Rattle.state.specs.KeptLaws.{ticked-fit}
 use Rattle.trial.specs.Trials.{answerCode, followed, TasksLeft, PlanLeft, StateLeft, ReleaseLeaves, StepsLeave}
 
-pub record Kept (s : State) : Type 0 where
+pub record SoundShape (s : State) : Type 0 where
   pub shape : Shaped s
   pub sound : soundOf s ≡ true
 
-pub tick-kept : (s : State) → Kept s → s .clock < 4000000000 → (r : Stepped) → r ≡ tickedOf (s .plan) (tasksOf s) (machineOf s) → Kept (r .state)
+pub tick-kept : (s : State) → SoundShape s → s .clock < 4000000000 → (r : Stepped) → r ≡ tickedOf (s .plan) (tasksOf s) (machineOf s) → SoundShape (r .state)
 unfolding tickedOf tasksOf machineOf
 tick-kept s K h r e =
     let F = ticked-fit (s .plan) (machineOf s) (sound-fit s (K .shape) (K .sound)) h in
@@ -48,7 +48,7 @@ tests-accepted s e = go (stepTests s) refl
     go Accepted q = q
     go (Refused k j) q = sym (ap (λ (a : Answer). unlessRefused a (tickedOf (s .plan) (tasksOf s) (machineOf s)) (notStepped (stepTests s) s) .answer) q) ∙ e
 
-pub step-kept : (s : State) → Shaped s → stepOf s .answer ≡ Accepted → Kept (stepOf s .state)
+pub step-kept : (s : State) → Shaped s → stepOf s .answer ≡ Accepted → SoundShape (stepOf s .state)
 unfolding stepOf
 step-kept s S e =
     let a = tests-accepted s e in
@@ -87,7 +87,7 @@ tests-end : (s : State) → soundOf s ≡ true → s .clock ≡ 4000000000 → s
 unfolding stepTests firstMet
 tests-end s e h = rw (e, eq-eqb (s .clock) 4000000000 h)
 
-module _ (r : Stepped) (i : ℕ) (t : Stepped) (e : t ≡ followed r i) (K : Kept (t .state)) where
+module _ (r : Stepped) (i : ℕ) (t : Stepped) (e : t ≡ followed r i) (K : SoundShape (t .state)) where
   pub steps-next :
       t .state .clock < 4000000000 → (u : Stepped) → u ≡ tickedOf (t .state .plan) (tasksOf (t .state)) (machineOf (t .state)) → u ≡ followed r (i + 1)
   unfolding followed

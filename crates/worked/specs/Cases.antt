@@ -27,11 +27,11 @@ use Rattle.tasks.specs.Content.{noTask}
 use Rattle.tasks.specs.Tests.{lowest, firstMet, outside, badLabel, test3, test4, test5, test6, test7, test8, test9, test10, test11, test12, test13, tests, unlessRefused}
 use Rattle.machine.specs.Machine.{opened, joined, admitted, waiting, point, before, chosen, runs, served, advanced, tick}
 use Rattle.machine.specs.Admission.{joinTests, admitTests}
-use Rattle.history.specs.Engine.{Engine, verdict as asked, demanded, named}
+use Rattle.history.specs.Engine.{Engine, verdict as asked, demanded, namedTicks}
 use Rattle.history.specs.Log.{Entry, largest as largestTick, back, until, calls, outcome, owed, allOwed, rest, whole}
 use Rattle.history.specs.OnMachine.{answerOf, handedOf, quietOf, machineEngine}
 use Rattle.history.specs.Report.{Report, finished, refusal, finishTick, report}
-use Rattle.demand.specs.Demand3.{runOn, demand-machine}
+use Rattle.delivered.specs.Demand3.{runOn, demand-machine}
 use Rattle.logs.specs.LogBytes.{entryCount, entryIn, entriesIn, test14, test15, logTest}
 use Rattle.laws.specs.Member.{member}
 use Rattle.codec.specs.Bytes.{byte, number, digits, entries}
@@ -178,7 +178,7 @@ printAll [] = true
 printAll (s ∷ l) = prints s && printAll l
 
 pub worked : T (agreeAll cases && printAll texts)
-unfolding cases concat tableWith sameAnswer sameList agrees agreeAll first sum sumOver tab cut place ranked largest lcm lcmBelow hyperperiod share weight surplus counted amount cover covers needed row raise same settle found bound noTask lowest firstMet outside badLabel test3 test4 test5 test6 test7 test8 test9 test10 test11 test12 test13 tests byte number digits coreCount taskCount tasksAt slackCount slackAt taskIn taskSetIn contentIn test1 test2 verdict taskBytes logOf sameReport sameBy entryCount entryIn entriesIn test14 test15 logTest opened joinTests admitTests joined admitted waiting point before chosen runs served advanced tick asked demanded named largestTick back until calls outcome owed allOwed rest whole answerOf handedOf quietOf finishTick report member texts prints printAll late printed planText countsLine taskLine refusalLine pairLine lineOf words said decimal digitsIn entries
+unfolding cases concat tableWith sameAnswer sameList agrees agreeAll first sum sumOver tab cut place ranked largest lcm lcmBelow hyperperiod share weight surplus counted amount cover covers needed row raise same settle found bound noTask lowest firstMet outside badLabel test3 test4 test5 test6 test7 test8 test9 test10 test11 test12 test13 tests byte number digits coreCount taskCount tasksAt slackCount slackAt taskIn taskSetIn contentIn test1 test2 verdict taskBytes logOf sameReport sameBy entryCount entryIn entriesIn test14 test15 logTest opened joinTests admitTests joined admitted waiting point before chosen runs served advanced tick asked demanded namedTicks largestTick back until calls outcome owed allOwed rest whole answerOf handedOf quietOf finishTick report member texts prints printAll late printed planText countsLine taskLine refusalLine pairLine lineOf words said decimal digitsIn entries
 worked = tt
 
 -- ---- the same of the delivered engine

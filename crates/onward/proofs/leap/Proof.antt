@@ -24,15 +24,15 @@ add-reached c =
     let t = leap-in (P .3 .1) (P .2) (c .before .fewer .ensures) (c .least .ensures) in
     omega (arith, t .1, P .3 .1 .limit)
 
-settle-requires : tie.Need-settle-requires
-settle-requires c κs =
+run-heads-requires : tie.Need-run-heads-requires
+run-heads-requires c κs =
     let P = c .before .before .before .before .before .before .before .before .pre in
     (ready-few (P .3 .1), P .0, P .1, search needs)
 
 finish-all-requires : tie.Need-finish-all-requires
 finish-all-requires c κs =
     let P = c .before .before .before .before .before .before .before .before .before .before .before .before .before .before .before .pre in
-    let s = c .before .before .before .before .before .before .settle .ensures in
+    let s = c .before .before .before .before .before .before .run-heads .ensures in
     let n = ready-few (P .3 .1) in (
       omega (arith, s .3, n),
       s .5,
@@ -46,7 +46,7 @@ same-length c = search needs
 returns : tie.Need-returns
 returns c =
     let P = c .before .before .before .before .before .before .before .before .before .before .before .before .before .before .before .before .before .before .pre in
-    let s = c .before .before .before .before .before .before .before .before .before .settle .ensures in
+    let s = c .before .before .before .before .before .before .before .before .before .run-heads .ensures in
     let f = c .before .before .finish-all .ensures in (
       f .0,
       f .1,
@@ -61,7 +61,7 @@ leap-spec =
     sub-least
     least-requires
     add-reached
-    settle-requires
+    run-heads-requires
     finish-all-requires
     same-length
     returns)

@@ -3,7 +3,7 @@ use Rattle.state.specs.declared.Stepped.{Stepped}
 use Rattle.state.specs.CallLaws.{sound-clock}
 use Rattle.state.specs.Fit.{Shaped, length-mapped}
 use Rattle.trial.specs.Trials.{followed, stepsOf}
-use Rattle.trial.specs.TrialLaws.{Kept, tick-kept, step-kept, steps-refused, steps-next, steps-end}
+use Rattle.trial.specs.TrialLaws.{SoundShape, tick-kept, step-kept, steps-refused, steps-next, steps-end}
 use borrow.Author.Needs.{needs}
 use native.Mathlib.Omega.{arith}
 use Prim.Native.Nat.{_≤_, _<_, _-_}
@@ -12,7 +12,7 @@ use Rattle.trial.proofs.steps.Statement.{statement}
 use Rattle.trial.proofs.steps.Tie as tie
 
 abbrev Inv-loop : tie.InvT-loop
-Inv-loop more stepped₀ k₀ stepped k = (k ≤ more) × (stepped ≡ followed stepped₀ k) × Kept (stepped .state)
+Inv-loop more stepped₀ k₀ stepped k = (k ≤ more) × (stepped ≡ followed stepped₀ k) × SoundShape (stepped .state)
 
 abbrev μ-loop : tie.MeasureT-loop
 μ-loop more stepped₀ k₀ stepped k = more - k

@@ -13,8 +13,8 @@ use Rattle.tasks.specs.Content.{Content, contentOf}
 use Rattle.tasks.specs.Tests.{orNext, firstMet, test11, testPlan}
 use Rattle.tasks.specs.AnswerLaws.{lowest-ext}
 use Rattle.tasks.specs.LimitsLaws.{limitTests}
-use Rattle.analysis.specs.declared.settle.Settled.{Settled}
-use Rattle.analysis.specs.Settled.{Settles, offeredTest, hadSlack}
+use Rattle.analysis.specs.declared.slack_test.Tested.{Tested}
+use Rattle.analysis.specs.SlackTest.{PlanTested, offeredTest, hadSlack}
 use Rattle.analysis.specs.PlanTest.{boundsOf, foundTests}
 use Rattle.analysis.specs.PlanTestLaws.{offering-plan, test-refused, few-tasks, test-found, test-offered}
 use Prim.Native.Nat.{ℕ, _≤_}
@@ -27,9 +27,9 @@ use Rattle.analysis.proofs.plan_test.test.Lts as lts
 use Rattle.analysis.proofs.plan_test.found_test.Reads as found-test-reads
 use Rattle.analysis.proofs.plan_test.plan_bounds.Reads as plan-bounds-reads
 use Rattle.analysis.proofs.plan_test.slack_count.Reads as slack-count-reads
-use Rattle.analysis.proofs.settle.settle.Reads as settle-reads
+use Rattle.analysis.proofs.slack_test.test_slack.Reads as test-slack-reads
 
-module _ (p : Plan) (k : ℕ) (ek : k ≡ cond (p .offered) (p .tasks) 0) (t : Settled) (g : Settles p k t) where
+module _ (p : Plan) (k : ℕ) (ek : k ≡ cond (p .offered) (p .tasks) 0) (t : Tested) (g : PlanTested p k t) where
   answered : t .answer ≡ orNext (limitTests (contentOf p)) (firstMet (test11 (contentOf p) ∷ offeredTest (contentOf p) ∷ []))
   answered =
       g .answer ∙ ap (λ (c : Content). orNext (limitTests c) (firstMet (test11 c ∷ offeredTest c ∷ []))) (offering-plan p k ek)
@@ -63,8 +63,8 @@ slack-count-requires : tie.Need-slack-count-requires
 slack-count-requires c κs = search needs
 
 -- src/plan_test.rt:77:9
-settle-requires : tie.Need-settle-requires
-settle-requires c κs = search needs
+test-slack-requires : tie.Need-test-slack-requires
+test-slack-requires c κs = search needs
 
 enum-told : tie.Need-enum-told
 enum-told c = search needs
@@ -77,38 +77,38 @@ enum-told-2 c = search needs
 returns : tie.Need-returns
 returns c =
     let s = c .before .before .before .before in
-    refused (s .args .plan) _ (c .before .before .before .slack-count .ensures .0) _ (c .before .before .settle .ensures) _ _ (c .enum-told2 .given .1)
+    refused (s .args .plan) _ (c .before .before .before .slack-count .ensures .0) _ (c .before .before .test-slack .ensures) _ _ (c .enum-told2 .given .1)
 
 -- src/plan_test.rt:84:9
 found-test-requires : tie.Need-found-test-requires
 found-test-requires c κs =
     let s = c .before .before .before .before .before .before in
-    few (s .args .plan) _ (c .before .before .before .before .before .slack-count .ensures .0) _ (c .before .before .before .before .settle .ensures) (c .before .before .enum-told .given .1)
+    few (s .args .plan) _ (c .before .before .before .before .before .slack-count .ensures .0) _ (c .before .before .before .before .test-slack .ensures) (c .before .before .enum-told .given .1)
 
 -- src/plan_test.rt:84:9
 returns-2 : tie.Need-returns-2
 returns-2 c =
     let s = c .before .before .before .before .before .before .before in
-    found (s .args .plan) _ (c .before .before .before .before .before .before .slack-count .ensures .0) _ (c .before .before .before .before .before .settle .ensures) (c .before .before .before .enum-told .given .1) _ (c .before .if1 .taken) (c .found-test .ensures)
+    found (s .args .plan) _ (c .before .before .before .before .before .before .slack-count .ensures .0) _ (c .before .before .before .before .before .test-slack .ensures) (c .before .before .before .enum-told .given .1) _ (c .before .if1 .taken) (c .found-test .ensures)
 
 -- src/plan_test.rt:86:5
 plan-bounds-requires : tie.Need-plan-bounds-requires
 plan-bounds-requires c κs =
     let s = c .before .before .before .before .before .before in
-    few (s .args .plan) _ (c .before .before .before .before .before .slack-count .ensures .0) _ (c .before .before .before .before .settle .ensures) (c .before .before .enum-told .given .1)
+    few (s .args .plan) _ (c .before .before .before .before .before .slack-count .ensures .0) _ (c .before .before .before .before .test-slack .ensures) (c .before .before .enum-told .given .1)
 
 -- src/plan_test.rt:73:1
 returns-3 : tie.Need-returns-3
 returns-3 c =
     let s = c .before .before .before .before .before .before .before in
-    offered (s .args .plan) _ (c .before .before .before .before .before .before .slack-count .ensures .0) _ (c .before .before .before .before .before .settle .ensures) (c .before .before .before .enum-told .given .1) _ (c .before .if1 .left) (c .plan-bounds .ensures)
+    offered (s .args .plan) _ (c .before .before .before .before .before .before .slack-count .ensures .0) _ (c .before .before .before .before .before .test-slack .ensures) (c .before .before .before .enum-told .given .1) _ (c .before .if1 .left) (c .plan-bounds .ensures)
 
 pub test-spec : {M : Type 1} → statement M
 test-spec =
     tie.close
     (tie.spec
     slack-count-requires
-    settle-requires
+    test-slack-requires
     enum-told
     enum-told-2
     returns

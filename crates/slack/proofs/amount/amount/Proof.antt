@@ -30,8 +30,8 @@ module _ (w : ℕ → ℕ) (n : ℕ) (l : List ℕ) (h : n ≤ 16) (g : Weighed 
   light : Light l n
   light = record { sixteen = h; limit = λ i k. rw (entry i k) (g .limit i k) }
 
-  chosen-sum : (k : ℕ) → sumOver (λ i. getD l i 0) (largest k (λ i. getD l i 0) n) ≡ sumOver w (largest k w n)
-  chosen-sum k =
+  counted-sum : (k : ℕ) → sumOver (λ i. getD l i 0) (largest k (λ i. getD l i 0) n) ≡ sumOver w (largest k w n)
+  counted-sum k =
       sumOver-ext _ _ _ (λ i m. entry i (largest-below k (λ i. getD l i 0) n i m))
       ∙ ap (sumOver w) (largest-ext k _ _ n entry)
 
@@ -55,7 +55,7 @@ add-result c =
     omega (
       arith,
       c .largest-sum .ensures .total,
-      chosen-sum _ _ _ (s .pre .0 .sixteen) g (count (members (s .args .chosen .now)) (s .args .tasks)),
+      counted-sum _ _ _ (s .pre .0 .sixteen) g (count (members (s .args .chosen .now)) (s .args .tasks)),
       high _ _ _ (s .pre .0 .sixteen) g (count (members (s .args .chosen .now)) (s .args .tasks)),
     )
 
@@ -64,7 +64,7 @@ returns : tie.Need-returns
 returns c =
     let s = c .before .before .before .before in (
       ap (λ (v : ℕ). v + s .args .surplus)
-          (c .largest-sum .ensures .total ∙ chosen-sum _ _ _ (s .pre .0 .sixteen) (c .before .before .before .weigh .ensures) _),
+          (c .largest-sum .ensures .total ∙ counted-sum _ _ _ (s .pre .0 .sixteen) (c .before .before .before .weigh .ensures) _),
       c .largest-sum .ensures .many,
     )
 

@@ -4,7 +4,7 @@ use native.Mathlib.Nat.{mul-le-mul}
 use Rattle.laws.specs.First.{first}
 use Rattle.laws.specs.FirstLaws.{none-more, found-at}
 use Rattle.tasks.specs.TaskSet.{row}
-use Rattle.slack.specs.Settling.{uncovered}
+use Rattle.slack.specs.Arrays.{uncovered}
 use borrow.Author.Needs.{needs}
 use native.Mathlib.Omega.{arith}
 use Prim.Native.Nat.{ℕ, _≤_, _<_, _*_, _-_}

@@ -1,14 +1,14 @@
 use mathlib.Core.Bool.{Bool, true}
 use mathlib.Core.List.{List}
-use Rattle.slack.specs.SettlingLaws.{sweep-none, sweep-old, sweep-set}
+use Rattle.slack.specs.ArraysLaws.{sweep-none, sweep-old, sweep-set}
 use borrow.Author.Tests.{eq-eqb, ne-eqb}
 use mathlib.Core.Bool.{not}
 use lib.Dec.{ltb, eqb}
 use Rattle.laws.specs.First.{first}
 use Rattle.laws.specs.Tab.{tab}
 use Rattle.tasks.specs.TaskSet.{row}
-use Rattle.slack.specs.Settling.{lifted, upto}
-use Rattle.slack.specs.SettlingLaws.{changed-more, changed-same}
+use Rattle.slack.specs.Arrays.{lifted, upto}
+use Rattle.slack.specs.ArraysLaws.{changed-more, changed-same}
 use borrow.Author.Needs.{needs}
 use native.Mathlib.Omega.{arith}
 use Prim.Native.Nat.{ℕ, _≤_, _<_, _+_, _-_}

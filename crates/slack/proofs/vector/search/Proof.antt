@@ -10,9 +10,9 @@ use Rattle.laws.specs.Sum.{sum, count}
 use Rattle.largest.specs.Passes.{members}
 use Rattle.tasks.specs.TaskSet.{TaskSet, amount, row}
 use Rattle.tasks.specs.RisingLaws.{Rising, rising-start}
-use Rattle.slack.specs.Settling.{Settling}
-use Rattle.slack.specs.SettleLaws.{cores-low, cores-high, more, tasks-high, multiple-low, multiple-high, few, surplus-high, amounts, amount-row}
-use Rattle.slack.specs.SearchLaws.{chosen-first, turn-need, turn-rising, turn-length, turn-past, turn-over, turn-less}
+use Rattle.slack.specs.Arrays.{ArraysOf}
+use Rattle.slack.specs.StageLaws.{cores-low, cores-high, more, tasks-high, multiple-low, multiple-high, few, surplus-high, amounts, amount-row}
+use Rattle.slack.specs.SearchLaws.{counted-first, turn-need, turn-rising, turn-length, turn-past, turn-over, turn-less}
 use native.Mathlib.Omega.{arith}
 use Prim.Native.Nat.{ℕ, _≤_, _*_, _-_}
 use mathlib.Core.Path.{_≡_, refl, sym, _∙_}
@@ -22,7 +22,7 @@ use Rattle.slack.proofs.vector.search.Tie as tie
 use Rattle.slack.proofs.vector.search.Reads as reads
 use Rattle.slack.proofs.vector.search.Lts as lts
 use Rattle.slack.proofs.amount.amount.Reads as amount-reads
-use Rattle.slack.proofs.amount.first_chosen.Reads as first-chosen-reads
+use Rattle.slack.proofs.amount.first_counted.Reads as first-counted-reads
 use Rattle.slack.proofs.vector.quotients.Reads as quotients-reads
 use Rattle.slack.proofs.vector.raise.Reads as raise-reads
 use Rattle.slack.proofs.vector.remainders.Reads as remainders-reads
@@ -44,7 +44,7 @@ Inv-loop share budget offset multiple surplus cores tasks divisor quotient rest 
     (length slack ≡ 16)
     × ((k : ℕ) → tasks ≤ k → row slack k ≡ 0)
     × (count (members chosen) tasks ≡ cores - 1)
-    × ((s : TaskSet) → Settling s share budget offset multiple surplus cores tasks → Rising s (row slack))
+    × ((s : TaskSet) → ArraysOf s share budget offset multiple surplus cores tasks → Rising s (row slack))
 
 abbrev μ-loop : tie.MeasureT-loop
 μ-loop share budget offset multiple surplus cores tasks divisor quotient rest chosen₀ slack₀ chosen slack =
@@ -63,12 +63,12 @@ remainders-requires : tie.Need-remainders-requires Inv-loop μ-loop
 remainders-requires c κs = let g = c .before .pre .1 in (tasks-high _ _ _ _ _ _ _ _ g, omega (arith, cores-low _ _ _ _ _ _ _ _ g))
 
 -- src/slack.rt:120:35
-sub-first-chosen : tie.Need-sub-first-chosen Inv-loop μ-loop
-sub-first-chosen c = let g = c .before .before .pre .1 in omega (arith, cores-low _ _ _ _ _ _ _ _ g)
+sub-first-counted : tie.Need-sub-first-counted Inv-loop μ-loop
+sub-first-counted c = let g = c .before .before .pre .1 in omega (arith, cores-low _ _ _ _ _ _ _ _ g)
 
 -- src/slack.rt:120:22
-first-chosen-requires : tie.Need-first-chosen-requires Inv-loop μ-loop
-first-chosen-requires c κs = let g = c .before .before .pre .1 in omega (arith, cores-high _ _ _ _ _ _ _ _ g)
+first-counted-requires : tie.Need-first-counted-requires Inv-loop μ-loop
+first-counted-requires c κs = let g = c .before .before .pre .1 in omega (arith, cores-high _ _ _ _ _ _ _ _ g)
 
 -- src/slack.rt:122:5
 loop-holds : tie.Need-loop-holds Inv-loop μ-loop
@@ -77,8 +77,8 @@ loop-holds c =
     let g = s .pre .1 in (
       refl,
       λ k l. zeros k,
-      rw (c .first-chosen .ensures)
-          (chosen-first (s .args .cores - 1) (s .args .tasks) (omega (arith, more _ _ _ _ _ _ _ _ g)) (tasks-high _ _ _ _ _ _ _ _ g)),
+      rw (c .first-counted .ensures)
+          (counted-first (s .args .cores - 1) (s .args .tasks) (omega (arith, more _ _ _ _ _ _ _ _ g)) (tasks-high _ _ _ _ _ _ _ _ g)),
       λ t k. rising-start t _ (λ i l. zeros i),
     )
 
@@ -174,8 +174,8 @@ search-spec =
     cast-divisor
     quotients-requires
     remainders-requires
-    sub-first-chosen
-    first-chosen-requires
+    sub-first-counted
+    first-counted-requires
     loop-holds
     amount-requires
     sub-need

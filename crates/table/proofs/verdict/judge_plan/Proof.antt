@@ -5,9 +5,9 @@ use Rattle.tasks.specs.declared.Plan.{Plan}
 use Rattle.tasks.specs.declared.Answer.{Answer}
 use Rattle.tasks.specs.declared.Answer.the-variants.{Accepted, Refused}
 use Rattle.tasks.specs.Content.{contentOf}
-use Rattle.analysis.specs.declared.settle.Settled.{Settled}
-use Rattle.analysis.specs.Settled.{Settles, offering}
-use Rattle.analysis.specs.SettledLaws.{stopped, passed-on}
+use Rattle.analysis.specs.declared.slack_test.Tested.{Tested}
+use Rattle.analysis.specs.SlackTest.{PlanTested, offering}
+use Rattle.analysis.specs.SlackTestLaws.{stopped, passed-on}
 use Rattle.analysis.specs.PlanTest.{boundsOf}
 use Rattle.analysis.specs.PlanTestLaws.{few-tasks}
 use Rattle.table.specs.declared.Judgement.{Judgement}
@@ -18,16 +18,16 @@ use borrow.Author.Needs.{needs}
 use Rattle.table.proofs.verdict.judge_plan.Statement.{statement}
 use Rattle.table.proofs.verdict.judge_plan.Tie as tie
 
-module _ (p : Plan) (k : ℕ) (t : Settled) (g : Settles p k t) where
+module _ (p : Plan) (k : ℕ) (t : Tested) (g : PlanTested p k t) where
   -- a refusal hands back a plan of zeros
   refused : (r : Judgement) (a : Answer) (j i : ℕ) → r ≡ refusedWith a → a ≡ Refused j i → a ≡ judgedAnswer p k → Judges p k r
   unfolding refusedWith
   refused r a j i e q v =
       record { answer = ap (λ (r : Judgement). r .answer) e ∙ v; plan = rw (e, q) }
 
-  unsettled : (r : Judgement) (j i : ℕ) → r ≡ refusedWith (t .answer) → t .answer ≡ Refused j i → Judges p k r
+  untested : (r : Judgement) (j i : ℕ) → r ≡ refusedWith (t .answer) → t .answer ≡ Refused j i → Judges p k r
   unfolding judgedAnswer
-  unsettled r j i e q = refused r (t .answer) j i e q (g .answer ∙ sym (stopped _ _ j i (sym (g .answer) ∙ q)))
+  untested r j i e q = refused r (t .answer) j i e q (g .answer ∙ sym (stopped _ _ j i (sym (g .answer) ∙ q)))
 
   module _ (e : t .answer ≡ Accepted) where
     few : p .tasks ≤ 16
@@ -41,8 +41,8 @@ module _ (p : Plan) (k : ℕ) (t : Settled) (g : Settles p k t) where
     accepted : (b : Answer) → b ≡ boundsOf p (t .slack) → b ≡ Accepted → Judges p k (record { answer = Accepted; plan = withSlack p (t .slack) })
     accepted b q v = record { answer = sym v ∙ bounded b q; plan = ap (withSlack p) (g .slack e) }
 
-settle-requires : tie.Need-settle-requires
-settle-requires c κs = search needs
+test-slack-requires : tie.Need-test-slack-requires
+test-slack-requires c κs = search needs
 
 enum-told : tie.Need-enum-told
 enum-told c = search needs
@@ -56,12 +56,12 @@ refused-requires c κs = search needs
 returns : tie.Need-returns
 returns c =
     let s = c .before .before .before .before in
-    unsettled (s .args .plan) (s .args .offers) _ (c .before .before .before .settle .ensures) _ _ _ (c .refused .ensures) (c .before .enum-told2 .given .1)
+    untested (s .args .plan) (s .args .offers) _ (c .before .before .before .test-slack .ensures) _ _ _ (c .refused .ensures) (c .before .enum-told2 .given .1)
 
 plan-bounds-requires : tie.Need-plan-bounds-requires
 plan-bounds-requires c κs =
     let s = c .before .before .before .before in
-    few (s .args .plan) (s .args .offers) _ (c .before .before .before .settle .ensures) (c .before .enum-told .given .1)
+    few (s .args .plan) (s .args .offers) _ (c .before .before .before .test-slack .ensures) (c .before .enum-told .given .1)
 
 enum-told-3 : tie.Need-enum-told-3
 enum-told-3 c = search needs
@@ -75,7 +75,7 @@ refused-requires-2 c κs = search needs
 returns-2 : tie.Need-returns-2
 returns-2 c =
     let s = c .before .before .before .before .before .before .before .before in
-    let g = c .before .before .before .before .before .before .before .settle .ensures in
+    let g = c .before .before .before .before .before .before .before .test-slack .ensures in
     refused (s .args .plan) (s .args .offers) _ g _ _ _ _ (c .refused2 .ensures) (c .before .enum-told4 .given .1)
     (bounded (s .args .plan) (s .args .offers) _ g (c .before .before .before .before .before .enum-told .given .1) _ (c .before .before .before .plan-bounds .ensures))
 
@@ -83,13 +83,13 @@ returns-3 : tie.Need-returns-3
 unfolding withSlack
 returns-3 c =
     let s = c .before .before .before .before .before .before .before in
-    accepted (s .args .plan) (s .args .offers) _ (c .before .before .before .before .before .before .settle .ensures) (c .before .before .before .before .enum-told .given .1) _ (c .before .before .plan-bounds .ensures) (c .enum-told3 .given .1)
+    accepted (s .args .plan) (s .args .offers) _ (c .before .before .before .before .before .before .test-slack .ensures) (c .before .before .before .before .enum-told .given .1) _ (c .before .before .plan-bounds .ensures) (c .enum-told3 .given .1)
 
 pub judge-plan-spec : {M : Type 1} → statement M
 judge-plan-spec =
     tie.close
     (tie.spec
-    settle-requires
+    test-slack-requires
     enum-told
     enum-told-2
     refused-requires

@@ -1,0 +1,164 @@
+-- The stages' answers joined: from the columns and the stages to document 01's tests of a plan.
+--     columns-set       the columns stand for the plan's tasks, by the numbers that the analysis reads; plain-ranges: whose ranges those have
+--     frame-tests, fields-tests     3, 4 and 5, and 6, 7 and 8, from the plan's own arrays
+--     limits-split      3 to 10 are the three stages
+--     limits-from       what the three stages leave
+--     stopped, passed-on                           a refusal is passed on, and a passed test leaves the next
+--     slack-tests, slack-had                       11 and 12 of a plan, and the slack that it has
+--     slack-none, slack-count, slack-offered       11 and 12 by the slack count
+use Prim.Native.Nat.{ℕ, _-_, _≤_, _<_}
+use mathlib.Core.Path.{_≡_, refl, sym, _∙_, ap}
+use mathlib.Core.Bool.{Bool, true, false, cond}
+use mathlib.Core.List.{List, [], _∷_}
+use native.Mathlib.Omega.{arith}
+use lib.Dec.{ltb, eqb}
+use borrow.Author.Tests.{ltb-true, ltb-false, eq-eqb, ne-eqb}
+use Rattle.laws.specs.Tab.{tab, cut}
+use Rattle.laws.specs.TabLaws.{getD-cut, cut-below, cut-above}
+use Rattle.tasks.specs.declared.Task.{Task}
+use Rattle.tasks.specs.declared.Plan.{Plan}
+use Rattle.tasks.specs.declared.Answer.{Answer}
+use Rattle.tasks.specs.declared.Answer.the-variants.{Accepted, Refused}
+use Rattle.tasks.specs.TaskSet.{TaskSet, plainTask, plain, found, row}
+use Rattle.tasks.specs.PlainLaws.{plain-multiple, plain-shares, plain-compliant, plain-found}
+use Rattle.tasks.specs.Content.{Content, contentOf, taskOf, noTask}
+use Rattle.tasks.specs.Tests.{badLabel, firstMet, orNext, compliantTest, test3, test4, test5, test6, test7, test8, test9, test10, test11}
+use Rattle.tasks.specs.AnswerLaws.{refuse-passed, lowest-ext, firstMet-append, firstMet-passed}
+use Rattle.tasks.specs.Limits.{Limits}
+use Rattle.tasks.specs.LimitsLaws.{limitTests}
+use Rattle.fields.specs.Columns.{columnsOf, setFrom}
+use Rattle.fields.specs.Stages.{frameTest, fieldsTest}
+use Rattle.fields.specs.StageLaws.{fields-scan}
+use Rattle.slack.specs.Rates.{Ranges, ratesTest}
+use Rattle.analysis.specs.SlackTest.{offering, slackTest, offeredTest, hadSlack}
+use Rattle.slack.specs.StageLaws.{Framed}
+
+-- a field of a list's tasks, as a column has it
+column : (n : ℕ) (l : List Task) (field : Task → ℕ) → field noTask ≡ 0 → n ≤ 16 → (i : ℕ) →
+    row (tab (cut n (λ i. field (taskOf l i)) 0) 16) i ≡ field (cut n (taskOf l) noTask i)
+unfolding row
+column n l field z h i = getD-cut n 16 (λ i. field (taskOf l i)) 0 h i ∙ go (ltb i n) refl
+  where
+    go : (b : Bool) → ltb i n ≡ b → cut n (λ i. field (taskOf l i)) 0 i ≡ field (cut n (taskOf l) noTask i)
+    go true e = cut-below n _ 0 i (ltb-true i n e) ∙ ap field (sym (cut-below n (taskOf l) noTask i (ltb-true i n e)))
+    go false e = cut-above n _ 0 i (ltb-false i n e) ∙ sym z ∙ ap field (sym (cut-above n (taskOf l) noTask i (ltb-false i n e)))
+
+pub columns-set :
+    (p : Plan) → p .tasks ≤ 16 →
+    setFrom (p .cores) (p .tasks) (columnsOf (p .tasks) (p .task) .separation) (columnsOf (p .tasks) (p .task) .budget) (columnsOf (p .tasks) (p .task) .offset)
+    ≡ plain (contentOf p .tasks)
+unfolding setFrom columnsOf contentOf noTask plain
+columns-set p h =
+    λ j.
+    record {
+      cores = p .cores;
+      count = p .tasks;
+      task = λ i.
+          plainTask
+          (column (p .tasks) (p .task) (λ t. t .separation) refl h i j)
+          (column (p .tasks) (p .task) (λ t. t .budget) refl h i j)
+          (column (p .tasks) (p .task) (λ t. t .offset) refl h i j);
+    }
+
+pub plain-ranges : (s : TaskSet) → Ranges s → Ranges (plain s)
+unfolding plain
+plain-ranges s g =
+    record {
+      cores = g .cores;
+      tasks = g .tasks;
+      timed =
+          record {
+            separation-low = g .timed .separation-low;
+            budget-low = g .timed .budget-low;
+            budget-high = g .timed .budget-high;
+          };
+      separation = g .separation;
+      offset = g .offset;
+    }
+
+-- the labels that a test looks at are in use
+label-cut : (m : ℕ) (label : ℕ → ℕ) (i : ℕ) → i < m → badLabel (cut m label 0) i ≡ badLabel label i
+unfolding badLabel
+label-cut m label i h = rw (cut-below m label 0 i h, cut-below m label 0 (i - 1) (omega arith))
+
+module _ (p : Plan) (k : ℕ) where
+  pub frame-tests : frameTest (p .cores) (row (p .labels)) (p .tasks) ≡ firstMet (test3 (offering p k) ∷ test4 (offering p k) ∷ test5 (offering p k) ∷ [])
+  unfolding frameTest test3 test4 test5 offering contentOf
+  frame-tests =
+      rw (lowest-ext 4 (badLabel (cut (p .cores) (row (p .labels)) 0)) (badLabel (row (p .labels))) (p .cores) (label-cut (p .cores) (row (p .labels))))
+
+  pub fields-tests : fieldsTest (taskOf (p .task)) (p .tasks) ≡ firstMet (test6 (offering p k) ∷ test7 (offering p k) ∷ test8 (offering p k) ∷ [])
+  unfolding test6 test7 test8 offering contentOf fieldsTest
+  fields-tests = fields-scan p
+
+module _ (c : Content) where
+  pub limits-split :
+      limitTests c
+      ≡ orNext (firstMet (test3 c ∷ test4 c ∷ test5 c ∷ []))
+      (orNext (firstMet (test6 c ∷ test7 c ∷ test8 c ∷ [])) (firstMet (test9 c ∷ test10 c ∷ [])))
+  unfolding limitTests
+  limits-split =
+      firstMet-append (test3 c ∷ test4 c ∷ test5 c ∷ []) (test6 c ∷ test7 c ∷ test8 c ∷ test9 c ∷ test10 c ∷ [])
+      ∙ ap (orNext (firstMet (test3 c ∷ test4 c ∷ test5 c ∷ [])))
+      (firstMet-append (test6 c ∷ test7 c ∷ test8 c ∷ []) (test9 c ∷ test10 c ∷ []))
+
+  pub rates-tests : (s : TaskSet) → s ≡ plain (c .tasks) → ratesTest s ≡ firstMet (test9 c ∷ test10 c ∷ [])
+  unfolding ratesTest test9 test10
+  rates-tests s e = rw (e, plain-multiple (c .tasks), plain-shares (c .tasks))
+
+pub limits-from :
+    (m n : ℕ) (separation budget offset : List ℕ) → Framed m n → Ranges (setFrom m n separation budget offset) →
+    ratesTest (setFrom m n separation budget offset) ≡ Accepted → Limits (setFrom m n separation budget offset)
+unfolding ratesTest setFrom
+limits-from m n separation budget offset f g a =
+    let r9 = firstMet-passed _ _ a in
+    let r10 = firstMet-passed _ _ (r9 .1) in
+    record {
+      cores-low = f .cores-low;
+      cores-high = f .cores-high;
+      more-tasks = f .more-tasks;
+      tasks-high = f .tasks-high;
+      separation-low = g .timed .separation-low;
+      separation-high = g .separation;
+      budget-low = g .timed .budget-low;
+      budget-high = g .timed .budget-high;
+      offset-high = g .offset;
+      multiple-high = ltb-false _ _ (refuse-passed 9 _ (r9 .0));
+      shares-high = ltb-false _ _ (refuse-passed 10 _ (r10 .0));
+    }
+
+-- a refusal is passed on, and a test that is passed leaves the next ones
+pub stopped : (a b : Answer) (k i : ℕ) → a ≡ Refused k i → orNext a b ≡ a
+stopped a b k i e = rw e
+
+pub passed-on : (a b : Answer) → a ≡ Accepted → orNext a b ≡ b
+passed-on a b e = rw e
+
+module _ (s : TaskSet) (slack : List ℕ) (k : ℕ) where
+  pub slack-none : k ≡ 0 → slackTest s slack k ≡ Accepted
+  unfolding slackTest firstMet
+  slack-none e = rw e
+
+  pub slack-count : (k ≡ 0 → ⊥) → (k ≡ s .count → ⊥) → slackTest s slack k ≡ Refused 11 0
+  unfolding slackTest firstMet
+  slack-count e f = rw (ne-eqb k 0 e, ne-eqb k (s .count) f)
+
+  pub slack-offered :
+      (k ≡ 0 → ⊥) → k ≡ s .count →
+      slackTest s slack k ≡ compliantTest s (cut (s .count) (row slack) 0)
+  unfolding slackTest firstMet
+  slack-offered e f = rw (ne-eqb k 0 e, eq-eqb k (s .count) f) (last _)
+    where
+      last : (a : Answer) → orNext a Accepted ≡ a
+      last Accepted = refl
+      last (Refused k i) = refl
+
+-- the last stage of a plan whose task set the columns stand for
+module _ (p : Plan) (k : ℕ) (s : TaskSet) (e : s ≡ plain (contentOf p .tasks)) where
+  pub slack-tests : slackTest s (p .slack) k ≡ firstMet (test11 (offering p k) ∷ offeredTest (offering p k) ∷ [])
+  unfolding slackTest test11 offeredTest offering contentOf plain
+  slack-tests = rw (e, plain-compliant (contentOf p .tasks) (cut (p .tasks) (row (p .slack)) 0))
+
+  pub slack-had : (i : ℕ) → cond (eqb k 0) (row (found s)) (cut (s .count) (row (p .slack)) 0) i ≡ hadSlack (offering p k) i
+  unfolding hadSlack offering contentOf plain
+  slack-had i = rw (e, plain-found (contentOf p .tasks))

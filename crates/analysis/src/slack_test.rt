@@ -1,0 +1,156 @@
+// A plan's tests 3 to 12 and the slack that it has: offered slack is tested, and slack that is not offered is found.
+use fields::columns::split;
+use fields::frame::frame;
+use fields::ranges::task_ranges;
+use slack::amount::amount;
+use slack::amount::first_counted;
+use slack::rates::rate;
+use slack::vector::first_uncovered;
+use slack::vector::search;
+use tasks::Answer;
+use tasks::Plan;
+use tasks::refusal;
+use tasks::tidy::tidy_slack;
+ghost use mathlib.Core.Path.{_≡_};
+ghost use Rattle.tasks.specs.TaskSet.{TaskSet};
+ghost use Rattle.slack.specs.Arrays.{ArraysOf};
+ghost use Rattle.slack.specs.StageLaws.{Framed};
+ghost use Rattle.analysis.specs.SlackTest.{PlanTested, Offered, RatesTested, TasksTested};
+ghost use Rattle.fields.specs.Columns.{setFrom};
+ghost use Rattle.slack.specs.Rates.{Ranges};
+
+// The answer, and where it is no refusal the slack, offered or found, with zeros in unused places.
+pub struct Tested {
+    pub answer: Answer,
+    pub slack: [u32; 16],
+}
+
+fn untested(answer: Answer) -> Tested
+    ensures { λ r. ⌜ r .answer ≡ answer ⌝ }
+{
+    Tested {
+        answer,
+        slack: [0; 16],
+    }
+}
+
+// Test 12 of offered slack.
+fn offered(
+    share: &[u64; 16],
+    budget: &[u32; 16],
+    offset: &[u32; 16],
+    slack: &[u32; 16],
+    multiple: u64,
+    surplus: u64,
+    cores: usize,
+    tasks: usize,
+) -> Tested
+    requires { ⌜ ((s : TaskSet) × ArraysOf s (now share) (now budget) (now offset) multiple surplus cores tasks) ⌝ }
+    ensures { λ r. ⌜ ((s : TaskSet) → ArraysOf s (now (share .entry)) (now (budget .entry)) (now (offset .entry)) multiple surplus cores tasks → Offered s (now (slack .entry)) r) ⌝ }
+{
+    let used = tidy_slack(slack, tasks);
+    let mut chosen = first_counted(cores - 1);
+    let whole = amount(share, offset, &used, &mut chosen, surplus, tasks);
+    let bad = first_uncovered(&used, budget, whole, multiple, cores as u64, tasks);
+    if bad < tasks {
+        return untested(Answer::Refused {
+            number: refusal::SLACK_NOT_COMPLIANT,
+            index: bad as u16,
+        });
+    }
+    Tested {
+        answer: Answer::Accepted,
+        slack: used,
+    }
+}
+
+// Tests 9 to 12, of a task set that meets none of 3 to 8.
+fn test_rated(
+    separation: &[u32; 16],
+    budget: &[u32; 16],
+    offset: &[u32; 16],
+    slack: &[u32; 16],
+    cores: usize,
+    tasks: usize,
+    offers: usize,
+) -> Tested
+    requires { ⌜ Framed cores tasks × Ranges (setFrom cores tasks (now separation) (now budget) (now offset)) ⌝ }
+    ensures { λ r. ⌜ RatesTested (setFrom cores tasks (now (separation .entry)) (now (budget .entry)) (now (offset .entry))) (now (slack .entry)) offers r ⌝ }
+{
+    let rates = rate(separation, budget, offset, cores, tasks);
+    let rated = rates.answer;
+    let Answer::Accepted = rated else {
+        return untested(rated);
+    };
+    let share = rates.share;
+    if offers == 0 {
+        let found = search(
+            &share,
+            budget,
+            offset,
+            rates.multiple,
+            rates.surplus,
+            cores,
+            tasks,
+        );
+        return Tested {
+            answer: Answer::Accepted,
+            slack: found,
+        };
+    }
+    if offers != tasks {
+        return untested(Answer::Refused {
+            number: refusal::SLACK_COUNT_WRONG,
+            index: 0,
+        });
+    }
+    offered(
+        &share,
+        budget,
+        offset,
+        slack,
+        rates.multiple,
+        rates.surplus,
+        cores,
+        tasks,
+    )
+}
+
+// Tests 6 to 12.
+fn test_tasks(plan: Plan, offers: usize) -> Tested
+    requires { ⌜ Framed (plan .cores) (plan .tasks) ⌝ }
+    ensures { λ r. ⌜ TasksTested plan offers r ⌝ }
+{
+    let tasks = plan.tasks;
+    let task = plan.task;
+    let fielded = task_ranges(task, tasks);
+    let Answer::Accepted = fielded else {
+        return untested(fielded);
+    };
+    let columns = split(task, tasks);
+    let separation = columns.separation;
+    let budget = columns.budget;
+    let offset = columns.offset;
+    let slack = plan.slack;
+    test_rated(
+        &separation,
+        &budget,
+        &offset,
+        &slack,
+        plan.cores,
+        tasks,
+        offers,
+    )
+}
+
+// Tests 3 to 12, with a slack count of `offers`: a table's count may be wrong, a plan's mark can't.
+pub fn test_slack(plan: Plan, offers: usize) -> Tested
+    ensures { λ r. ⌜ PlanTested plan offers r ⌝ }
+{
+    let labels = plan.labels;
+    let framed = frame(plan.cores, &labels, plan.tasks);
+    let Answer::Accepted = framed else {
+        return untested(framed);
+    };
+    test_tasks(plan, offers)
+}

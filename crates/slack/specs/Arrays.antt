@@ -1,0 +1,33 @@
+-- The slack as the code works it out, from arrays.
+--     uncovered    whether m × H × x + H × C of task k is below the amount
+--     lifted       the least slack, from what is needed and the budget, both divided by the number of cores
+--     upto         the row f below n and g from n on
+--     ArraysOf     the arrays and numbers are those of the task set s
+use Prim.Native.Nat.{ℕ, _+_, _*_, _-_, _<_}
+use mathlib.Core.Path.{_≡_}
+use mathlib.Core.Bool.{Bool, cond}
+use mathlib.Core.List.{List}
+use lib.Dec.{ltb}
+use Rattle.laws.specs.Sum.{sum}
+use Rattle.tasks.specs.TaskSet.{TaskSet, hyperperiod, share, surplus, row}
+use Rattle.tasks.specs.Limits.{Limits}
+
+unfoldable pub uncovered : ℕ → ℕ → ℕ → List ℕ → List ℕ → ℕ → Bool
+uncovered amount multiple cores budget slack k =
+    ltb (cores * multiple * row slack k + multiple * row budget k) amount
+
+unfoldable pub lifted : ℕ → ℕ → ℕ → ℕ → ℕ
+lifted whole over quotient rest = whole + cond (ltb rest over) 1 0 - quotient
+
+unfoldable pub upto : ℕ → (ℕ → ℕ) → (ℕ → ℕ) → ℕ → ℕ
+upto n f g i = cond (ltb i n) (f i) (g i)
+
+pub record ArraysOf (s : TaskSet) (shares budgets offsets : List ℕ) (h surpluses m n : ℕ) : Type 0 where
+  pub limits : Limits s
+  pub cores : m ≡ s .cores
+  pub tasks : n ≡ s .count
+  pub multiple : h ≡ hyperperiod s
+  pub surplus : surpluses ≡ sum (surplus s) (s .count)
+  pub share : (i : ℕ) → i < s .count → row shares i ≡ share s i
+  pub budget : (i : ℕ) → i < s .count → row budgets i ≡ s .task i .budget
+  pub offset : (i : ℕ) → i < s .count → row offsets i ≡ s .task i .offset
