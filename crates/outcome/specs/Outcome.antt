@@ -3,8 +3,8 @@
 -- that document 01 gives it.
 --     loopsOf, separationOf, budgetOf, offsetOf     of a table t: its number of loops, and loop i's T, C and Y
 --     entriesOf, tickOf, loopOf, demandOf           of a log l: its number of entries, and entry e's three numbers
---     kindOf, numberOf                              of a log run's answer w: entry e's kind, and the finish tick or refusal number behind it
---     slackOf, boundOf                              of a judgement's answer b: loop i's slack and bound
+--     kindOf, valueOf                              of a log run's answer w: entry e's kind, and the finish tick or refusal number behind it
+--     slackLeft, boundLeft                              of a judgement's answer b: loop i's slack and bound
 --     FourConditions                                the four conditions of an entry
 --     KeepsTable                                    the log keeps the table
 --     Outcome                                       the statement
@@ -45,15 +45,15 @@ demandOf l e = number 4 l (2 + 9 * e + 5)
 abbrev pub kindOf : List ℕ → ℕ → ℕ
 kindOf w e = number 4 w (8 * e)
 
-abbrev pub numberOf : List ℕ → ℕ → ℕ
-numberOf w e = number 4 w (8 * e + 4)
+abbrev pub valueOf : List ℕ → ℕ → ℕ
+valueOf w e = number 4 w (8 * e + 4)
 
 -- "The C judgement writes slack and bound for each loop, 4 bytes each"
-abbrev pub slackOf : List ℕ → ℕ → ℕ
-slackOf b i = number 4 b (8 * i)
+abbrev pub slackLeft : List ℕ → ℕ → ℕ
+slackLeft b i = number 4 b (8 * i)
 
-abbrev pub boundOf : List ℕ → ℕ → ℕ
-boundOf b i = number 4 b (8 * i + 4)
+abbrev pub boundLeft : List ℕ → ℕ → ℕ
+boundLeft b i = number 4 b (8 * i + 4)
 
 pub record FourConditions (t l w : List ℕ) (e : ℕ) : Type 0 where
   -- 17: the tick is below no earlier entry's
@@ -78,18 +78,18 @@ pub record KeepsTable (t l : List ℕ) : Type 0 where
 
 pub record Outcome (t l w b : List ℕ) : Type 0 where
   -- "kind 1 and finish tick, or kind 2 and refusal number"; "23 is never met in such a run"
-  pub kinds : (e : ℕ) → e < entriesOf l → (kindOf w e ≡ 1) ⊎ ((kindOf w e ≡ 2) × (numberOf w e ≤ 22))
+  pub kinds : (e : ℕ) → e < entriesOf l → (kindOf w e ≡ 1) ⊎ ((kindOf w e ≡ 2) × (valueOf w e ≤ 22))
   -- "a release is taken exactly when document 01's four conditions hold"
   pub taken : (e : ℕ) → e < entriesOf l → (kindOf w e ≡ 1) ↔ FourConditions t l w e
   -- "and every taken release finishes within offset + slack + budget"
   pub in-time :
       (e : ℕ) → e < entriesOf l → kindOf w e ≡ 1
-      → numberOf w e ≤ tickOf l e + (offsetOf t (loopOf l e) + slackOf b (loopOf l e) + budgetOf t (loopOf l e))
+      → valueOf w e ≤ tickOf l e + (offsetOf t (loopOf l e) + slackLeft b (loopOf l e) + budgetOf t (loopOf l e))
   -- "all do exactly if the log keeps the table"
   pub all-in-time :
       ((e : ℕ) → e < entriesOf l
       → (kindOf w e ≡ 1)
-      × (numberOf w e ≤ tickOf l e + (offsetOf t (loopOf l e) + slackOf b (loopOf l e) + budgetOf t (loopOf l e))))
+      × (valueOf w e ≤ tickOf l e + (offsetOf t (loopOf l e) + slackLeft b (loopOf l e) + budgetOf t (loopOf l e))))
       ↔ KeepsTable t l
   -- "The bound of a loop is Y + x + C"
-  pub bounds : (i : ℕ) → i < loopsOf t → boundOf b i ≡ offsetOf t i + slackOf b i + budgetOf t i
+  pub bounds : (i : ℕ) → i < loopsOf t → boundLeft b i ≡ offsetOf t i + slackLeft b i + budgetOf t i

@@ -29,7 +29,7 @@ use Rattle.history.specs.Report.{report, report-finished, report-refused, taken
 use Rattle.delivered.specs.Demand3.{runOn, log-early, demand-3, demand-histories, demand-numbers, demand-ends}
 use Rattle.replay.specs.Ran.{runTest, ranOf, runLeaves}
 use Rattle.dahomike.specs.Answers.{answerNumber, judgeTest, judgeNumber, judgeLeaves, runNumber}
-use Rattle.outcome.specs.Outcome.{loopsOf, separationOf, budgetOf, offsetOf, entriesOf, tickOf, loopOf, demandOf, kindOf, numberOf, slackOf, boundOf, FourConditions, KeepsTable, Outcome}
+use Rattle.outcome.specs.Outcome.{loopsOf, separationOf, budgetOf, offsetOf, entriesOf, tickOf, loopOf, demandOf, kindOf, valueOf, slackLeft, boundLeft, FourConditions, KeepsTable, Outcome}
 use Rattle.outcome.specs.ReadLaws.{same-loops, separation-at, budget-at, offset-at, finish-kind, refusal-kind, finish-number, refusal-number, sum-high, slack-at, bound-at}
 
 module _ (t l : List ℕ) (a : verdict t ≡ Accepted) (b : logTest l ≡ Accepted) (out : List ℕ) where
@@ -100,7 +100,7 @@ module _ (t l : List ℕ) (a : verdict t ≡ Accepted) (b : logTest l ≡ Accept
           sum-is (known (F .0)),
         )
 
-    pub finish-is : (f : ℕ) → Finishes E L e f → numberOf w e ≡ f
+    pub finish-is : (f : ℕ) → Finishes E L e f → valueOf w e ≡ f
     finish-is f F =
         finish-number (report E L) (entryCount l) out e below f (report-finished E L e f F)
         (omega (arith, late f F, sum-high t a (loopOf l e) (known (F .0)), log-early l b e (in-log h), tick-is))
@@ -110,7 +110,7 @@ module _ (t l : List ℕ) (a : verdict t ≡ Accepted) (b : logTest l ≡ Accept
         let T = claim .in-time e (in-log h) q in
         finish-kind (report E L) (entryCount l) out e below (T .0) (report-finished E L e (T .0) (T .1))
 
-    refused-kind : (k : ℕ) → outcomeOf E L e ≡ refused k → (kindOf w e ≡ 2) × (numberOf w e ≤ 22)
+    refused-kind : (k : ℕ) → outcomeOf E L e ≡ refused k → (kindOf w e ≡ 2) × (valueOf w e ≤ 22)
     refused-kind k q =
         let high : k ≤ 22 = met-high E s L e k (sym (demand-numbers t a l b e) ∙ q) in
         let said = report-refused E L e k q in (
@@ -120,7 +120,7 @@ module _ (t l : List ℕ) (a : verdict t ≡ Accepted) (b : logTest l ≡ Accept
 
     -- an entry is taken and has kind 1, or it is not and has kind 2 with a number of at most 22
     abbrev Cases : Type 0
-    Cases = (Taken E L e × (kindOf w e ≡ 1)) ⊎ ((isTaken (outcomeOf E L e) ≡ false) × (kindOf w e ≡ 2) × (numberOf w e ≤ 22))
+    Cases = (Taken E L e × (kindOf w e ≡ 1)) ⊎ ((isTaken (outcomeOf E L e) ≡ false) × (kindOf w e ≡ 2) × (valueOf w e ≤ 22))
 
     kind-is : Cases
     kind-is = go (outcomeOf E L e) refl
@@ -136,10 +136,10 @@ module _ (t l : List ℕ) (a : verdict t ≡ Accepted) (b : logTest l ≡ Accept
         go (inl p) = p .0
         go (inr p) = absurd (omega (arith, p .1))
 
-    kinds-are : (kindOf w e ≡ 1) ⊎ ((kindOf w e ≡ 2) × (numberOf w e ≤ 22))
+    kinds-are : (kindOf w e ≡ 1) ⊎ ((kindOf w e ≡ 2) × (valueOf w e ≤ 22))
     kinds-are = go kind-is
       where
-        go : Cases → (kindOf w e ≡ 1) ⊎ ((kindOf w e ≡ 2) × (numberOf w e ≤ 22))
+        go : Cases → (kindOf w e ≡ 1) ⊎ ((kindOf w e ≡ 2) × (valueOf w e ≤ 22))
         go (inl p) = inl (p .1)
         go (inr p) = inr (p .1, p .2)
 
@@ -247,12 +247,12 @@ module _ (t l : List ℕ) (a : verdict t ≡ Accepted) (b : logTest l ≡ Accept
       }
 
   -- the slack is given by its bytes in a judgement's answer c
-  module _ (c : List ℕ) (slack-is : (i : ℕ) → i < loopsOf t → slackOf c i ≡ x i) where
+  module _ (c : List ℕ) (slack-is : (i : ℕ) → i < loopsOf t → slackLeft c i ≡ x i) where
     TakenInTime : ℕ → Type 0
     TakenInTime e =
-        (kindOf w e ≡ 1) × (numberOf w e ≤ tickOf l e + (offsetOf t (loopOf l e) + slackOf c (loopOf l e) + budgetOf t (loopOf l e)))
+        (kindOf w e ≡ 1) × (valueOf w e ≤ tickOf l e + (offsetOf t (loopOf l e) + slackLeft c (loopOf l e) + budgetOf t (loopOf l e)))
 
-    finishes : (e : ℕ) (h : e < entriesOf l) → kindOf w e ≡ 1 → Finishes E L e (numberOf w e)
+    finishes : (e : ℕ) (h : e < entriesOf l) → kindOf w e ≡ 1 → Finishes E L e (valueOf w e)
     finishes e h q =
         let T = claim .in-time e (in-log h) (kind-taken e h q) in
         rw (finish-is e h (T .0) (T .1)) (T .1)
@@ -261,7 +261,7 @@ module _ (t l : List ℕ) (a : verdict t ≡ Accepted) (b : logTest l ≡ Accept
     unfolding TakenInTime
     kind-in-time e h q =
         let i = known e h (kind-taken e h q) in
-        (q, omega (arith, late e h (numberOf w e) (finishes e h q), slack-is (loopOf l e) i))
+        (q, omega (arith, late e h (valueOf w e) (finishes e h q), slack-is (loopOf l e) i))
 
     all-kept : ((e : ℕ) → e < entriesOf l → TakenInTime e) → KeepsTable t l
     unfolding TakenInTime
@@ -272,7 +272,7 @@ module _ (t l : List ℕ) (a : verdict t ≡ Accepted) (b : logTest l ≡ Accept
         let h = in-bytes m in
         let i = known e h (kind-taken e h (all e h .0)) in
         in-time-sum E s x L e .1
-        (numberOf w e, finishes e h (all e h .0), omega (arith, all e h .1, slack-is (loopOf l e) i, tick-is e h, sum-is e h i))))
+        (valueOf w e, finishes e h (all e h .0), omega (arith, all e h .1, slack-is (loopOf l e) i, tick-is e h, sum-is e h i))))
 
     kept-all : KeepsTable t l → (e : ℕ) → e < entriesOf l → TakenInTime e
     unfolding TakenInTime
@@ -283,7 +283,7 @@ module _ (t l : List ℕ) (a : verdict t ≡ Accepted) (b : logTest l ≡ Accept
           omega (arith, T .2, finish-is e h (T .0) (T .1), slack-is (loopOf l e) i, tick-is e h, sum-is e h i),
         )
 
-    whole-outcome : ((i : ℕ) → i < loopsOf t → boundOf c i ≡ offsetOf t i + x i + budgetOf t i) → Outcome t l w c
+    whole-outcome : ((i : ℕ) → i < loopsOf t → boundLeft c i ≡ offsetOf t i + x i + budgetOf t i) → Outcome t l w c
     unfolding TakenInTime
     whole-outcome bound-is =
         record {

@@ -26,7 +26,7 @@ use Rattle.history.specs.Report.{Report, finished, refusal}
 use Rattle.logs.specs.LogBytes.{reportBytes, reportsTo}
 use Rattle.logs.specs.ReportLaws.{length-report}
 use Rattle.dahomike.specs.Answers as answers
-use Rattle.outcome.specs.Outcome.{loopsOf, separationOf, budgetOf, offsetOf, kindOf, numberOf, slackOf, boundOf}
+use Rattle.outcome.specs.Outcome.{loopsOf, separationOf, budgetOf, offsetOf, kindOf, valueOf, slackLeft, boundLeft}
 
 -- ---- the table
 
@@ -99,7 +99,7 @@ module _ (R : ℕ → Report) (n : ℕ) (out : List ℕ) (e : ℕ) (h : e < n) w
   unfolding reportsTo
   kind-left = first-in (λ k. reportBytes (R k)) (λ k. length-report (R k)) n e (drop (8 * n) out) h ∙ kind-read (R e)
 
-  number-left : numberIn (R e) < 4294967296 → numberOf (reportsTo R n out) e ≡ numberIn (R e)
+  number-left : numberIn (R e) < 4294967296 → valueOf (reportsTo R n out) e ≡ numberIn (R e)
   unfolding reportsTo
   number-left small =
       second-in (λ k. reportBytes (R k)) (λ k. length-report (R k)) n e (drop (8 * n) out) h ∙ number-read (R e) small
@@ -112,11 +112,11 @@ module _ (R : ℕ → Report) (n : ℕ) (out : List ℕ) (e : ℕ) (h : e < n) w
   unfolding kindIn
   refusal-kind k q = kind-left ∙ ap kindIn q
 
-  pub finish-number : (f : ℕ) → R e ≡ finished f → f < 4294967296 → numberOf (reportsTo R n out) e ≡ f
+  pub finish-number : (f : ℕ) → R e ≡ finished f → f < 4294967296 → valueOf (reportsTo R n out) e ≡ f
   unfolding numberIn
   finish-number f q small = number-left (rw q small) ∙ ap numberIn q
 
-  pub refusal-number : (k : ℕ) → R e ≡ refusal k → k < 4294967296 → numberOf (reportsTo R n out) e ≡ k
+  pub refusal-number : (k : ℕ) → R e ≡ refusal k → k < 4294967296 → valueOf (reportsTo R n out) e ≡ k
   unfolding numberIn
   refusal-number k q small = number-left (rw q small) ∙ ap numberIn q
 
@@ -142,13 +142,13 @@ module _ (t : List ℕ) (a : verdict t ≡ Accepted) (i : ℕ) (h : i < loopsOf 
     pair : ℕ → List ℕ
     pair k = digits 4 (contentIn t .slack k) ++ digits 4 (bound (contentIn t .tasks) (contentIn t .slack) k)
 
-    pub slack-at : slackOf (answers.reportBytes (contentIn t) ++ rest) i ≡ contentIn t .slack i
+    pub slack-at : slackLeft (answers.reportBytes (contentIn t) ++ rest) i ≡ contentIn t .slack i
     unfolding answers.reportBytes pair
     slack-at =
         first-in pair (λ k. pair-long _ _) (contentIn t .tasks .count) i rest inside
         ∙ pair-first (contentIn t .slack i) _ (omega (arith, sum-high))
 
-    pub bound-at : boundOf (answers.reportBytes (contentIn t) ++ rest) i ≡ offsetOf t i + contentIn t .slack i + budgetOf t i
+    pub bound-at : boundLeft (answers.reportBytes (contentIn t) ++ rest) i ≡ offsetOf t i + contentIn t .slack i + budgetOf t i
     unfolding answers.reportBytes pair
     bound-at =
         second-in pair (λ k. pair-long _ _) (contentIn t .tasks .count) i rest inside

@@ -25,7 +25,7 @@ use Rattle.tasks.specs.Tests.{testPlan}
 use Rattle.machine.specs.Machine.{Job, job, Machine, full, joined, admitted, pending, waiting, headRelease}
 use Rattle.state.specs.State.{flagOf, tickOf, releasedIn, lastIn}
 use Rattle.state.specs.FitLaws.{plan-limits}
-use Rattle.state.specs.AdmitLaws.{admitted-released, admitted-last}
+use Rattle.service.specs.AdmitLaws.{admitted-released, admitted-last}
 use Rattle.choice.specs.Key.{headKey, keyOf}
 use Rattle.heads.specs.Order.{headWork, Heads, Inserted}
 use Rattle.heads.specs.HeadLaws.{SameHead, heads-same, inserted}

@@ -4,4 +4,5 @@ pub mod ServeLaws
 pub mod TurnLaws
 pub mod CodeLaws
 pub mod RestLaws
+pub mod AdmitLaws
 pub mod StepLaws

@@ -31,7 +31,7 @@ use Rattle.state.specs.FitLaws.{plan-limits, few-tasks, idle, machine-back, sta
 use Rattle.state.specs.ViewLaws.{row-jobs}
 use Rattle.choice.specs.TickLaws.{runs-picked}
 use Rattle.service.specs.TurnLaws.{turned, ticked-state, all-responses, turns-are}
-use Rattle.state.specs.AdmitLaws.{admitted-state}
+use Rattle.service.specs.AdmitLaws.{admitted-state}
 
 pub sound-limits : (s : State) → Shaped s → soundOf s ≡ true → Limits (contentOf (s .plan) .tasks)
 sound-limits s S e = plan-limits (s .plan) (sound-fit s S e .accepted)

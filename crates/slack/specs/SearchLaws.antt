@@ -41,7 +41,7 @@ counted-first k n h l =
     one i t false e =
         rw (getD-cut k 16 (λ i. true) false (le-trans h l) i, cut-above k (λ i. true) false i (ltb-false i k e), cut-above {A = ℕ} k (λ i. 1) 0 i (ltb-false i k e))
 
-module _ (s : TaskSet) (shares budgets offsets : List ℕ) (h surpluses m n : ℕ) (g : ArraysOf s shares budgets offsets h surpluses m n)
+module _ {s : TaskSet} {shares budgets offsets : List ℕ} {h surpluses m n : ℕ} (g : ArraysOf s shares budgets offsets h surpluses m n)
     (x : List ℕ) (a d : ℕ) (ea : a ≡ amount s (row x)) (ed : d ≡ (a + (h - 1)) / h) (z : Rising s (row x))
   where
     few : n ≤ 16

@@ -100,7 +100,7 @@ pub row-of-filled : (n : ℕ) (f : ℕ → ℕ) → n ≤ 16 → row (tab (cut n
 unfolding row
 row-of-filled n f h = fun-ext (λ i. getD-cut n 16 f 0 h i)
 
-module _ (s : TaskSet) (shares budgets offsets : List ℕ) (h surpluses m n : ℕ) (g : ArraysOf s shares budgets offsets h surpluses m n) where
+module _ {s : TaskSet} {shares budgets offsets : List ℕ} {h surpluses m n : ℕ} (g : ArraysOf s shares budgets offsets h surpluses m n) where
   -- every number is small
   pub cores-low : 2 ≤ m
   cores-low = omega (arith, g .cores, g .limits .cores-low)

@@ -12,7 +12,7 @@ ghost use Rattle.tasks.specs.TaskSet.{row};
 ghost use Rattle.tasks.specs.Content.{zeroTask};
 ghost use lib.Dec.{ltb, leb, eqb};
 ghost use Rattle.state.specs.SoundState.{allOf, loopTest, placeTest, soundOf};
-ghost use Rattle.state.specs.Tests.{labelZero, taskZero, loopHolds, placeHolds};
+ghost use Rattle.soundness.specs.SoundTests.{labelZero, taskZero, loopHolds, placeHolds};
 
 fn pred(k: usize) -> usize
     ensures { λ r. ⌜ r ≡ k - 1 ⌝ }

@@ -8,8 +8,6 @@ pub mod QueueLaws
 pub mod TidyLaws
 pub mod FitLaws
 pub mod KeptLaws
-pub mod AdmitLaws
-pub mod Tests
 pub mod CallLaws
 pub mod TakenLaws
 pub mod SoundKept

@@ -1,5 +1,5 @@
 -- `soundness::labels_zero` meets its contract; the loop's invariant says what its turns so far have made.
-use Rattle.state.specs.Tests.{labelZero, all-more, all-fails}
+use Rattle.soundness.specs.SoundTests.{labelZero, all-more, all-fails}
 use Rattle.state.specs.SoundState.{allOf}
 use Rattle.tasks.specs.TaskSet.{row}
 use mathlib.Core.Bool.{true}

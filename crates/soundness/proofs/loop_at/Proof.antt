@@ -1,5 +1,5 @@
 -- `soundness::loop_at` meets its contract.
-use Rattle.state.specs.Tests.{loopHolds}
+use Rattle.soundness.specs.SoundTests.{loopHolds}
 use Rattle.state.specs.SoundState.{loopTest}
 use Rattle.tasks.specs.TaskSet.{row}
 use borrow.Author.Tests.{lt-leb}

@@ -1,5 +1,5 @@
 -- `soundness::loops` meets its contract; the loop's invariant says what its turns so far have made.
-use Rattle.state.specs.Tests.{loopHolds, all-more, all-fails}
+use Rattle.soundness.specs.SoundTests.{loopHolds, all-more, all-fails}
 use Rattle.state.specs.SoundState.{allOf}
 use mathlib.Core.Bool.{true}
 use borrow.Author.Tests.{not-true, not-false}

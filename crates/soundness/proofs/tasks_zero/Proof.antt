@@ -1,5 +1,5 @@
 -- `soundness::tasks_zero` meets its contract; the loop's invariant says what its turns so far have made.
-use Rattle.state.specs.Tests.{taskZero, all-more, all-fails}
+use Rattle.soundness.specs.SoundTests.{taskZero, all-more, all-fails}
 use Rattle.state.specs.SoundState.{allOf}
 use Rattle.tasks.specs.Content.{taskOf, noTask}
 use Rattle.tasks.specs.TaskSet.{row}

@@ -19,50 +19,40 @@ Inv-loop slack found tasks i₀ i = (i ≤ tasks) × (first (λ i. not (eqb (row
 abbrev μ-loop : tie.MeasureT-loop
 μ-loop slack found tasks i₀ i = tasks - i
 
--- src/plan_test.rt:23:5
 loop-holds : tie.Need-loop-holds Inv-loop μ-loop
 unfolding first
 loop-holds c = (omega arith, refl)
 
--- src/plan_test.rt:24:12
 mul-if1 : tie.Need-mul-if1 Inv-loop μ-loop
 mul-if1 c = search needs
 
--- src/plan_test.rt:24:12
 element-copy-out-if1 : tie.Need-element-copy-out-if1 Inv-loop μ-loop
 element-copy-out-if1 c = search needs
 
--- src/plan_test.rt:24:24
 mul-if1-2 : tie.Need-mul-if1-2 Inv-loop μ-loop
 mul-if1-2 c = search needs
 
--- src/plan_test.rt:24:24
 element-copy-out-if1-2 : tie.Need-element-copy-out-if1-2 Inv-loop μ-loop
 element-copy-out-if1-2 c = search needs
 
--- src/plan_test.rt:25:13
 returns : tie.Need-returns Inv-loop μ-loop
 unfolding row
 returns c =
     let l = c .before .before .before .before .loop in
     sym (found-at _ (l .i) _ (l .inv .1) (rw (ne-eqb _ _ (c .if1 .taken))) (omega arith))
 
--- src/plan_test.rt:27:9
 add-i : tie.Need-add-i Inv-loop μ-loop
 add-i c = search needs
 
--- src/plan_test.rt:23:5
 loop-less : tie.Need-loop-less Inv-loop μ-loop
 loop-less c = search needs
 
--- src/plan_test.rt:23:5
 loop-again : tie.Need-loop-again Inv-loop μ-loop
 unfolding row
 loop-again c =
     let l = c .before .before .before .before .loop in
     (omega arith, none-more _ (l .i) (l .inv .1) (rw (eq-eqb _ _ (c .if1 .left))))
 
--- src/plan_test.rt:18:1
 returns-2 : tie.Need-returns-2 Inv-loop μ-loop
 returns-2 c =
     let e : c .before .loop .i ≡ c .before .before .args .tasks = omega arith in

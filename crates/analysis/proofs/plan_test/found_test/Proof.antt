@@ -8,24 +8,19 @@ use Rattle.analysis.proofs.plan_test.found_test.Lts as lts
 use Rattle.analysis.proofs.plan_test.first_other.Reads as first-other-reads
 use Rattle.analysis.proofs.plan_test.plan_bounds.Reads as plan-bounds-reads
 
--- src/plan_test.rt:53:9
 first-other-requires : tie.Need-first-other-requires
 first-other-requires c κs = search needs
 
--- src/plan_test.rt:57:20
 cast-t10 : tie.Need-cast-t10
 cast-t10 c = search needs
 
--- src/plan_test.rt:55:9
 returns : tie.Need-returns
 unfolding foundTests
 returns c = rw (scan-found 12 _ _ _ (c .before .first-other .ensures) (c .if1 .taken))
 
--- src/plan_test.rt:60:5
 plan-bounds-requires : tie.Need-plan-bounds-requires
 plan-bounds-requires c κs = search needs
 
--- src/plan_test.rt:47:1
 returns-2 : tie.Need-returns-2
 unfolding foundTests
 returns-2 c = rw (scan-none 12 _ _ _ (c .before .before .first-other .ensures) (c .before .if1 .left)) (c .plan-bounds .ensures)

@@ -58,46 +58,38 @@ module _ (p : Plan) (k : ℕ) (ek : k ≡ cond (p .offered) (p .tasks) 0) (t : T
     unfolding testPlan boundsOf contentOf
     offered r z q = q ∙ sym (test-offered (contentOf p) (sym answered ∙ e) (t .slack) (had e) (λ w. z (ek ∙ w)))
 
--- src/plan_test.rt:76:9
 slack-count-requires : tie.Need-slack-count-requires
 slack-count-requires c κs = search needs
 
--- src/plan_test.rt:77:9
 test-slack-requires : tie.Need-test-slack-requires
 test-slack-requires c κs = search needs
 
 enum-told : tie.Need-enum-told
 enum-told c = search needs
 
--- src/plan_test.rt:80:9
 enum-told-2 : tie.Need-enum-told-2
 enum-told-2 c = search needs
 
--- src/plan_test.rt:80:9
 returns : tie.Need-returns
 returns c =
     let s = c .before .before .before .before in
     refused (s .args .plan) _ (c .before .before .before .slack-count .ensures .0) _ (c .before .before .test-slack .ensures) _ _ (c .enum-told2 .given .1)
 
--- src/plan_test.rt:84:9
 found-test-requires : tie.Need-found-test-requires
 found-test-requires c κs =
     let s = c .before .before .before .before .before .before in
     few (s .args .plan) _ (c .before .before .before .before .before .slack-count .ensures .0) _ (c .before .before .before .before .test-slack .ensures) (c .before .before .enum-told .given .1)
 
--- src/plan_test.rt:84:9
 returns-2 : tie.Need-returns-2
 returns-2 c =
     let s = c .before .before .before .before .before .before .before in
     found (s .args .plan) _ (c .before .before .before .before .before .before .slack-count .ensures .0) _ (c .before .before .before .before .before .test-slack .ensures) (c .before .before .before .enum-told .given .1) _ (c .before .if1 .taken) (c .found-test .ensures)
 
--- src/plan_test.rt:86:5
 plan-bounds-requires : tie.Need-plan-bounds-requires
 plan-bounds-requires c κs =
     let s = c .before .before .before .before .before .before in
     few (s .args .plan) _ (c .before .before .before .before .before .slack-count .ensures .0) _ (c .before .before .before .before .test-slack .ensures) (c .before .before .enum-told .given .1)
 
--- src/plan_test.rt:73:1
 returns-3 : tie.Need-returns-3
 returns-3 c =
     let s = c .before .before .before .before .before .before .before in

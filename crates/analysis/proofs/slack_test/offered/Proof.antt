@@ -30,26 +30,26 @@ starts s shares budgets offsets h surpluses m n g chosen e =
     rw e (counted-first (m - 1) n (omega (arith, more s shares budgets offsets h surpluses m n g)) (tasks-high s shares budgets offsets h surpluses m n g))
 
 tidy-slack-requires : tie.Need-tidy-slack-requires
-tidy-slack-requires c κs = tasks-high _ _ _ _ _ _ _ _ (c .pre .1)
+tidy-slack-requires c κs = tasks-high (c .pre .1)
 
 sub-first-counted : tie.Need-sub-first-counted
-sub-first-counted c = omega (arith, cores-low _ _ _ _ _ _ _ _ (c .before .pre .1))
+sub-first-counted c = omega (arith, cores-low (c .before .pre .1))
 
 first-counted-requires : tie.Need-first-counted-requires
-first-counted-requires c κs = omega (arith, cores-high _ _ _ _ _ _ _ _ (c .before .pre .1))
+first-counted-requires c κs = omega (arith, cores-high (c .before .pre .1))
 
 amount-requires : tie.Need-amount-requires
 amount-requires c κs =
     let g = c .before .before .before .before .pre .1 in
-    (few _ _ _ _ _ _ _ _ g, surplus-high _ _ _ _ _ _ _ _ g)
+    (few g, surplus-high g)
 
 first-uncovered-requires : tie.Need-first-uncovered-requires
 first-uncovered-requires c κs =
     let g = c .before .before .before .before .before .before .pre .1 in
-    (tasks-high _ _ _ _ _ _ _ _ g, multiple-high _ _ _ _ _ _ _ _ g, cores-high _ _ _ _ _ _ _ _ g)
+    (tasks-high g, multiple-high g, cores-high g)
 
 cast-t21 : tie.Need-cast-t21
-cast-t21 c = let g = c .before .before .before .before .before .before .before .before .pre .1 in omega (arith, tasks-high _ _ _ _ _ _ _ _ g, c .if1 .taken)
+cast-t21 c = let g = c .before .before .before .before .before .before .before .before .pre .1 in omega (arith, tasks-high g, c .if1 .taken)
 
 untested-requires : tie.Need-untested-requires
 untested-requires c κs = search needs
@@ -57,19 +57,19 @@ untested-requires c κs = search needs
 returns : tie.Need-returns
 returns c =
     λ s g.
-    let n = starts s _ _ _ _ _ _ _ g _ (c .before .before .before .before .before .before .before .first-counted .ensures) in
-    let whole = c .before .before .before .before .amount .ensures .0 ∙ amount-row s _ _ _ _ _ _ _ g (c .before .before .before .before .before .before .before .before .tidy-slack .result) _ n in
-    let r = offered-refused s _ _ _ _ _ _ _ g _ _ (c .before .before .before .before .before .before .before .before .tidy-slack .ensures) _ whole _ (c .before .before .first-uncovered .ensures) (c .before .if1 .taken) in
+    let n = starts g _ (c .before .before .before .before .before .before .before .first-counted .ensures) in
+    let whole = c .before .before .before .before .amount .ensures .0 ∙ amount-row g (c .before .before .before .before .before .before .before .before .tidy-slack .result) _ n in
+    let r = offered-refused g _ _ (c .before .before .before .before .before .before .before .before .tidy-slack .ensures) _ whole _ (c .before .before .first-uncovered .ensures) (c .before .if1 .taken) in
     record { answer = c .untested .ensures ∙ sym r; had = λ e. absurd (not-both _ 12 _ (c .untested .ensures) e) }
 
 returns-2 : tie.Need-returns-2
 returns-2 c =
     λ s g.
-    let n = starts s _ _ _ _ _ _ _ g _ (c .before .before .before .before .before .before .first-counted .ensures) in
-    let whole = c .before .before .before .amount .ensures .0 ∙ amount-row s _ _ _ _ _ _ _ g (c .before .before .before .before .before .before .before .tidy-slack .result) _ n in
+    let n = starts g _ (c .before .before .before .before .before .before .first-counted .ensures) in
+    let whole = c .before .before .before .amount .ensures .0 ∙ amount-row g (c .before .before .before .before .before .before .before .tidy-slack .result) _ n in
     record {
-      answer = sym (offered-passed s _ _ _ _ _ _ _ g _ _ (c .before .before .before .before .before .before .before .tidy-slack .ensures) _ whole _ (c .before .first-uncovered .ensures) (c .if1 .left));
-      had = λ _. offered-slack s _ _ _ _ _ _ _ g _ _ (c .before .before .before .before .before .before .before .tidy-slack .ensures) _ whole _ (c .before .first-uncovered .ensures);
+      answer = sym (offered-passed g _ _ (c .before .before .before .before .before .before .before .tidy-slack .ensures) _ whole _ (c .before .first-uncovered .ensures) (c .if1 .left));
+      had = λ _. offered-slack g _ _ (c .before .before .before .before .before .before .before .tidy-slack .ensures) _ whole _ (c .before .first-uncovered .ensures);
     }
 
 pub offered-spec : {M : Type 1} → statement M

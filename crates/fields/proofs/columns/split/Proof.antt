@@ -22,51 +22,39 @@ Inv-loop tasks task separation₀ budget₀ offset₀ i₀ separation budget off
 abbrev μ-loop : tie.MeasureT-loop
 μ-loop tasks task separation₀ budget₀ offset₀ i₀ separation budget offset i = tasks - i
 
--- src/columns.rt:21:5
 loop-holds : tie.Need-loop-holds Inv-loop μ-loop
 loop-holds c = (omega arith, filled-none _ 0 16, filled-none _ 0 16, filled-none _ 0 16)
 
--- src/columns.rt:22:17
 mul-t : tie.Need-mul-t Inv-loop μ-loop
 mul-t c = search needs
 
--- src/columns.rt:22:17
 array-copy-out-t : tie.Need-array-copy-out-t Inv-loop μ-loop
 array-copy-out-t c = search needs
 
--- src/columns.rt:23:9
 mul-separation : tie.Need-mul-separation Inv-loop μ-loop
 mul-separation c = search needs
 
--- src/columns.rt:23:9
 array-write-separation : tie.Need-array-write-separation Inv-loop μ-loop
 array-write-separation c = search needs
 
--- src/columns.rt:24:9
 mul-budget : tie.Need-mul-budget Inv-loop μ-loop
 mul-budget c = search needs
 
--- src/columns.rt:24:9
 array-write-budget : tie.Need-array-write-budget Inv-loop μ-loop
 array-write-budget c = search needs
 
--- src/columns.rt:25:9
 mul-offset : tie.Need-mul-offset Inv-loop μ-loop
 mul-offset c = search needs
 
--- src/columns.rt:25:9
 array-write-offset : tie.Need-array-write-offset Inv-loop μ-loop
 array-write-offset c = search needs
 
--- src/columns.rt:26:9
 add-i : tie.Need-add-i Inv-loop μ-loop
 add-i c = search needs
 
--- src/columns.rt:21:5
 loop-less : tie.Need-loop-less Inv-loop μ-loop
 loop-less c = search needs
 
--- src/columns.rt:21:5
 loop-again : tie.Need-loop-again Inv-loop μ-loop
 unfolding taskOf noTask
 loop-again c =
@@ -78,7 +66,6 @@ loop-again c =
       column-more (l .offset) (λ i. taskOf t i .offset) (l .i) (omega arith) (l .inv .3),
     )
 
--- src/columns.rt:13:1
 returns : tie.Need-returns Inv-loop μ-loop
 unfolding columnsOf
 returns c =

@@ -18,32 +18,25 @@ Inv-loop labels cores i₀ i = (i ≤ cores) × (first (badLabel (row labels)) i
 abbrev μ-loop : tie.MeasureT-loop
 μ-loop labels cores i₀ i = cores - i
 
--- src/frame.rt:32:5
 loop-holds : tie.Need-loop-holds Inv-loop μ-loop
 unfolding first
 loop-holds c = (omega arith, refl)
 
--- src/frame.rt:33:12
 is-bad-label-requires : tie.Need-is-bad-label-requires Inv-loop μ-loop
 is-bad-label-requires c κs = search needs
 
--- src/frame.rt:34:13
 returns : tie.Need-returns Inv-loop μ-loop
 returns c = sym (found-at _ _ _ (c .before .before .before .loop .inv .1) (sym (c .before .is-bad-label .ensures) ∙ c .if1 .taken) (omega arith))
 
--- src/frame.rt:36:9
 add-i : tie.Need-add-i Inv-loop μ-loop
 add-i c = search needs
 
--- src/frame.rt:32:5
 loop-less : tie.Need-loop-less Inv-loop μ-loop
 loop-less c = search needs
 
--- src/frame.rt:32:5
 loop-again : tie.Need-loop-again Inv-loop μ-loop
 loop-again c = (omega arith, none-more _ _ (c .before .before .before .loop .inv .1) (sym (c .before .is-bad-label .ensures) ∙ c .if1 .left))
 
--- src/frame.rt:27:1
 returns-2 : tie.Need-returns-2 Inv-loop μ-loop
 returns-2 c = let e : c .before .loop .i ≡ c .before .before .args .cores = omega arith in sym (rw e at (c .before .loop .inv .1))
 

@@ -12,25 +12,20 @@ use Rattle.fields.proofs.frame.frame.Reads as reads
 use Rattle.fields.proofs.frame.frame.Lts as lts
 use Rattle.fields.proofs.frame.bad_label.Reads as bad-label-reads
 
--- src/frame.rt:45:9
 returns : tie.Need-returns
 unfolding frameTest firstMet
 returns c = rw (outside-low 2 8 _ (c .if1 .taken))
 
--- src/frame.rt:51:9
 returns-2 : tie.Need-returns-2
 unfolding frameTest firstMet
 returns-2 c = rw (outside-high 2 8 _ (c .before .if1 .left) (c .if2 .taken))
 
--- src/frame.rt:56:9
 bad-label-requires : tie.Need-bad-label-requires
 bad-label-requires c κs = search needs
 
--- src/frame.rt:60:20
 cast-t6 : tie.Need-cast-t6
 cast-t6 c = search needs
 
--- src/frame.rt:58:9
 returns-3 : tie.Need-returns-3
 unfolding frameTest firstMet
 returns-3 c =
@@ -40,7 +35,6 @@ returns-3 c =
       scan-found 4 (badLabel (row (a .labels .now))) (a .cores) _ (c .before .bad-label .ensures) (c .if3 .taken),
     )
 
--- src/frame.rt:64:9
 returns-4 : tie.Need-returns-4
 unfolding frameTest firstMet
 returns-4 c =
@@ -51,7 +45,6 @@ returns-4 c =
       outside-low (a .cores + 1) 16 (a .tasks) (omega arith),
     )
 
--- src/frame.rt:70:9
 returns-5 : tie.Need-returns-5
 unfolding frameTest firstMet
 returns-5 c =
@@ -62,7 +55,6 @@ returns-5 c =
       outside-high (a .cores + 1) 16 (a .tasks) (omega arith) (c .if5 .taken),
     )
 
--- src/frame.rt:41:1
 returns-6 : tie.Need-returns-6
 unfolding frameTest firstMet
 returns-6 c =

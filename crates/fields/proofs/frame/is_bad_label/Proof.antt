@@ -8,33 +8,26 @@ use Rattle.fields.proofs.frame.is_bad_label.Tie as tie
 use Rattle.fields.proofs.frame.is_bad_label.Reads as reads
 use Rattle.fields.proofs.frame.is_bad_label.Lts as lts
 
--- src/frame.rt:17:13
 element-copy-out-if1 : tie.Need-element-copy-out-if1
 element-copy-out-if1 c = search needs
 
--- src/frame.rt:18:9
 returns : tie.Need-returns
 unfolding badLabel row
 returns c = rw (lt-ltb _ _ (c .if1 .taken))
 
--- src/frame.rt:21:9
 returns-2 : tie.Need-returns-2
 unfolding badLabel row
 returns-2 c = rw (le-ltb 63 _ (c .before .if1 .left), c .if2 .taken)
 
--- src/frame.rt:23:5
 element-copy-out-result : tie.Need-element-copy-out-result
 element-copy-out-result c = search needs
 
--- src/frame.rt:23:25
 sub-result : tie.Need-sub-result
 sub-result c = search needs
 
--- src/frame.rt:23:18
 element-copy-out-result-2 : tie.Need-element-copy-out-result-2
 element-copy-out-result-2 c = search needs
 
--- src/frame.rt:13:1
 returns-3 : tie.Need-returns-3
 unfolding badLabel row
 returns-3 c =

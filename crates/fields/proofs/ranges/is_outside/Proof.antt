@@ -5,12 +5,10 @@ use Rattle.fields.proofs.ranges.is_outside.Tie as tie
 use Rattle.fields.proofs.ranges.is_outside.Reads as reads
 use Rattle.fields.proofs.ranges.is_outside.Lts as lts
 
--- src/fields.rt:16:9
 returns : tie.Need-returns
 unfolding outside
 returns c = rw (lt-ltb _ _ (c .if1 .taken))
 
--- src/fields.rt:12:1
 returns-2 : tie.Need-returns-2
 unfolding outside
 returns-2 c = rw (le-ltb _ _ (c .if1 .left))

@@ -39,15 +39,12 @@ module _ (w : ℕ → ℕ) (n : ℕ) (l : List ℕ) (h : n ≤ 16) (g : Weighed 
   high k =
       omega (arith, largest-le-sum k w n, sum-le-mul w 8589934592000000 n (g .limit))
 
--- src/amount.rt:54:18
 weigh-requires : tie.Need-weigh-requires
 weigh-requires c κs = search needs
 
--- src/amount.rt:55:5
 largest-sum-requires : tie.Need-largest-sum-requires
 largest-sum-requires c κs = light _ _ _ (c .before .before .before .pre .0 .sixteen) (c .before .before .weigh .ensures)
 
--- src/amount.rt:55:5
 add-result : tie.Need-add-result
 add-result c =
     let s = c .before .before .before .before in
@@ -59,7 +56,6 @@ add-result c =
       high _ _ _ (s .pre .0 .sixteen) g (count (members (s .args .chosen .now)) (s .args .tasks)),
     )
 
--- src/amount.rt:43:1
 returns : tie.Need-returns
 returns c =
     let s = c .before .before .before .before in (

@@ -18,29 +18,23 @@ Inv-loop counted chosen₀ i₀ chosen i = (i ≤ counted) × (chosen ≡ tab (c
 abbrev μ-loop : tie.MeasureT-loop
 μ-loop counted chosen₀ i₀ chosen i = counted - i
 
--- src/amount.rt:35:5
 loop-holds : tie.Need-loop-holds Inv-loop μ-loop
 loop-holds c = (omega arith, filled-none (λ i. true) false 16)
 
--- src/amount.rt:36:9
 array-write-chosen : tie.Need-array-write-chosen Inv-loop μ-loop
 array-write-chosen c = search needs
 
--- src/amount.rt:37:9
 add-i : tie.Need-add-i Inv-loop μ-loop
 add-i c = search needs
 
--- src/amount.rt:35:5
 loop-less : tie.Need-loop-less Inv-loop μ-loop
 loop-less c = search needs
 
--- src/amount.rt:35:5
 loop-again : tie.Need-loop-again Inv-loop μ-loop
 loop-again c =
     let l = c .before .loop in
     (omega arith, ap (λ (x : List Bool). set x (l .i) true) (l .inv .1) ∙ filled-next (λ i. true) false (l .i) 16 (omega arith))
 
--- src/amount.rt:29:1
 returns : tie.Need-returns Inv-loop μ-loop
 returns c =
     let e : c .before .loop .i ≡ c .before .before .args .counted = omega arith in

@@ -29,47 +29,36 @@ Inv-loop share offset slack tasks weight₀ i₀ weight i =
 abbrev μ-loop : tie.MeasureT-loop
 μ-loop share offset slack tasks weight₀ i₀ weight i = tasks - i
 
--- src/amount.rt:21:5
 loop-holds : tie.Need-loop-holds Inv-loop μ-loop
 loop-holds c = (omega arith, filled-none _ 0 16, below-none _)
 
--- src/amount.rt:22:21
 mul-weight : tie.Need-mul-weight Inv-loop μ-loop
 mul-weight c = search needs
 
--- src/amount.rt:22:21
 element-copy-out-weight : tie.Need-element-copy-out-weight Inv-loop μ-loop
 element-copy-out-weight c = search needs
 
--- src/amount.rt:22:38
 mul-wide : tie.Need-mul-wide Inv-loop μ-loop
 mul-wide c = search needs
 
--- src/amount.rt:22:38
 element-copy-out-wide : tie.Need-element-copy-out-wide Inv-loop μ-loop
 element-copy-out-wide c = search needs
 
--- src/amount.rt:22:33
 wide-requires : tie.Need-wide-requires Inv-loop μ-loop
 wide-requires c κs = search needs
 
--- src/amount.rt:22:55
 mul-wide-2 : tie.Need-mul-wide-2 Inv-loop μ-loop
 mul-wide-2 c = search needs
 
--- src/amount.rt:22:55
 element-copy-out-wide-2 : tie.Need-element-copy-out-wide-2 Inv-loop μ-loop
 element-copy-out-wide-2 c = search needs
 
--- src/amount.rt:22:50
 wide-requires-2 : tie.Need-wide-requires-2 Inv-loop μ-loop
 wide-requires-2 c κs = search needs
 
--- src/amount.rt:22:33
 add-weight : tie.Need-add-weight Inv-loop μ-loop
 add-weight c = search needs
 
--- src/amount.rt:22:21
 mul-weight-2 : tie.Need-mul-weight-2 Inv-loop μ-loop
 unfolding row
 mul-weight-2 c =
@@ -77,23 +66,18 @@ mul-weight-2 c =
     let i = c .before .before .before .before .before .before .loop .i in
     omega (arith, high _ (c .before .before .wide .result + c .wide2 .result) (s .pre .million i (omega arith)) (omega arith))
 
--- src/amount.rt:22:9
 mul-weight-3 : tie.Need-mul-weight-3 Inv-loop μ-loop
 mul-weight-3 c = search needs
 
--- src/amount.rt:22:9
 array-write-weight : tie.Need-array-write-weight Inv-loop μ-loop
 array-write-weight c = search needs
 
--- src/amount.rt:23:9
 add-i : tie.Need-add-i Inv-loop μ-loop
 add-i c = search needs
 
--- src/amount.rt:21:5
 loop-less : tie.Need-loop-less Inv-loop μ-loop
 loop-less c = search needs
 
--- src/amount.rt:21:5
 loop-again : tie.Need-loop-again Inv-loop μ-loop
 unfolding weightRow row
 loop-again c =
@@ -107,7 +91,6 @@ loop-again c =
       below-more _ (l .i) (l .inv .2) (rw e at (high _ v (s .pre .million (l .i) (omega arith)) (omega arith))),
     )
 
--- src/amount.rt:15:1
 returns : tie.Need-returns Inv-loop μ-loop
 returns c =
     let e : c .before .loop .i ≡ c .before .before .args .tasks = omega arith in

@@ -64,28 +64,23 @@ module _ (m n : ℕ) (separation budget offset : List ℕ) (g : Ranges (setFrom 
               };
         }
 
--- src/rates.rt:102:9
 common-multiple-requires : tie.Need-common-multiple-requires
 unfolding setFrom row
 common-multiple-requires c κs = record { places = c .pre .tasks; low = c .pre .timed .separation-low; high = c .pre .separation }
 
--- src/rates.rt:104:9
 refused-requires : tie.Need-refused-requires
 refused-requires c κs = search needs
 
--- src/rates.rt:104:9
 returns : tie.Need-returns
 returns c =
     let a = c .before .before .before .args in
     let n = multiple-over (a .cores) _ _ (a .budget .now) (a .offset .now) _ (c .before .before .common-multiple .ensures) (c .before .if1 .taken) in
     record { answer = c .refused .ensures ∙ sym (ratesTest-9 _ n); figures = λ e. absurd (not-both _ 9 0 (c .refused .ensures) e) }
 
--- src/rates.rt:106:17
 shares-requires : tie.Need-shares-requires
 unfolding setFrom
 shares-requires c κs = let g = c .before .before .pre in (g .tasks, c .if1 .left, g .timed .separation-low)
 
--- src/rates.rt:107:9
 total-requires : tie.Need-total-requires
 unfolding setFrom
 total-requires c κs =
@@ -94,18 +89,15 @@ total-requires c κs =
       within (s .args .cores) _ _ _ _ (s .pre) _ (c .before .before .before .common-multiple .ensures) (c .before .before .if1 .left) _ (c .before .shares .ensures),
     )
 
--- src/rates.rt:108:8
 mul-if2 : tie.Need-mul-if2
 unfolding setFrom
 mul-if2 c =
     let s = c .before .before .before .before .before in
     omega (arith, mul-le-mul {n₁ = s .args .cores} {m₁ = c .before .before .before .before .common-multiple .result} {n₂ = 8} {m₂ = 1000000} (s .pre .cores) (c .before .before .before .if1 .left))
 
--- src/rates.rt:109:9
 refused-requires-2 : tie.Need-refused-requires-2
 refused-requires-2 c κs = search needs
 
--- src/rates.rt:109:9
 returns-2 : tie.Need-returns-2
 returns-2 c =
     let s = c .before .before .before .before .before .before .before in
@@ -116,7 +108,6 @@ returns-2 c =
     in
     record { answer = c .refused2 .ensures ∙ sym e; figures = λ a. absurd (not-both _ 10 0 (c .refused2 .ensures) a) }
 
--- src/rates.rt:111:9
 surplus-of-requires : tie.Need-surplus-of-requires
 unfolding setFrom
 surplus-of-requires c κs =
@@ -130,7 +121,6 @@ surplus-of-requires c κs =
       ),
     )
 
--- src/rates.rt:92:1
 returns-3 : tie.Need-returns-3
 returns-3 c =
     let s = c .before .before .before .before .before .before .before .before in

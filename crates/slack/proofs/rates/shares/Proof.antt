@@ -21,62 +21,48 @@ Inv-loop separation budget multiple tasks share₀ i₀ share i =
 abbrev μ-loop : tie.MeasureT-loop
 μ-loop separation budget multiple tasks share₀ i₀ share i = tasks - i
 
--- src/rates.rt:28:5
 loop-holds : tie.Need-loop-holds Inv-loop μ-loop
 loop-holds c = (omega arith, filled-none _ 0 16)
 
--- src/rates.rt:29:25
 mul-wide : tie.Need-mul-wide Inv-loop μ-loop
 mul-wide c = search needs
 
--- src/rates.rt:29:25
 element-copy-out-wide : tie.Need-element-copy-out-wide Inv-loop μ-loop
 element-copy-out-wide c = search needs
 
--- src/rates.rt:29:20
 wide-requires : tie.Need-wide-requires Inv-loop μ-loop
 wide-requires c κs = search needs
 
--- src/rates.rt:29:20
 mul-share : tie.Need-mul-share Inv-loop μ-loop
 mul-share c =
     omega (arith, mul-le-mul {n₁ = c .wide .result} {n₂ = 4294967296} {m₂ = 1000000} (omega arith) (c .before .before .before .before .pre .1))
 
--- src/rates.rt:29:54
 mul-wide-2 : tie.Need-mul-wide-2 Inv-loop μ-loop
 mul-wide-2 c = search needs
 
--- src/rates.rt:29:54
 element-copy-out-wide-2 : tie.Need-element-copy-out-wide-2 Inv-loop μ-loop
 element-copy-out-wide-2 c = search needs
 
--- src/rates.rt:29:49
 wide-requires-2 : tie.Need-wide-requires-2 Inv-loop μ-loop
 wide-requires-2 c κs = search needs
 
--- src/rates.rt:29:20
 div-share : tie.Need-div-share Inv-loop μ-loop
 unfolding row
 div-share c =
     omega (arith, c .before .before .before .before .before .before .pre .2 (c .before .before .before .before .before .loop .i) (omega arith))
 
--- src/rates.rt:29:9
 mul-share-2 : tie.Need-mul-share-2 Inv-loop μ-loop
 mul-share-2 c = search needs
 
--- src/rates.rt:29:9
 array-write-share : tie.Need-array-write-share Inv-loop μ-loop
 array-write-share c = search needs
 
--- src/rates.rt:30:9
 add-i : tie.Need-add-i Inv-loop μ-loop
 add-i c = search needs
 
--- src/rates.rt:28:5
 loop-less : tie.Need-loop-less Inv-loop μ-loop
 loop-less c = search needs
 
--- src/rates.rt:28:5
 loop-again : tie.Need-loop-again Inv-loop μ-loop
 unfolding row
 loop-again c =
@@ -87,7 +73,6 @@ loop-again c =
           (column-more (l .share) (λ i. row (a .budget .now) i * a .multiple / row (a .separation .now) i) (l .i) (omega arith) (l .inv .1)),
     )
 
--- src/rates.rt:22:1
 returns : tie.Need-returns Inv-loop μ-loop
 returns c =
     let e : c .before .loop .i ≡ c .before .before .args .tasks = omega arith in

@@ -23,68 +23,54 @@ Inv-loop share separation offset tasks all₀ i₀ all i =
 abbrev μ-loop : tie.MeasureT-loop
 μ-loop share separation offset tasks all₀ i₀ all i = tasks - i
 
--- src/rates.rt:67:5
 loop-holds : tie.Need-loop-holds Inv-loop μ-loop
 unfolding sum
 loop-holds c = (omega arith, refl, omega arith)
 
--- src/rates.rt:68:16
 mul-all : tie.Need-mul-all Inv-loop μ-loop
 mul-all c = search needs
 
--- src/rates.rt:68:16
 element-copy-out-all : tie.Need-element-copy-out-all Inv-loop μ-loop
 element-copy-out-all c = search needs
 
--- src/rates.rt:68:32
 mul-wide : tie.Need-mul-wide Inv-loop μ-loop
 mul-wide c = search needs
 
--- src/rates.rt:68:32
 element-copy-out-wide : tie.Need-element-copy-out-wide Inv-loop μ-loop
 element-copy-out-wide c = search needs
 
--- src/rates.rt:68:48
 mul-wide-2 : tie.Need-mul-wide-2 Inv-loop μ-loop
 mul-wide-2 c = search needs
 
--- src/rates.rt:68:48
 element-copy-out-wide-2 : tie.Need-element-copy-out-wide-2 Inv-loop μ-loop
 element-copy-out-wide-2 c = search needs
 
--- src/rates.rt:68:32
 sub-wide : tie.Need-sub-wide Inv-loop μ-loop
 unfolding row
 sub-wide c =
     omega (arith, c .before .before .before .before .before .pre .1 (c .before .before .before .before .loop .i) (omega arith))
 
--- src/rates.rt:68:27
 wide-requires : tie.Need-wide-requires Inv-loop μ-loop
 wide-requires c κs = search needs
 
--- src/rates.rt:68:16
 mul-all-2 : tie.Need-mul-all-2 Inv-loop μ-loop
 unfolding row
 mul-all-2 c =
     let p = c .before .before .before .before .before .before .pre .1 (c .before .before .before .before .before .loop .i) (omega arith) in
     omega (arith, term _ _ _ _ (p .0) (p .1) (c .wide .ensures .0))
 
--- src/rates.rt:68:9
 add-all : tie.Need-add-all Inv-loop μ-loop
 unfolding row
 add-all c =
     let p = c .before .before .before .before .before .before .pre .1 (c .before .before .before .before .before .loop .i) (omega arith) in
     omega (arith, term _ _ _ _ (p .0) (p .1) (c .wide .ensures .0))
 
--- src/rates.rt:69:9
 add-i : tie.Need-add-i Inv-loop μ-loop
 add-i c = search needs
 
--- src/rates.rt:67:5
 loop-less : tie.Need-loop-less Inv-loop μ-loop
 loop-less c = search needs
 
--- src/rates.rt:67:5
 loop-again : tie.Need-loop-again Inv-loop μ-loop
 unfolding row
 loop-again c =
@@ -100,7 +86,6 @@ loop-again c =
       omega (arith, term _ _ _ _ (p .0) (p .1) (c .wide .ensures .0)),
     )
 
--- src/rates.rt:61:1
 returns : tie.Need-returns Inv-loop μ-loop
 returns c =
     let e : c .before .loop .i ≡ c .before .before .args .tasks = omega arith in

@@ -16,34 +16,27 @@ Inv-loop share tasks all₀ i₀ all i = (i ≤ tasks) × (all ≡ sum (row shar
 abbrev μ-loop : tie.MeasureT-loop
 μ-loop share tasks all₀ i₀ all i = tasks - i
 
--- src/rates.rt:54:5
 loop-holds : tie.Need-loop-holds Inv-loop μ-loop
 unfolding sum
 loop-holds c = (omega arith, refl, omega arith)
 
--- src/rates.rt:55:16
 mul-all : tie.Need-mul-all Inv-loop μ-loop
 mul-all c = search needs
 
--- src/rates.rt:55:16
 element-copy-out-all : tie.Need-element-copy-out-all Inv-loop μ-loop
 element-copy-out-all c = search needs
 
--- src/rates.rt:55:9
 add-all : tie.Need-add-all Inv-loop μ-loop
 unfolding row
 add-all c =
     omega (arith, c .before .before .before .pre .1 (c .before .before .loop .i) (omega arith))
 
--- src/rates.rt:56:9
 add-i : tie.Need-add-i Inv-loop μ-loop
 add-i c = search needs
 
--- src/rates.rt:54:5
 loop-less : tie.Need-loop-less Inv-loop μ-loop
 loop-less c = search needs
 
--- src/rates.rt:54:5
 loop-again : tie.Need-loop-again Inv-loop μ-loop
 unfolding row
 loop-again c =
@@ -53,7 +46,6 @@ loop-again c =
       omega (arith, c .before .before .before .pre .1 (l .i) (omega arith)),
     )
 
--- src/rates.rt:48:1
 returns : tie.Need-returns Inv-loop μ-loop
 returns c =
     let e : c .before .loop .i ≡ c .before .before .args .tasks = omega arith in

@@ -29,54 +29,43 @@ Inv-loop slack budget amount multiple cores tasks i₀ i =
 abbrev μ-loop : tie.MeasureT-loop
 μ-loop slack budget amount multiple cores tasks i₀ i = tasks - i
 
--- src/slack.rt:26:5
 loop-holds : tie.Need-loop-holds Inv-loop μ-loop
 unfolding first
 loop-holds c = (omega arith, refl)
 
--- src/slack.rt:27:12
 mul-if1 : tie.Need-mul-if1 Inv-loop μ-loop
 mul-if1 c =
     let s = c .before .before in
     omega (arith, mul-le-mul {n₂ = 8} {m₂ = 1000000} (s .pre .2) (s .pre .1))
 
--- src/slack.rt:27:36
 mul-wide : tie.Need-mul-wide Inv-loop μ-loop
 mul-wide c = search needs
 
--- src/slack.rt:27:36
 element-copy-out-wide : tie.Need-element-copy-out-wide Inv-loop μ-loop
 element-copy-out-wide c = search needs
 
--- src/slack.rt:27:31
 wide-requires : tie.Need-wide-requires Inv-loop μ-loop
 wide-requires c κs = search needs
 
--- src/slack.rt:27:12
 mul-if1-2 : tie.Need-mul-if1-2 Inv-loop μ-loop
 mul-if1-2 c =
     let s = c .before .before .before .before in
     omega (arith, by-cores _ _ _ (s .pre .2) (s .pre .1) (c .wide .ensures .1))
 
--- src/slack.rt:27:64
 mul-wide-2 : tie.Need-mul-wide-2 Inv-loop μ-loop
 mul-wide-2 c = search needs
 
--- src/slack.rt:27:64
 element-copy-out-wide-2 : tie.Need-element-copy-out-wide-2 Inv-loop μ-loop
 element-copy-out-wide-2 c = search needs
 
--- src/slack.rt:27:59
 wide-requires-2 : tie.Need-wide-requires-2 Inv-loop μ-loop
 wide-requires-2 c κs = search needs
 
--- src/slack.rt:27:48
 mul-if1-3 : tie.Need-mul-if1-3 Inv-loop μ-loop
 mul-if1-3 c =
     let s = c .before .before .before .before .before .before in
     omega (arith, by-budget _ _ (s .pre .1) (c .wide2 .ensures .1))
 
--- src/slack.rt:27:12
 add-if1 : tie.Need-add-if1 Inv-loop μ-loop
 add-if1 c =
     let s = c .before .before .before .before .before .before in
@@ -86,7 +75,6 @@ add-if1 c =
       by-budget _ _ (s .pre .1) (c .wide2 .ensures .1),
     )
 
--- src/slack.rt:28:13
 returns : tie.Need-returns Inv-loop μ-loop
 unfolding uncovered row
 returns c =
@@ -97,15 +85,12 @@ returns c =
     (lt-ltb _ _ (rw (c .before .wide2 .ensures .0, c .before .before .before .wide .ensures .0) at (c .if1 .taken)))
     (omega arith))
 
--- src/slack.rt:30:9
 add-i : tie.Need-add-i Inv-loop μ-loop
 add-i c = search needs
 
--- src/slack.rt:26:5
 loop-less : tie.Need-loop-less Inv-loop μ-loop
 loop-less c = search needs
 
--- src/slack.rt:26:5
 loop-again : tie.Need-loop-again Inv-loop μ-loop
 unfolding uncovered row
 loop-again c =
@@ -116,7 +101,6 @@ loop-again c =
           (le-ltb _ _ (rw (c .before .wide2 .ensures .0, c .before .before .before .wide .ensures .0) at (c .if1 .left))),
     )
 
--- src/slack.rt:14:1
 returns-2 : tie.Need-returns-2 Inv-loop μ-loop
 returns-2 c =
     let e : c .before .loop .i ≡ c .before .before .args .tasks = omega arith in

@@ -20,11 +20,9 @@ module _ (whole over rest : ℕ) where
   same : over ≤ rest → whole ≡ whole + cond (ltb rest over) 1 0
   same h = rw (le-ltb rest over h) (omega arith)
 
--- src/slack.rt:69:31
 add-up : tie.Need-add-up
 add-up c = search needs
 
--- src/slack.rt:71:9
 returns : tie.Need-returns
 unfolding lifted
 returns c =
@@ -34,7 +32,6 @@ returns c =
     in
     omega arith
 
--- src/slack.rt:65:1
 returns-2 : tie.Need-returns-2
 unfolding lifted
 returns-2 c =

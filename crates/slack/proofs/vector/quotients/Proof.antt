@@ -18,39 +18,30 @@ Inv-loop budget cores tasks quotient₀ i₀ quotient i = (i ≤ tasks) × (quot
 abbrev μ-loop : tie.MeasureT-loop
 μ-loop budget cores tasks quotient₀ i₀ quotient i = tasks - i
 
--- src/slack.rt:42:5
 loop-holds : tie.Need-loop-holds Inv-loop μ-loop
 loop-holds c = (omega arith, filled-none _ 0 16)
 
--- src/slack.rt:43:23
 mul-quotient : tie.Need-mul-quotient Inv-loop μ-loop
 mul-quotient c = search needs
 
--- src/slack.rt:43:23
 element-copy-out-quotient : tie.Need-element-copy-out-quotient Inv-loop μ-loop
 element-copy-out-quotient c = search needs
 
--- src/slack.rt:43:23
 div-quotient : tie.Need-div-quotient Inv-loop μ-loop
 div-quotient c = search needs
 
--- src/slack.rt:43:9
 mul-quotient-2 : tie.Need-mul-quotient-2 Inv-loop μ-loop
 mul-quotient-2 c = search needs
 
--- src/slack.rt:43:9
 array-write-quotient : tie.Need-array-write-quotient Inv-loop μ-loop
 array-write-quotient c = search needs
 
--- src/slack.rt:44:9
 add-i : tie.Need-add-i Inv-loop μ-loop
 add-i c = search needs
 
--- src/slack.rt:42:5
 loop-less : tie.Need-loop-less Inv-loop μ-loop
 loop-less c = search needs
 
--- src/slack.rt:42:5
 loop-again : tie.Need-loop-again Inv-loop μ-loop
 unfolding row
 loop-again c =
@@ -58,7 +49,6 @@ loop-again c =
     let a = c .before .before .before .args in
     (omega arith, column-more (l .quotient) (λ i. row (a .budget .now) i / a .cores) (l .i) (omega arith) (l .inv .1))
 
--- src/slack.rt:36:1
 returns : tie.Need-returns Inv-loop μ-loop
 returns c =
     let e : c .before .loop .i ≡ c .before .before .args .tasks = omega arith in

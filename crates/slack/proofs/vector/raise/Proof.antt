@@ -47,56 +47,43 @@ Inv-loop slack₀ quotient rest whole over tasks changed₀ i₀ slack changed i
 abbrev μ-loop : tie.MeasureT-loop
 μ-loop slack₀ quotient rest whole over tasks changed₀ i₀ slack changed i = tasks - i
 
--- src/slack.rt:90:5
 loop-holds : tie.Need-loop-holds Inv-loop μ-loop
 unfolding first
 loop-holds c = (omega arith, sweep-none _ _ (c .pre .0), refl)
 
--- src/slack.rt:91:19
 mul-old : tie.Need-mul-old Inv-loop μ-loop
 mul-old c = search needs
 
--- src/slack.rt:91:19
 element-copy-out-old : tie.Need-element-copy-out-old Inv-loop μ-loop
 element-copy-out-old c = search needs
 
--- src/slack.rt:92:37
 mul-lift : tie.Need-mul-lift Inv-loop μ-loop
 mul-lift c = search needs
 
--- src/slack.rt:92:37
 element-copy-out-lift : tie.Need-element-copy-out-lift Inv-loop μ-loop
 element-copy-out-lift c = search needs
 
--- src/slack.rt:92:50
 mul-lift-2 : tie.Need-mul-lift-2 Inv-loop μ-loop
 mul-lift-2 c = search needs
 
--- src/slack.rt:92:50
 element-copy-out-lift-2 : tie.Need-element-copy-out-lift-2 Inv-loop μ-loop
 element-copy-out-lift-2 c = search needs
 
--- src/slack.rt:92:13
 lift-requires : tie.Need-lift-requires Inv-loop μ-loop
 lift-requires c κs = search needs
 
--- src/slack.rt:94:13
 mul-slack : tie.Need-mul-slack Inv-loop μ-loop
 mul-slack c = search needs
 
--- src/slack.rt:94:13
 element-write-slack : tie.Need-element-write-slack Inv-loop μ-loop
 element-write-slack c = search needs
 
--- src/slack.rt:97:9
 add-i : tie.Need-add-i Inv-loop μ-loop
 add-i c = search needs
 
--- src/slack.rt:90:5
 loop-less : tie.Need-loop-less Inv-loop μ-loop
 loop-less c = search needs
 
--- src/slack.rt:90:5
 loop-again : tie.Need-loop-again Inv-loop μ-loop
 unfolding row
 loop-again c =
@@ -113,7 +100,6 @@ loop-again c =
           (c .if1 .came),
     )
 
--- src/slack.rt:77:1
 returns : tie.Need-returns Inv-loop μ-loop
 returns c =
     let e : c .before .loop .i ≡ c .before .before .args .tasks = omega arith in

@@ -18,39 +18,30 @@ Inv-loop budget cores tasks rest₀ i₀ rest i = (i ≤ tasks) × (rest ≡ tab
 abbrev μ-loop : tie.MeasureT-loop
 μ-loop budget cores tasks rest₀ i₀ rest i = tasks - i
 
--- src/slack.rt:56:5
 loop-holds : tie.Need-loop-holds Inv-loop μ-loop
 loop-holds c = (omega arith, filled-none _ 0 16)
 
--- src/slack.rt:57:19
 mul-rest : tie.Need-mul-rest Inv-loop μ-loop
 mul-rest c = search needs
 
--- src/slack.rt:57:19
 element-copy-out-rest : tie.Need-element-copy-out-rest Inv-loop μ-loop
 element-copy-out-rest c = search needs
 
--- src/slack.rt:57:19
 rem-rest : tie.Need-rem-rest Inv-loop μ-loop
 rem-rest c = search needs
 
--- src/slack.rt:57:9
 mul-rest-2 : tie.Need-mul-rest-2 Inv-loop μ-loop
 mul-rest-2 c = search needs
 
--- src/slack.rt:57:9
 array-write-rest : tie.Need-array-write-rest Inv-loop μ-loop
 array-write-rest c = search needs
 
--- src/slack.rt:58:9
 add-i : tie.Need-add-i Inv-loop μ-loop
 add-i c = search needs
 
--- src/slack.rt:56:5
 loop-less : tie.Need-loop-less Inv-loop μ-loop
 loop-less c = search needs
 
--- src/slack.rt:56:5
 loop-again : tie.Need-loop-again Inv-loop μ-loop
 unfolding row
 loop-again c =
@@ -58,7 +49,6 @@ loop-again c =
     let a = c .before .before .before .args in
     (omega arith, column-more (l .rest) (λ i. row (a .budget .now) i % a .cores) (l .i) (omega arith) (l .inv .1))
 
--- src/slack.rt:50:1
 returns : tie.Need-returns Inv-loop μ-loop
 returns c =
     let e : c .before .loop .i ≡ c .before .before .args .tasks = omega arith in

@@ -50,27 +50,21 @@ abbrev μ-loop : tie.MeasureT-loop
 μ-loop share budget offset multiple surplus cores tasks divisor quotient rest chosen₀ slack₀ chosen slack =
     tasks * 800000 - sum (row slack) tasks
 
--- src/slack.rt:118:38
 cast-divisor : tie.Need-cast-divisor Inv-loop μ-loop
-cast-divisor c = let g = c .pre .1 in omega (arith, cores-high _ _ _ _ _ _ _ _ g)
+cast-divisor c = let g = c .pre .1 in omega (arith, cores-high g)
 
--- src/slack.rt:118:20
 quotients-requires : tie.Need-quotients-requires Inv-loop μ-loop
-quotients-requires c κs = let g = c .pre .1 in (tasks-high _ _ _ _ _ _ _ _ g, omega (arith, cores-low _ _ _ _ _ _ _ _ g))
+quotients-requires c κs = let g = c .pre .1 in (tasks-high g, omega (arith, cores-low g))
 
--- src/slack.rt:119:16
 remainders-requires : tie.Need-remainders-requires Inv-loop μ-loop
-remainders-requires c κs = let g = c .before .pre .1 in (tasks-high _ _ _ _ _ _ _ _ g, omega (arith, cores-low _ _ _ _ _ _ _ _ g))
+remainders-requires c κs = let g = c .before .pre .1 in (tasks-high g, omega (arith, cores-low g))
 
--- src/slack.rt:120:35
 sub-first-counted : tie.Need-sub-first-counted Inv-loop μ-loop
-sub-first-counted c = let g = c .before .before .pre .1 in omega (arith, cores-low _ _ _ _ _ _ _ _ g)
+sub-first-counted c = let g = c .before .before .pre .1 in omega (arith, cores-low g)
 
--- src/slack.rt:120:22
 first-counted-requires : tie.Need-first-counted-requires Inv-loop μ-loop
-first-counted-requires c κs = let g = c .before .before .pre .1 in omega (arith, cores-high _ _ _ _ _ _ _ _ g)
+first-counted-requires c κs = let g = c .before .before .pre .1 in omega (arith, cores-high g)
 
--- src/slack.rt:122:5
 loop-holds : tie.Need-loop-holds Inv-loop μ-loop
 loop-holds c =
     let s = c .before .before .before in
@@ -78,90 +72,80 @@ loop-holds c =
       refl,
       λ k l. zeros k,
       rw (c .first-counted .ensures)
-          (counted-first (s .args .cores - 1) (s .args .tasks) (omega (arith, more _ _ _ _ _ _ _ _ g)) (tasks-high _ _ _ _ _ _ _ _ g)),
+          (counted-first (s .args .cores - 1) (s .args .tasks) (omega (arith, more g)) (tasks-high g)),
       λ t k. rising-start t _ (λ i l. zeros i),
     )
 
--- src/slack.rt:123:13
 amount-requires : tie.Need-amount-requires Inv-loop μ-loop
 amount-requires c κs =
     let g = c .before .before .before .before .before .before .pre .1 in
-    (few _ _ _ _ _ _ _ _ g, surplus-high _ _ _ _ _ _ _ _ g)
+    (few g, surplus-high g)
 
--- src/slack.rt:124:30
 sub-need : tie.Need-sub-need Inv-loop μ-loop
-sub-need c = let g = c .before .before .before .before .before .before .before .pre .1 in multiple-low _ _ _ _ _ _ _ _ g
+sub-need c = let g = c .before .before .before .before .before .before .before .pre .1 in multiple-low g
 
--- src/slack.rt:124:21
 add-need : tie.Need-add-need Inv-loop μ-loop
 add-need c =
     let s = c .before .before .before .before .before .before .before in
     let l = c .before .before .before .loop in
     let g = s .pre .1 in
-    let e = c .amount .ensures .0 ∙ amount-row _ _ _ _ _ _ _ _ g (l .slack) _ (l .inv .2) in
-    omega (arith, e, amounts _ _ _ _ _ _ _ _ g (l .slack) (l .inv .3 _ g), multiple-high _ _ _ _ _ _ _ _ g)
+    let e = c .amount .ensures .0 ∙ amount-row g (l .slack) _ (l .inv .2) in
+    omega (arith, e, amounts g (l .slack) (l .inv .3 _ g), multiple-high g)
 
--- src/slack.rt:124:20
 div-need : tie.Need-div-need Inv-loop μ-loop
-div-need c = let g = c .before .before .before .before .before .before .before .pre .1 in multiple-low _ _ _ _ _ _ _ _ g
+div-need c = let g = c .before .before .before .before .before .before .before .pre .1 in multiple-low g
 
 cast-need : tie.Need-cast-need Inv-loop μ-loop
 cast-need c =
     let g = c .before .before .before .before .before .before .before .pre .1 in
     let l = c .before .before .before .loop in
-    let e = c .amount .ensures .0 ∙ amount-row _ _ _ _ _ _ _ _ g (l .slack) _ (l .inv .2) in
-    omega (arith, turn-need _ _ _ _ _ _ _ _ g (l .slack) _ _ e refl (l .inv .3 _ g))
+    let e = c .amount .ensures .0 ∙ amount-row g (l .slack) _ (l .inv .2) in
+    omega (arith, turn-need g (l .slack) _ _ e refl (l .inv .3 _ g))
 
--- src/slack.rt:129:14
 div-raise : tie.Need-div-raise Inv-loop μ-loop
-div-raise c = let g = c .before .before .before .before .before .before .before .before .before .before .pre .1 in omega (arith, cores-low _ _ _ _ _ _ _ _ g)
+div-raise c = let g = c .before .before .before .before .before .before .before .before .before .before .pre .1 in omega (arith, cores-low g)
 
--- src/slack.rt:130:14
 rem-raise : tie.Need-rem-raise Inv-loop μ-loop
-rem-raise c = let g = c .before .before .before .before .before .before .before .before .before .before .pre .1 in omega (arith, cores-low _ _ _ _ _ _ _ _ g)
+rem-raise c = let g = c .before .before .before .before .before .before .before .before .before .before .pre .1 in omega (arith, cores-low g)
 
--- src/slack.rt:125:13
 raise-requires : tie.Need-raise-requires Inv-loop μ-loop
 raise-requires c κs =
     let g = c .before .before .before .before .before .before .before .before .before .before .pre .1 in
     let l = c .before .before .before .before .before .before .loop in
-    let e = c .before .before .before .amount .ensures .0 ∙ amount-row _ _ _ _ _ _ _ _ g (l .slack) _ (l .inv .2) in
-    let d = turn-need _ _ _ _ _ _ _ _ g (l .slack) _ _ e refl (l .inv .3 _ g) in
-    (l .inv .0, tasks-high _ _ _ _ _ _ _ _ g, omega (arith, fits _ _ d (cores-low _ _ _ _ _ _ _ _ g) .0))
+    let e = c .before .before .before .amount .ensures .0 ∙ amount-row g (l .slack) _ (l .inv .2) in
+    let d = turn-need g (l .slack) _ _ e refl (l .inv .3 _ g) in
+    (l .inv .0, tasks-high g, omega (arith, fits _ _ d (cores-low g) .0))
 
--- src/slack.rt:122:5
 loop-less : tie.Need-loop-less Inv-loop μ-loop
 loop-less c =
     let g = c .before .before .before .before .before .before .before .before .before .before .before .before .pre .1 in
     let l = c .before .before .before .before .before .before .before .before .loop in
-    let e = c .before .before .before .before .before .amount .ensures .0 ∙ amount-row _ _ _ _ _ _ _ _ g (l .slack) _ (l .inv .2) in
+    let e = c .before .before .before .before .before .amount .ensures .0 ∙ amount-row g (l .slack) _ (l .inv .2) in
     let v = c .before .raise .ensures in
-    turn-less _ _ _ _ _ _ _ _ g (l .slack) _ _ e refl (l .inv .3 _ g) _ _ (c .before .before .before .before .before .before .before .before .before .before .before .quotients .ensures) (c .before .before .before .before .before .before .before .before .before .before .remainders .ensures) _ (v .0) (sym (not-false _ (c .if1 .left)) ∙ v .1)
+    turn-less g (l .slack) _ _ e refl (l .inv .3 _ g) _ _ (c .before .before .before .before .before .before .before .before .before .before .before .quotients .ensures) (c .before .before .before .before .before .before .before .before .before .before .remainders .ensures) _ (v .0) (sym (not-false _ (c .if1 .left)) ∙ v .1)
 
--- src/slack.rt:122:5
 loop-again : tie.Need-loop-again Inv-loop μ-loop
 loop-again c =
     let g = c .before .before .before .before .before .before .before .before .before .before .before .before .pre .1 in
     let l = c .before .before .before .before .before .before .before .before .loop in
-    let e = c .before .before .before .before .before .amount .ensures .0 ∙ amount-row _ _ _ _ _ _ _ _ g (l .slack) _ (l .inv .2) in
+    let e = c .before .before .before .before .before .amount .ensures .0 ∙ amount-row g (l .slack) _ (l .inv .2) in
     let q = c .before .before .before .before .before .before .before .before .before .before .before .quotients .ensures in
     let r = c .before .before .before .before .before .before .before .before .before .before .remainders .ensures in
     let v = c .before .raise .ensures .0 in (
-      turn-length _ _ _ _ _ _ _ _ g (l .slack) _ _ e refl (l .inv .3 _ g) _ _ q r _ v,
-      turn-past _ _ _ _ _ _ _ _ g (l .slack) _ _ e refl (l .inv .3 _ g) _ _ q r _ v (l .inv .1),
+      turn-length g (l .slack) _ _ e refl (l .inv .3 _ g) _ _ q r _ v,
+      turn-past g (l .slack) _ _ e refl (l .inv .3 _ g) _ _ q r _ v (l .inv .1),
       c .before .before .before .before .before .amount .ensures .1 ∙ l .inv .2,
       λ t k.
-          turn-rising _ _ _ _ _ _ _ _ k (l .slack) _ _ (c .before .before .before .before .before .amount .ensures .0 ∙ amount-row _ _ _ _ _ _ _ _ k (l .slack) _ (l .inv .2)) refl
+          turn-rising k (l .slack) _ _ (c .before .before .before .before .before .amount .ensures .0 ∙ amount-row k (l .slack) _ (l .inv .2)) refl
           (l .inv .3 t k) _ _ q r _ v,
     )
 
--- src/slack.rt:106:1
 returns : tie.Need-returns Inv-loop μ-loop
 returns c =
     λ t k.
     let l = c .before .before .before .before .before .before .before .before .loop in
     let v = c .before .raise .ensures in
-    turn-over _ _ _ _ _ _ _ _ k (l .slack) _ _ (c .before .before .before .before .before .amount .ensures .0 ∙ amount-row _ _ _ _ _ _ _ _ k (l .slack) _ (l .inv .2)) refl
+    turn-over k (l .slack) _ _ (c .before .before .before .before .before .amount .ensures .0 ∙ amount-row k (l .slack) _ (l .inv .2)) refl
     (l .inv .3 t k) _ _ (c .before .before .before .before .before .before .before .before .before .before .before .quotients .ensures) (c .before .before .before .before .before .before .before .before .before .before .remainders .ensures) _ (v .0) (l .inv .1)
     (sym (not-true _ (c .if1 .taken)) ∙ v .1)
 
