@@ -24,10 +24,9 @@ use Rattle.analysis.proofs.slack_test.untested.Reads as untested-reads
 use Rattle.slack.proofs.vector.first_uncovered.Reads as first-uncovered-reads
 
 -- as many are chosen at first as are counted
-starts : (s : TaskSet) (shares budgets offsets : List ℕ) (h surpluses m n : ℕ) → ArraysOf s shares budgets offsets h surpluses m n →
+starts : {s : TaskSet} {shares budgets offsets : List ℕ} {h surpluses m n : ℕ} → ArraysOf s shares budgets offsets h surpluses m n →
     (chosen : List Bool) → chosen ≡ tab (cut (m - 1) (λ i. true) false) 16 → count (members chosen) n ≡ m - 1
-starts s shares budgets offsets h surpluses m n g chosen e =
-    rw e (counted-first (m - 1) n (omega (arith, more s shares budgets offsets h surpluses m n g)) (tasks-high s shares budgets offsets h surpluses m n g))
+starts {m = m} {n = n} g chosen e = rw e (counted-first (m - 1) n (omega (arith, more g)) (tasks-high g))
 
 tidy-slack-requires : tie.Need-tidy-slack-requires
 tidy-slack-requires c κs = tasks-high (c .pre .1)
