@@ -10,7 +10,7 @@ use slack::vector::search;
 use tasks::Answer;
 use tasks::Plan;
 use tasks::refusal;
-use tasks::tidy::tidy_slack;
+use tidy::tidy_slack;
 ghost use mathlib.Core.Path.{_≡_};
 ghost use Rattle.tasks.specs.TaskSet.{TaskSet};
 ghost use Rattle.slack.specs.Arrays.{ArraysOf};

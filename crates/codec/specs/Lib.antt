@@ -1,8 +1,5 @@
 pub mod Bytes
 pub mod Table
-pub mod Counted
 pub mod ByteLaws
 pub mod StoreLaws
 pub mod TaskLaws
-pub mod LoadLaws
-pub mod CountedLaws

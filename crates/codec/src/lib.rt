@@ -1,5 +1,4 @@
-// A table's bytes: numbers, the entry of a task, the places of the sections, and the reader. Document 01, "Bytes of a show table".
+// Numbers, the entry of a task and the places of the sections in a table's bytes. Document 01, "Bytes of a show table".
 pub mod entry;
 pub mod numbers;
 pub mod places;
-pub mod read;

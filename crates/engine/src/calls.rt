@@ -13,7 +13,7 @@ use tasks::Answer;
 use tasks::Plan;
 use tasks::limits;
 use tasks::refusal;
-use tasks::tidy::tidied;
+use tidy::tidied;
 ghost use mathlib.Core.Path.{_≡_};
 ghost use Rattle.machine.specs.Machine.{within};
 ghost use Rattle.state.specs.State.{lastOf};

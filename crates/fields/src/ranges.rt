@@ -5,10 +5,9 @@ use tasks::limits;
 use tasks::refusal;
 ghost use mathlib.Core.Path.{_≡_};
 ghost use Prim.Native.Nat.{_≤_};
-ghost use Rattle.laws.specs.First.{first};
 ghost use Rattle.tasks.specs.Content.{taskOf};
 ghost use Rattle.tasks.specs.Tests.{outside, badSeparation, badBudget, badOffset};
-ghost use Rattle.fields.specs.Stages.{fieldsTest};
+ghost use Rattle.fields.specs.Stages.{metBy, fieldsTest};
 
 fn is_outside(low: u32, high: u32, x: u32) -> bool
     ensures { λ r. ⌜ r ≡ outside low high x ⌝ }
@@ -40,75 +39,44 @@ fn bad_offset(task: Task) -> bool
     task.separation < task.offset
 }
 
-fn first_separation(task: [Task; 16], tasks: usize) -> usize
-    requires { ⌜ tasks ≤ 16 ⌝ }
-    ensures { λ r. ⌜ r ≡ first (λ i. badSeparation (taskOf task i)) tasks ⌝ }
+// No number is this large: the number of a task that meets none.
+const NOTHING: u8 = 255;
+
+// The first of 6, 7 and 8 that a task meets.
+fn met(task: Task) -> u8
+    ensures { λ r. ⌜ r ≡ metBy task ⌝ }
 {
-    let mut i = 0;
-    while i < tasks {
-        let t = task[i];
-        if bad_separation(t) {
-            return i;
-        }
-        i += 1;
+    if bad_separation(task) {
+        return refusal::SEPARATION_OUTSIDE;
     }
-    tasks
+    if bad_budget(task) {
+        return refusal::BUDGET_OUTSIDE;
+    }
+    if bad_offset(task) {
+        return refusal::OFFSET_TOO_LARGE;
+    }
+    NOTHING
 }
 
-fn first_budget(task: [Task; 16], tasks: usize) -> usize
-    requires { ⌜ tasks ≤ 16 ⌝ }
-    ensures { λ r. ⌜ r ≡ first (λ i. badBudget (taskOf task i)) tasks ⌝ }
-{
-    let mut i = 0;
-    while i < tasks {
-        let t = task[i];
-        if bad_budget(t) {
-            return i;
-        }
-        i += 1;
-    }
-    tasks
-}
-
-fn first_offset(task: [Task; 16], tasks: usize) -> usize
-    requires { ⌜ tasks ≤ 16 ⌝ }
-    ensures { λ r. ⌜ r ≡ first (λ i. badOffset (taskOf task i)) tasks ⌝ }
-{
-    let mut i = 0;
-    while i < tasks {
-        let t = task[i];
-        if bad_offset(t) {
-            return i;
-        }
-        i += 1;
-    }
-    tasks
-}
-
+// One scan, which keeps the least number met and the first task that meets it.
 pub fn task_ranges(task: [Task; 16], tasks: usize) -> Answer
     requires { ⌜ tasks ≤ 16 ⌝ }
     ensures { λ r. ⌜ r ≡ fieldsTest (taskOf task) tasks ⌝ }
 {
-    let bad = first_separation(task, tasks);
-    if bad < tasks {
-        return Answer::Refused {
-            number: refusal::SEPARATION_OUTSIDE,
-            index: bad as u16,
-        };
+    let mut number = NOTHING;
+    let mut index = 0u16;
+    let mut i = 0;
+    while i < tasks {
+        let t = task[i];
+        let next = met(t);
+        if next < number {
+            number = next;
+            index = i as u16;
+        }
+        i += 1;
     }
-    let bad = first_budget(task, tasks);
-    if bad < tasks {
-        return Answer::Refused {
-            number: refusal::BUDGET_OUTSIDE,
-            index: bad as u16,
-        };
+    if number == NOTHING {
+        return Answer::Accepted;
     }
-    let bad = first_offset(task, tasks);
-    if bad < tasks {
-        return Answer::Refused {
-            number: refusal::OFFSET_TOO_LARGE,
-            index: bad as u16,
-        };
-    }
-    Answer::Accepted
+    Answer::Refused { number, index }
 }

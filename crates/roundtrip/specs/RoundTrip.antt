@@ -30,7 +30,7 @@ use Rattle.codec.specs.Bytes.{byte}
 use Rattle.codec.specs.ByteLaws.{Bytes}
 use Rattle.tasks.specs.ContentLaws.{Fits, fits-back, plan-fits}
 use Rattle.roundtrip.specs.SectionLaws.{Parts, verdict-parts, parts-verdict, table-parts, labels-again, tasks-again, slack-again, table-fits}
-use Rattle.table.specs.WriteLaws.{length-bytes}
+use Rattle.sections.specs.WriteLaws.{length-bytes}
 use Rattle.roundtrip.specs.BackLaws.{back-cores, back-tasks, back-offers, read-back}
 
 module _ (t : List ℕ) (a : verdict t ≡ Accepted) where

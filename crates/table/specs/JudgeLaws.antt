@@ -24,7 +24,7 @@ use Rattle.analysis.specs.SlackTestLaws.{passed-on}
 use Rattle.analysis.specs.JudgingLaws.{judging, judging-tests, judging-found, judging-limits, judging-count}
 use Rattle.table.specs.declared.Judgement.{Judgement}
 use Rattle.codec.specs.Table.{coreCount, taskCount, slackCount, taskSetIn, contentIn, test1, test2, verdict}
-use Rattle.codec.specs.Counted.{countsTest}
+use Rattle.reader.specs.Counted.{countsTest}
 use Rattle.tasks.specs.ContentLaws.{content-ext, withSlack}
 use Rattle.table.specs.Judged.{refusedWith, judged}
 use Rattle.table.specs.LoadedLaws.{loaded, tasks-in, labels-in, slack-in, limits-all}

@@ -1,5 +1,4 @@
 pub mod Judged
-pub mod WriteLaws
 pub mod LoadedLaws
 pub mod JudgeLaws
 pub mod PartLaws

@@ -19,7 +19,7 @@ use Rattle.tasks.specs.LimitsLaws.{limitTests}
 use Rattle.codec.specs.Bytes.{byte, number}
 use Rattle.codec.specs.Table.{taskSize, tasksFrom, slackFrom, coreCount, taskCount, tasksAt, slackCount, slackAt, taskIn, taskSetIn, contentIn}
 use Rattle.tasks.specs.ContentLaws.{plan-ext, withSlack, tasks-back, labels-back, slack-back}
-use Rattle.codec.specs.CountedLaws.{CountsIn}
+use Rattle.reader.specs.CountedLaws.{CountsIn}
 
 unfoldable pub loaded : List ℕ → Plan
 loaded t = withSlack (planOf (contentIn t)) (tab (cut (slackCount t) (λ i. number 4 t (slackAt t + 4 * i)) 0) 16)

@@ -14,7 +14,7 @@ use Rattle.tasks.specs.AnswerLaws.{firstMet-passed}
 use Rattle.table.specs.declared.Judgement.{Judgement}
 use Rattle.codec.specs.Table.{slackFrom, countedLength, slackAt, taskSetIn, contentIn, test1, test2, verdict}
 use Rattle.table.specs.Judged.{judged, slackPart}
-use Rattle.codec.specs.CountedLaws.{right-length}
+use Rattle.reader.specs.CountedLaws.{right-length}
 
 module _ (t : List ℕ) (j : Judgement) (e : j ≡ judged t) where
   verdict-is : j .answer ≡ verdict t

@@ -2,7 +2,6 @@
 use tasks::Answer;
 use tasks::Plan;
 
-mod put;
 mod verdict;
 mod writer;
 

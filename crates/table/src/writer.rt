@@ -1,6 +1,6 @@
 // The writer: a plan handed in unchecked, to a table's bytes.
 use crate::Written;
-use crate::put::put_plan;
+use sections::put_plan;
 use analysis::slack_count;
 use analysis::test;
 use codec::places::table_length;

@@ -1,7 +1,6 @@
 // The records that every layer shares: a task, a plan, and the answer of a test. What document 01 says of them is in specs/.
 pub mod limits;
 pub mod refusal;
-pub mod tidy;
 
 ghost use mathlib.Core.Path.{_≡_};
 ghost use Rattle.tasks.specs.Content.{noTask, zeroTask, zeroPlan};

@@ -19,7 +19,7 @@ use Rattle.analysis.proofs.slack_test.offered.Reads as reads
 use Rattle.analysis.proofs.slack_test.offered.Lts as lts
 use Rattle.slack.proofs.amount.amount.Reads as amount-reads
 use Rattle.slack.proofs.amount.first_counted.Reads as first-counted-reads
-use Rattle.tasks.proofs.tidy.tidy_slack.Reads as tidy-slack-reads
+use Rattle.tidy.proofs.tidy_slack.Reads as tidy-slack-reads
 use Rattle.analysis.proofs.slack_test.untested.Reads as untested-reads
 use Rattle.slack.proofs.vector.first_uncovered.Reads as first-uncovered-reads
 

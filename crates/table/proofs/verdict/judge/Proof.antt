@@ -1,7 +1,7 @@
 -- `table::verdict::judge` meets its contract.
 use mathlib.Core.Path.{_∙_, ap}
-use Rattle.codec.specs.Counted.{answerOfCounts}
-use Rattle.codec.specs.CountedLaws.{counted-accepted, counted-refused}
+use Rattle.reader.specs.Counted.{answerOfCounts}
+use Rattle.reader.specs.CountedLaws.{counted-accepted, counted-refused}
 use Rattle.table.specs.Judged.{refusedWith}
 use Rattle.table.specs.JudgeLaws.{counts-refused, judged-from}
 use borrow.Author.Needs.{needs}

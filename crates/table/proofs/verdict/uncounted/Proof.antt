@@ -1,5 +1,5 @@
 -- `table::verdict::uncounted` meets its contract.
-use Rattle.codec.specs.Counted.{answerOfCounts}
+use Rattle.reader.specs.Counted.{answerOfCounts}
 use mathlib.Core.Path.{ap, sym}
 use borrow.Author.Needs.{needs}
 use Rattle.table.proofs.verdict.uncounted.Statement.{statement}

@@ -3,7 +3,7 @@ use native.Mathlib.Omega.{arith}
 use mathlib.Core.Path.{refl, sym, _∙_}
 use borrow.Author.Needs.{needs}
 use Rattle.table.specs.declared.Written.the-variants.{Length, Refused as NotWritten}
-use Rattle.table.specs.WriteLaws.{length-plan}
+use Rattle.sections.specs.WriteLaws.{length-plan}
 use Rattle.table.specs.WriterLaws.{write-refused, plan-few, write-short, write-done}
 use Rattle.table.proofs.writer.write.Statement.{statement}
 use Rattle.table.proofs.writer.write.Tie as tie

@@ -1,0 +1,91 @@
+-- How the stage's answer follows from what its code has seen, and what its caller knows by it.
+--     core-count, task-count, slack-count    the counts, from the bytes that the code has read
+--     counted-edition    the first byte is absent or not 1
+--     counted-length     it is 1, and the length is not what the counts give
+--     counted-read       it is 1, and the length is what they give
+--     CountsIn           three counts are the table's, and it meets neither 1 nor 2
+--     counted-accepted, counted-refused    what each case of the answer says of the table
+--     right-length       a table that doesn't meet 2 has the length that its counts give
+use Prim.Native.Nat.{ℕ}
+use mathlib.Core.Path.{_≡_, sym, ap, _∙_}
+use mathlib.Core.List.{List, [], _∷_}
+use lib.ListN.{length}
+use borrow.Author.Tests.{eq-eqb, ne-eqb, eqb-true, not-false}
+use Rattle.tasks.specs.declared.Answer.the-variants.{Accepted, Refused}
+use Rattle.tasks.specs.Tests.{firstMet}
+use Rattle.tasks.specs.AnswerLaws.{refuse-passed, firstMet-passed}
+use Rattle.reader.specs.declared.Counts.{Counts}
+use Rattle.reader.specs.declared.Counts.the-variants.{Read, Refused as NotRead}
+use Rattle.codec.specs.Bytes.{byte}
+use Rattle.codec.specs.Table.{tasksFrom, slackFrom, tableLength, countedLength, coreCount, taskCount, slackCount, test1, test2}
+use Rattle.reader.specs.Counted.{countsTest, answerOfCounts, coresOfCounts, tasksOfCounts, offersOfCounts, Counted}
+
+pub core-count : (t : List ℕ) (m : ℕ) → m ≡ byte t 1 → coreCount t ≡ m
+unfolding coreCount
+core-count t m e = sym e
+
+pub task-count : (t : List ℕ) (m n : ℕ) → m ≡ byte t 1 → n ≡ byte t (tasksFrom m) → taskCount t ≡ n
+unfolding taskCount
+task-count t m n e f = rw (core-count t m e) (sym f)
+
+pub slack-count : (t : List ℕ) (m n x : ℕ) → m ≡ byte t 1 → n ≡ byte t (tasksFrom m) → x ≡ byte t (slackFrom m n) → slackCount t ≡ x
+unfolding slackCount
+slack-count t m n x e f g = rw (core-count t m e, task-count t m n e f) (sym g)
+
+module _ (t : List ℕ) (r : Counts) where
+  stopped : (k i : ℕ) → countsTest t ≡ Refused k i → r ≡ NotRead k i → Counted t r
+  stopped k i e q = rw q (record { answer = sym e; cores = rw e; tasks = rw e; offers = rw e })
+
+  pub counted-edition : (byte t 0 ≡ 1 → ⊥) → r ≡ NotRead 1 0 → Counted t r
+  unfolding countsTest firstMet test1
+  counted-edition h = stopped 1 0 (rw (ne-eqb (byte t 0) 1 h))
+
+  pub counted-length : byte t 0 ≡ 1 → (length t ≡ countedLength t → ⊥) → r ≡ NotRead 2 0 → Counted t r
+  unfolding countsTest firstMet test1 test2
+  counted-length e h = stopped 2 0 (rw (eq-eqb (byte t 0) 1 e, ne-eqb (length t) (countedLength t) h))
+
+  pub counted-read :
+      (m n x : ℕ) → byte t 0 ≡ 1 → coreCount t ≡ m → taskCount t ≡ n → slackCount t ≡ x → length t ≡ tableLength m n x
+      → r ≡ Read m n x
+      → Counted t r
+  unfolding countsTest firstMet test1 test2
+  counted-read m n x e em en ex l q =
+      rw q (record { answer = sym passed; cores = rw (passed, em); tasks = rw (passed, en); offers = rw (passed, ex) })
+    where
+      passed : countsTest t ≡ Accepted
+      passed = rw (eq-eqb (byte t 0) 1 e, eq-eqb (length t) (countedLength t) (rw (em, en, ex) l))
+
+pub right-length : (t : List ℕ) → test2 t ≡ Accepted → length t ≡ countedLength t
+unfolding test2
+right-length t e = eqb-true _ _ (not-false _ (refuse-passed 2 _ e))
+
+pub record CountsIn (t : List ℕ) (m n x : ℕ) : Type 0 where
+  pub passed : countsTest t ≡ Accepted
+  pub cores : m ≡ coreCount t
+  pub tasks : n ≡ taskCount t
+  pub offers : x ≡ slackCount t
+  pub long : length t ≡ tableLength m n x
+
+module _ (t : List ℕ) (r : Counts) (g : Counted t r) where
+  pub counted-accepted : (m n x : ℕ) → r ≡ Read m n x → CountsIn t m n x
+  unfolding countsTest
+  counted-accepted m n x e =
+      record { passed = p; cores = em; tasks = en; offers = ex; long = rw (em, en, ex) (right-length t second) }
+    where
+      p : countsTest t ≡ Accepted
+      p = sym (g .answer) ∙ ap answerOfCounts e
+
+      em : m ≡ coreCount t
+      em = sym (ap coresOfCounts e) ∙ g .cores ∙ rw p
+
+      en : n ≡ taskCount t
+      en = sym (ap tasksOfCounts e) ∙ g .tasks ∙ rw p
+
+      ex : x ≡ slackCount t
+      ex = sym (ap offersOfCounts e) ∙ g .offers ∙ rw p
+
+      second : test2 t ≡ Accepted
+      second = firstMet-passed (test2 t) [] (firstMet-passed (test1 t) (test2 t ∷ []) p .1) .0
+
+  pub counted-refused : (k i : ℕ) → r ≡ NotRead k i → countsTest t ≡ Refused k i
+  counted-refused k i e = sym (g .answer) ∙ ap answerOfCounts e

@@ -1,0 +1,124 @@
+// The reader: its one stage, which finds the three counts or refuses, and the loading of each section's entries, which cannot refuse.
+use codec::entry::TASK_SIZE;
+use codec::entry::task_at;
+use codec::numbers::count_at;
+use codec::numbers::number4;
+use codec::places::slack_from;
+use codec::places::table_length;
+use codec::places::tasks_from;
+use tasks::Task;
+use tasks::no_task;
+use tasks::refusal;
+ghost use mathlib.Core.Path.{_≡_};
+ghost use Prim.Native.Nat.{_+_, _*_, _≤_, min};
+ghost use lib.ListN.{length};
+ghost use Rattle.laws.specs.Tab.{tab, cut};
+ghost use Rattle.tasks.specs.Content.{noTask};
+ghost use Rattle.codec.specs.Bytes.{byte, number};
+ghost use Rattle.codec.specs.Table.{taskSize, taskIn};
+ghost use Rattle.reader.specs.Counted.{Counted};
+
+// What the stage finds: the counts, which give exactly the table's length, or refusal 1 or 2.
+pub enum Counts {
+    Read {
+        cores: usize,
+        tasks: usize,
+        offers: usize,
+    },
+    Refused {
+        number: u8,
+        index: u16,
+    },
+}
+
+fn refused(number: u8) -> Counts
+    ensures { λ r. ⌜ r ≡ Counts.Refused number 0 ⌝ }
+{
+    Counts::Refused { number, index: 0 }
+}
+
+// Refusals 1 and 2, over any bytes.
+pub fn read_counts(t: &[u8]) -> Counts
+    ensures { λ r. ⌜ Counted (now (t .entry)) r ⌝ }
+{
+    if t.len() < 1 {
+        return refused(refusal::EDITION_UNKNOWN);
+    }
+    if count_at(t, 0) != 1 {
+        return refused(refusal::EDITION_UNKNOWN);
+    }
+    if t.len() < 2 {
+        return refused(refusal::LENGTH_WRONG);
+    }
+    let cores = count_at(t, 1);
+    let second = tasks_from(cores);
+    if t.len() <= second {
+        return refused(refusal::LENGTH_WRONG);
+    }
+    let tasks = count_at(t, second);
+    let third = slack_from(cores, tasks);
+    if t.len() <= third {
+        return refused(refusal::LENGTH_WRONG);
+    }
+    let offers = count_at(t, third);
+    if t.len() != table_length(cores, tasks, offers) {
+        return refused(refusal::LENGTH_WRONG);
+    }
+    Counts::Read {
+        cores,
+        tasks,
+        offers,
+    }
+}
+
+fn lesser(a: usize, b: usize) -> usize
+    ensures { λ r. ⌜ r ≡ min a b ⌝ }
+{
+    if a < b { a } else { b }
+}
+
+// The labels of `cores` entries from the third byte on, zeros in the places past them.
+pub fn load_labels(t: &[u8], cores: usize) -> [u8; 8]
+    requires { ⌜ 2 + cores ≤ length (now t) ⌝ }
+    ensures { λ r. ⌜ r ≡ tab (cut cores (λ i. byte (now (t .entry)) (2 + i)) 0) 8 ⌝ }
+{
+    let mut labels = [0; 8];
+    let end = lesser(cores, 8);
+    let mut i = 0;
+    while i < end {
+        labels[i] = t[2 + i];
+        i += 1;
+    }
+    labels
+}
+
+// The tasks of `count` entries from `from` on, zeros in the places past them.
+pub fn load_tasks(t: &[u8], from: usize, count: usize) -> [Task; 16]
+    requires { ⌜ from + taskSize * count ≤ length (now t) ⌝ }
+    ensures { λ r. ⌜ r ≡ tab (cut count (λ i. taskIn (now (t .entry)) (from + taskSize * i)) noTask) 16 ⌝ }
+{
+    let none = no_task();
+    let mut tasks = [none; 16];
+    let end = lesser(count, 16);
+    let mut i = 0;
+    while i < end {
+        tasks[i] = task_at(t, from + TASK_SIZE * i);
+        i += 1;
+    }
+    tasks
+}
+
+// The slack of `count` entries from `from` on, zeros in the places past them.
+pub fn load_slack(t: &[u8], from: usize, count: usize) -> [u32; 16]
+    requires { ⌜ from + 4 * count ≤ length (now t) ⌝ }
+    ensures { λ r. ⌜ r ≡ tab (cut count (λ i. number 4 (now (t .entry)) (from + 4 * i)) 0) 16 ⌝ }
+{
+    let mut slack = [0; 16];
+    let end = lesser(count, 16);
+    let mut i = 0;
+    while i < end {
+        slack[i] = number4(t, from + 4 * i);
+        i += 1;
+    }
+    slack
+}

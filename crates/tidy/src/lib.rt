@@ -1,0 +1,73 @@
+// Rows and plans cut at their used places: zeros beyond.
+use tasks::Plan;
+use tasks::Task;
+use tasks::no_task;
+ghost use mathlib.Core.Path.{_≡_};
+ghost use Prim.Native.Nat.{_≤_};
+ghost use Rattle.laws.specs.Tab.{tab, cut};
+ghost use Rattle.tasks.specs.TaskSet.{row};
+ghost use Rattle.tasks.specs.Content.{noTask, taskOf, tidy};
+
+fn tidy_labels(labels: &[u8; 8], cores: usize) -> [u8; 8]
+    requires { ⌜ cores ≤ 8 ⌝ }
+    ensures { λ r. ⌜ r ≡ tab (cut cores (row (now (labels .entry))) 0) 8 ⌝ }
+{
+    let mut out = [0u8; 8];
+    let mut i = 0;
+    while i < cores {
+        out[i] = labels[i];
+        i += 1;
+    }
+    out
+}
+
+pub fn tidy_slack(slack: &[u32; 16], tasks: usize) -> [u32; 16]
+    requires { ⌜ tasks ≤ 16 ⌝ }
+    ensures { λ r. ⌜ r ≡ tab (cut tasks (row (now (slack .entry))) 0) 16 ⌝ }
+{
+    let mut out = [0u32; 16];
+    let mut i = 0;
+    while i < tasks {
+        out[i] = slack[i];
+        i += 1;
+    }
+    out
+}
+
+fn tidy_tasks(task: [Task; 16], tasks: usize) -> [Task; 16]
+    requires { ⌜ tasks ≤ 16 ⌝ }
+    ensures { λ r. ⌜ r ≡ tab (cut tasks (taskOf task) noTask) 16 ⌝ }
+{
+    let mut out = [no_task(); 16];
+    let mut i = 0;
+    while i < tasks {
+        let t = task[i];
+        out[i] = t;
+        i += 1;
+    }
+    out
+}
+
+// "Core and loop places that a plan doesn't use are handed back as zeros, in a newly opened state too"
+pub fn tidied(plan: Plan) -> Plan
+    requires { ⌜ (plan .cores ≤ 8) × (1 ≤ plan .tasks) × (plan .tasks ≤ 16) ⌝ }
+    ensures { λ r. ⌜ r ≡ tidy plan ⌝ }
+{
+    let offered = plan.offered;
+    let cores = plan.cores;
+    let tasks = plan.tasks;
+    let labels = plan.labels;
+    let task = plan.task;
+    let slack = plan.slack;
+    let labels = tidy_labels(&labels, cores);
+    let task = tidy_tasks(task, tasks);
+    let slack = tidy_slack(&slack, tasks);
+    Plan {
+        offered,
+        cores,
+        tasks,
+        labels,
+        task,
+        slack,
+    }
+}
