@@ -1,8 +1,9 @@
 // The calls on a state that are offered to others: each tests what it is handed, and answers for every input.
-use crate::advance::admit;
-use crate::advance::tick;
 use crate::empty::empty;
 use crate::empty::zeros;
+use admission::admission_test;
+use advance::admit;
+use advance::tick;
 use analysis::test;
 use soundness::sound;
 use state::Opened;
@@ -15,10 +16,7 @@ use tasks::limits;
 use tasks::refusal;
 use tidy::tidied;
 ghost use mathlib.Core.Path.{_≡_};
-ghost use Rattle.machine.specs.Machine.{within};
-ghost use Rattle.state.specs.State.{lastOf};
 ghost use Rattle.state.specs.Calls.{openOf, stepTests, releaseOf, stepOf};
-ghost use Rattle.state.specs.CallLaws.{admission};
 
 // 18 and 19.
 fn step_test(state: State) -> Answer
@@ -33,55 +31,6 @@ fn step_test(state: State) -> Answer
     if state.clock == limits::CLOCK_END {
         return Answer::Refused {
             number: refusal::CLOCK_AT_ITS_END,
-            index: 0,
-        };
-    }
-    Answer::Accepted
-}
-
-// "The loop's last taken release is less than T ticks ago."
-fn too_soon(separation: u32, clock: u32, flag: bool, last: u32) -> bool
-    ensures { λ r. ⌜ r ≡ within separation clock (lastOf flag last) ⌝ }
-{
-    if !flag {
-        return false;
-    }
-    (clock as u64) < last as u64 + separation as u64
-}
-
-// 21, 22 and 23, for a task of the table.
-pub fn admission_test(
-    separation: u32,
-    budget: u32,
-    clock: u32,
-    demand: u32,
-    jobs: usize,
-    flag: bool,
-    last: u32,
-) -> Answer
-    ensures { λ r. ⌜ r ≡ admission separation budget clock demand jobs flag last ⌝ }
-{
-    if demand < 1 {
-        return Answer::Refused {
-            number: refusal::DEMAND_OUTSIDE,
-            index: 0,
-        };
-    }
-    if budget < demand {
-        return Answer::Refused {
-            number: refusal::DEMAND_OUTSIDE,
-            index: 0,
-        };
-    }
-    if too_soon(separation, clock, flag, last) {
-        return Answer::Refused {
-            number: refusal::RELEASE_TOO_SOON,
-            index: 0,
-        };
-    }
-    if limits::JOBS_HIGH <= jobs {
-        return Answer::Refused {
-            number: refusal::NO_PLACE_FREE,
             index: 0,
         };
     }

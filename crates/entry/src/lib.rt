@@ -1,6 +1,6 @@
 // One entry of a log: up to its tick, and its release handed over.
 use choice::head_key;
-use engine::admission_test;
+use admission::admission_test;
 use heads::insert;
 use logs::read::release_at;
 use logs::report::put_refused;

@@ -1,4 +1,5 @@
--- Steps one after another: what the code's loop has after some turns.
+-- What is left behind, and steps one after another: what the code's loop has after some turns.
+--     tasks-left                 the columns of a state's tasks are the fields that are left behind
 --     SoundShape                 the state is sound, and its arrays have their lengths
 --     step-kept            a step that isn't refused keeps that; tick-kept: so does a tick
 --     steps-next           a tick is the next step; steps-end: at the clock's end the rest of the steps are refused 19
@@ -14,6 +15,8 @@ use native.Mathlib.Numerals.{add-one}
 use native.Mathlib.Omega.{arith}
 use lib.ListN.{replicate}
 use borrow.Author.Tests.{eq-eqb, ne-eqb}
+use Rattle.laws.specs.TabLaws.{cut-all}
+use Rattle.tasks.specs.declared.Task.{Task}
 use Rattle.tasks.specs.declared.Answer.{Answer}
 use Rattle.tasks.specs.declared.Answer.the-variants.{Accepted, Refused}
 use Rattle.tasks.specs.Tests.{firstMet, unlessRefused}
@@ -27,7 +30,14 @@ use Rattle.state.specs.CallLaws.{step-passed, step-refused, step-taken}
 use Rattle.state.specs.Fit.{Shaped}
 use Rattle.state.specs.FitLaws.{sound-fit, fit-sound, shaped}
 use Rattle.state.specs.KeptLaws.{ticked-fit}
-use Rattle.trial.specs.Trials.{answerCode, followed, TasksLeft, PlanLeft, StateLeft, ReleaseLeaves, StepsLeave}
+use Rattle.fields.specs.declared.columns.Columns.{Columns}
+use Rattle.fields.specs.Columns.{columnsOf}
+use Rattle.trial.specs.Trials.{answerCode, followed, separationsOf, budgetsOf, offsetsOf, TasksLeft, PlanLeft, StateLeft, ReleaseLeaves, StepsLeave}
+
+pub tasks-left : (l : List Task) (r : Columns) → r ≡ columnsOf 16 l → TasksLeft l (r .separation) (r .budget) (r .offset)
+unfolding TasksLeft separationsOf budgetsOf offsetsOf columnsOf
+tasks-left l r e =
+    (ap (λ (c : Columns). c .separation) e ∙ cut-all 16 _ 0, ap (λ (c : Columns). c .budget) e ∙ cut-all 16 _ 0, ap (λ (c : Columns). c .offset) e ∙ cut-all 16 _ 0)
 
 pub record SoundShape (s : State) : Type 0 where
   pub shape : Shaped s

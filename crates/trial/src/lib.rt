@@ -1,7 +1,8 @@
 // The engine's calls as C functions for the Rust tests and the benchmark. They are no part of the product: the state crosses the border as
 // its fields, each array behind a pointer of its own, so that a test can hand over any state and see each field that comes back.
+use advance::tick;
 use engine::step;
-use engine::tick;
+use fields::columns::split;
 use state::State;
 use state::Stepped;
 use tasks::Answer;
@@ -11,14 +12,7 @@ use tasks::no_task;
 use tasks::refusal;
 ghost use mathlib.Core.Path.{_≡_};
 ghost use Rattle.state.specs.Calls.{releaseOf};
-ghost use Rattle.trial.specs.Trials.{answerCode, separationsOf, budgetsOf, offsetsOf, stepsOf, tasksIn, planIn, stateIn, TasksLeft, PlanLeft, StateLeft, ReleaseLeaves, StepsLeave};
-
-// A plan's tasks, field by field.
-struct Columns {
-    separation: [u32; 16],
-    budget: [u32; 16],
-    offset: [u32; 16],
-}
+ghost use Rattle.trial.specs.Trials.{answerCode, stepsOf, tasksIn, planIn, stateIn, TasksLeft, PlanLeft, StateLeft, ReleaseLeaves, StepsLeave};
 
 // An answer as one number: 0, or 4,294,967,296 × refusal number + index.
 fn code(answer: Answer) -> u64
@@ -46,27 +40,6 @@ fn entries(separation: &[u32; 16], budget: &[u32; 16], offset: &[u32; 16]) -> [T
         i += 1;
     }
     task
-}
-
-fn columns_of(task: [Task; 16]) -> Columns
-    ensures { λ r. ⌜ (r .separation ≡ separationsOf task) × (r .budget ≡ budgetsOf task) × (r .offset ≡ offsetsOf task) ⌝ }
-{
-    let mut separation = [0u32; 16];
-    let mut budget = [0u32; 16];
-    let mut offset = [0u32; 16];
-    let mut i = 0;
-    while i < 16 {
-        let t = task[i];
-        separation[i] = t.separation;
-        budget[i] = t.budget;
-        offset[i] = t.offset;
-        i += 1;
-    }
-    Columns {
-        separation,
-        budget,
-        offset,
-    }
 }
 
 // A step, and as many ticks after it as `more` says. Only the step tests whether the state is sound: each later state is so by proof.
@@ -163,7 +136,7 @@ fn put_tasks(
 {
     let plan = state.plan;
     let task = plan.task;
-    let columns = columns_of(task);
+    let columns = split(task, 16);
     let separation_after = columns.separation;
     let budget_after = columns.budget;
     let offset_after = columns.offset;

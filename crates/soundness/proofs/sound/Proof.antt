@@ -1,5 +1,5 @@
 -- `soundness::sound` meets its contract.
-use Rattle.soundness.specs.SoundTests.{sound-parts}
+use Rattle.clauses.specs.SoundTests.{sound-parts}
 use borrow.Author.Tests.{le-leb, lt-leb, not-true, not-false}
 use mathlib.Core.Path.{sym, _∙_}
 use borrow.Author.Needs.{needs}

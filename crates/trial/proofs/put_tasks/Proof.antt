@@ -1,15 +1,14 @@
 -- `trial::put_tasks` meets its contract.
-use Rattle.trial.specs.Trials.{TasksLeft}
 use borrow.Author.Needs.{needs}
+use Rattle.trial.specs.TrialLaws.{tasks-left}
 use Rattle.trial.proofs.put_tasks.Statement.{statement}
 use Rattle.trial.proofs.put_tasks.Tie as tie
 
-columns-of-requires : tie.Need-columns-of-requires
-columns-of-requires c κs = search needs
+split-requires : tie.Need-split-requires
+split-requires c κs = search needs
 
 returns : tie.Need-returns
-unfolding TasksLeft
-returns c = search needs
+returns c = tasks-left _ _ (c .before .before .before .split .ensures)
 
 pub put-tasks-spec : {M : Type 1} → statement M
-put-tasks-spec = tie.close (tie.spec columns-of-requires returns)
+put-tasks-spec = tie.close (tie.spec split-requires returns)
