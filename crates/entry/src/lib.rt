@@ -1,6 +1,6 @@
 // One entry of a log: up to its tick, and its release handed over.
-use choice::head_key;
 use admission::admission_test;
+use choice::head_key;
 use heads::insert;
 use logs::read::release_at;
 use logs::report::put_refused;

@@ -10,6 +10,7 @@ use lib.ListN.{length, drop}
 use lib.Dec.{ltb, eqb}
 use Rattle.laws.specs.Tab.{tab}
 use Rattle.tasks.specs.declared.Answer.{Answer}
+use Rattle.tasks.specs.Numbers.{tickHigh}
 use Rattle.tasks.specs.Tests.{refuse, lowest, firstMet}
 use Rattle.history.specs.Log.{Entry}
 use Rattle.history.specs.Report.{Report, finished, refusal}
@@ -37,7 +38,7 @@ test14 l = refuse 14 (not (eqb (length l) (2 + 9 * entryCount l)))
 
 -- "A log tick is above 1,000,000,000."
 unfoldable pub test15 : List ℕ → Answer
-test15 l = lowest 15 (λ e. ltb 1000000000 (entryIn l e .tick)) (entryCount l)
+test15 l = lowest 15 (λ e. ltb tickHigh (entryIn l e .tick)) (entryCount l)
 
 unfoldable pub logTest : List ℕ → Answer
 logTest l = firstMet (test14 l ∷ test15 l ∷ [])

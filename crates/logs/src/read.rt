@@ -1,6 +1,7 @@
 // The reader of a release log: its count, and its entries one by one.
 use codec::numbers::count_at;
 use codec::numbers::number4;
+use tasks::limits;
 use tasks::refusal;
 ghost use mathlib.Core.Path.{_≡_};
 ghost use Prim.Native.Nat.{_+_, _*_, _≤_, _<_};
@@ -9,9 +10,6 @@ ghost use lib.Dec.{ltb};
 ghost use Rattle.laws.specs.First.{first};
 ghost use Rattle.logs.specs.LogBytes.{entryCount, entryIn};
 ghost use Rattle.logs.specs.LogStages.{EntriesRead, Releases};
-
-// "A log tick is above 1,000,000,000."
-const LAST_TICK: u32 = 1_000_000_000;
 
 // What the reader finds: the count, which gives exactly the log's length, or refusal 14 or 15.
 pub enum Entries {
@@ -41,7 +39,7 @@ fn first_late(log: &[u8], count: usize) -> usize
 {
     let mut e = 0;
     while e < count {
-        if LAST_TICK < number4(log, 2 + 9 * e) {
+        if limits::TICK_HIGH < number4(log, 2 + 9 * e) {
             return e;
         }
         e += 1;

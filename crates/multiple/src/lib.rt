@@ -8,7 +8,7 @@ ghost use Rattle.multiple.specs.Greatest.{Greatest};
 ghost use Rattle.multiple.specs.Allowed.{Pair, Separations};
 
 // "H is above 1,000,000": the largest that refusal 9 lets through.
-pub const LIMIT: u64 = 1_000_000;
+pub const MULTIPLE_HIGH: u64 = 1_000_000;
 
 // The greatest common divisor of a and b (of 0 and 0 it is 0).
 pub fn gcd(a: u64, b: u64) -> u64
@@ -53,8 +53,8 @@ pub fn common_multiple(separation: &[u32; 16], tasks: usize) -> u64
     let mut i: usize = 0;
     while i < tasks {
         h = joined(h, wide(separation[i]));
-        if LIMIT < h {
-            return LIMIT + 1;
+        if MULTIPLE_HIGH < h {
+            return MULTIPLE_HIGH + 1;
         }
         i += 1;
     }

@@ -8,6 +8,7 @@ use onward::advance;
 use table::judge;
 use tasks::Answer;
 use tasks::Plan;
+use tasks::limits;
 use tasks::refusal;
 ghost use mathlib.Core.Path.{_≡_};
 ghost use mathlib.Core.List.{List};
@@ -23,9 +24,6 @@ ghost use Rattle.running.specs.Entered.{Fitting};
 ghost use Rattle.running.specs.RunCode.{takenTo, Begun, EntersTo, Started, Runs};
 ghost use Rattle.replay.specs.declared.run.Ran.{Ran};
 ghost use Rattle.replay.specs.Ran.{ranOf, runLeaves};
-
-// No job is pending so many ticks after the last release: a bound is at most 16 × 100,000.
-const LONGEST: u32 = 1_600_000;
 
 // A log run: Accepted, with how many entries were taken and how many refused, or refused, with zeros.
 pub struct Ran {
@@ -143,7 +141,8 @@ fn run_all(
         out,
     );
     let clock = place.clock;
-    let to = clock + LONGEST;
+    // No job is pending so many ticks after the last release.
+    let to = clock + limits::BOUND_HIGH;
     advance(
         clock,
         to,

@@ -1,8 +1,8 @@
 // Tests 9 and 10, and what the slack is worked out from: H, the shares and the surpluses' sum.
+use multiple::MULTIPLE_HIGH;
 use multiple::common_multiple;
 use multiple::wide;
 use tasks::Answer;
-use tasks::limits;
 use tasks::refusal;
 ghost use mathlib.Core.Path.{_≡_};
 ghost use Prim.Native.Nat.{ℕ, _*_, _/_, _-_, _<_, _≤_};
@@ -81,7 +81,7 @@ pub fn rate(
     ensures { λ r. ⌜ Rated (setFrom cores tasks (now (separation .entry)) (now (budget .entry)) (now (offset .entry))) r ⌝ }
 {
     let multiple = common_multiple(separation, tasks);
-    if limits::MULTIPLE_HIGH < multiple {
+    if MULTIPLE_HIGH < multiple {
         return refused(refusal::HYPERPERIOD_TOO_LARGE);
     }
     let share = shares(separation, budget, multiple, tasks);

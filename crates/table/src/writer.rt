@@ -1,9 +1,9 @@
 // The writer: a plan handed in unchecked, to a table's bytes.
 use crate::Written;
-use sections::put_plan;
 use analysis::slack_count;
 use analysis::test;
 use codec::places::table_length;
+use sections::put_plan;
 use tasks::Answer;
 use tasks::Plan;
 use tasks::refusal;

@@ -1,4 +1,4 @@
-// Document 01's limits, by name.
+// Document 01's limits, by name. The largest H is `multiple::MULTIPLE_HIGH`.
 // The least and the largest number of cores.
 pub const CORES_LOW: usize = 2;
 
@@ -15,8 +15,11 @@ pub const JOBS_HIGH: usize = 16;
 // The largest separation, in ticks.
 pub const SEPARATION_HIGH: u32 = 100_000;
 
-// The largest H.
-pub const MULTIPLE_HIGH: u64 = 1_000_000;
+// The largest bound: 16 times the largest separation.
+pub const BOUND_HIGH: u32 = 1_600_000;
+
+// The largest tick of a log's entry.
+pub const TICK_HIGH: u32 = 1_000_000_000;
 
 // The last clock.
 pub const CLOCK_END: u32 = 4_000_000_000;

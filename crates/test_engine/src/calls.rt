@@ -3,13 +3,13 @@ use crate::show;
 use state::State;
 use tasks::Answer;
 use tasks::Plan;
+use test_same::plans::same_plan;
+use test_same::plans::unused_zero;
+use test_same::states::idle;
+use test_same::states::same_state;
+use test_same::states::same_table;
 use test_script::say;
 use test_states::made::zeros;
-use test_states::same::idle;
-use test_states::same::same_state;
-use test_states::same::same_table;
-use test_tables::same::same_plan;
-use test_tables::same::unused_zero;
 
 // After a call that is not refused the state is shown; after one that is, it is compared with the one handed in.
 fn left(answer: Answer, before: State, after: State) {

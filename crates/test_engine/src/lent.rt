@@ -2,9 +2,9 @@
 use crate::show;
 use state::State;
 use state::Stepped;
+use test_same::states::same_state;
+use test_same::states::same_step;
 use test_script::say;
-use test_states::same::same_state;
-use test_states::same::same_step;
 
 // The answer of a call, and the state that was lent to it.
 struct After {

@@ -1,8 +1,8 @@
 // The lines that show an answer and a state.
 use state::State;
 use tasks::Answer;
+use test_same::states::unused_zero;
 use test_script::say;
-use test_states::same::unused_zero;
 
 // A line with an answer.
 pub fn answer(words: &[u8], answer: Answer) {

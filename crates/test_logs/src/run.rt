@@ -1,9 +1,9 @@
 // A log's case: what `run_log` answers to it and what it leaves in the lent answer.
 use replay::Ran;
 use tasks::Answer;
+use test_script::buffer::FILL;
+use test_script::buffer::untouched;
 use test_script::say;
-use test_tables::same::FILL;
-use test_tables::same::untouched;
 ghost use Prim.Native.Nat.{_+_, _≤_, _<_};
 
 fn wide(byte: u8) -> u64

@@ -1,3 +1,2 @@
-// States in the making, and their comparison.
+// States in the making.
 pub mod made;
-pub mod same;

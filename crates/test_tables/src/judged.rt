@@ -1,9 +1,9 @@
 // A table's case: what `judge` and `slack_part` answer to it, and what comes of writing the plan.
-use crate::same::all_zero;
-use crate::same::unused_zero;
 use crate::written;
 use tasks::Answer;
 use tasks::Plan;
+use test_same::plans::all_zero;
+use test_same::plans::unused_zero;
 use test_script::say;
 
 // 64 bits hold the bound of any offered slack.

@@ -1,9 +1,9 @@
 // A plan's case: what `write` answers to it and what it leaves in the buffer.
-use crate::same::FILL;
-use crate::same::same_plan;
-use crate::same::untouched;
 use table::Written;
 use tasks::Plan;
+use test_same::plans::same_plan;
+use test_script::buffer::FILL;
+use test_script::buffer::untouched;
 use test_script::line::front;
 use test_script::say;
 

@@ -8,6 +8,7 @@ use state::Stepped;
 use tasks::Answer;
 use tasks::Plan;
 use tasks::Task;
+use tasks::limits;
 use tasks::no_task;
 use tasks::refusal;
 ghost use mathlib.Core.Path.{_≡_};
@@ -54,7 +55,7 @@ fn steps(state: State, more: usize) -> Stepped
     let mut k = 0;
     while k < more {
         let state = stepped.state;
-        if state.clock == 4_000_000_000 {
+        if state.clock == limits::CLOCK_END {
             return Stepped {
                 answer: Answer::Refused {
                     number: refusal::CLOCK_AT_ITS_END,

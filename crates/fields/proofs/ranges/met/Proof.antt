@@ -1,5 +1,5 @@
 -- `fields::ranges::met` meets its contract.
-use mathlib.Core.Path.{_≡_, sym, _∙_}
+use mathlib.Core.Path.{sym, _∙_}
 use borrow.Author.Needs.{needs}
 use Rattle.fields.specs.Stages.{metBy}
 use Rattle.fields.proofs.ranges.met.Statement.{statement}

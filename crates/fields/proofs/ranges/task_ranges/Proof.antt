@@ -1,7 +1,7 @@
 -- `fields::ranges::task_ranges` meets its contract; the invariant says that number and index are the answer for the tasks before i.
 use Prim.Native.Nat.{_≤_, _-_}
 use native.Mathlib.Omega.{arith}
-use mathlib.Core.Path.{_≡_, refl, sym, _∙_}
+use mathlib.Core.Path.{_≡_, sym, _∙_}
 use mathlib.Core.Logic.{⊎-elim}
 use borrow.Author.Needs.{needs}
 use Rattle.tasks.specs.Content.{taskOf, noTask}
