@@ -15,9 +15,8 @@ use Rattle.laws.specs.Tab.{tab}
 use Rattle.laws.specs.Rank.{place, ranked, largest}
 use Rattle.laws.specs.Multiple.{lcm, lcmBelow}
 use Rattle.laws.specs.Member.{member}
-use Rattle.tasks.specs.declared.Task.{Task}
 use Rattle.tasks.specs.declared.Answer.the-variants.{Accepted}
-use Rattle.tasks.specs.TaskSet.{TaskSet, hyperperiod, share, weight, surplus, counted, amount, cover, Compliant, covers, row, bound}
+use Rattle.tasks.specs.TaskSet.{TaskSet, plainTask as loop, hyperperiod, share, weight, surplus, counted, amount, cover, Compliant, covers, row, bound}
 use Rattle.tasks.specs.Content.{Content, noTask, taskOf}
 use Rattle.tasks.specs.Limits.{Limits, Bounded}
 use Rattle.tasks.specs.Tests.{lowest, firstMet, outside, badLabel, test3, test4, test5, test6, test7, test8, test9, test10, test11, test12, test13, tests}
@@ -25,10 +24,6 @@ use Rattle.tasks.specs.TestsLaws.{tests-limits, tests-compliant, tests-bounded}
 use Rattle.machine.specs.Machine.{Machine, opened, tooSoon, joined, admitted, waiting, point, before, chosen, idle, onCore, runs, served, advanced, tick, response, responses}
 use Rattle.machine.specs.Reached.{Reached, opening, release}
 use Rattle.machine.specs.Choice.{reached-tick}
-
--- a loop (T, C, Y)
-abbrev loop : ℕ → ℕ → ℕ → Task
-loop t c y = record { separation = t; budget = c; offset = y }
 
 unfoldable pub p3 : ℕ → TaskSet
 p3 y = record { cores = 2; count = 3; task = taskOf (loop 2 1 2 ∷ loop 2 1 2 ∷ loop 3 3 y ∷ []) }

@@ -22,7 +22,7 @@ use Rattle.laws.specs.Multiple.{lcm, lcmBelow}
 use Rattle.tasks.specs.declared.Task.{Task}
 use Rattle.tasks.specs.declared.Answer.{Answer}
 use Rattle.tasks.specs.declared.Answer.the-variants.{Accepted, Refused}
-use Rattle.tasks.specs.TaskSet.{hyperperiod, share, weight, surplus, counted, amount, cover, covers, needed, row, raise, same, settle, found, bound, late}
+use Rattle.tasks.specs.TaskSet.{plainTask as loop, hyperperiod, share, weight, surplus, counted, amount, cover, covers, needed, row, raise, same, settle, found, bound, late}
 use Rattle.tasks.specs.Content.{noTask}
 use Rattle.tasks.specs.Tests.{lowest, firstMet, outside, badLabel, test3, test4, test5, test6, test7, test8, test9, test10, test11, test12, test13, tests, unlessRefused}
 use Rattle.machine.specs.Machine.{opened, joined, admitted, waiting, point, before, chosen, runs, served, advanced, tick}
@@ -38,10 +38,6 @@ use Rattle.codec.specs.Bytes.{byte, number, digits, entries}
 use Rattle.decimal.specs.Decimal.{words, digitsIn, decimal, said}
 use Rattle.text.specs.Printed.{pairLine, countsLine, taskLine, refusalLine, lineOf, planText, printed}
 use Rattle.codec.specs.Table.{coreCount, taskCount, tasksAt, slackCount, slackAt, taskIn, taskSetIn, contentIn, test1, test2, verdict, taskBytes}
-
--- a loop (T, C, Y)
-abbrev loop : ℕ → ℕ → ℕ → Task
-loop t c y = record { separation = t; budget = c; offset = y }
 
 pub record Case : Type 0 where
   -- document 01's number: 1 for P1
