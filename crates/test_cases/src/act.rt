@@ -1,5 +1,4 @@
 // A line of a script: what it is about, what is done to it, and numbers.
-use crate::calls;
 use test_script::line::find;
 use test_script::line::front;
 use test_script::line::rest;
@@ -32,7 +31,7 @@ fn about(world: World, subject: &[u8], what: &[u8], words: &[u8], line: &[u8]) -
         return states::act(world, what, words);
     }
     if check::same(subject, b"call") {
-        return calls::act(world, what, words);
+        return test_calls::act(world, what, words);
     }
     unknown(world, line)
 }

@@ -1,5 +1,4 @@
 // A case for each call: what it answers, and the state that it hands back.
-use crate::show;
 use state::State;
 use tasks::Answer;
 use tasks::Plan;
@@ -19,7 +18,7 @@ fn left(answer: Answer, before: State, after: State) {
     };
     let plan = before.plan;
     let table = after.plan;
-    show::state(after);
+    test_show::state(after);
     say::fact(
         b"the table part is the one handed in",
         same_table(plan, table),
@@ -32,13 +31,13 @@ pub fn open(name: &[u8], plan: Plan) {
     let opened = engine::open(plan);
     let answer = opened.answer;
     let state = opened.state;
-    show::answer(b"open", answer);
+    test_show::answer(b"open", answer);
     let Answer::Accepted = answer else {
         say::fact(b"the state is of zeros", same_state(state, zeros()));
         return;
     };
     let table = state.plan;
-    show::state(state);
+    test_show::state(state);
     say::fact(b"the table part is the plan's", same_plan(table, plan));
     say::fact(b"its unused places are zero", unused_zero(table));
 }
@@ -49,7 +48,7 @@ pub fn release(name: &[u8], state: State, i: usize, demand: u32) -> State {
     let released = engine::release(state, i, demand);
     let answer = released.answer;
     let next = released.state;
-    show::answer(b"release", answer);
+    test_show::answer(b"release", answer);
     left(answer, state, next);
     next
 }
@@ -62,9 +61,9 @@ pub fn step(name: &[u8], state: State) -> State {
     let runs = stepped.runs;
     let responses = stepped.responses;
     let next = stepped.state;
-    show::answer(b"step", answer);
+    test_show::answer(b"step", answer);
     say::bytes(b"runs", &runs);
-    show::numbers(b"responses", &responses);
+    test_show::numbers(b"responses", &responses);
     left(answer, state, next);
     next
 }
@@ -75,11 +74,11 @@ pub fn unsound(name: &[u8], state: State) {
     say::text(name);
     let stepped = engine::step(state);
     let answer = stepped.answer;
-    show::met(b": step", answer);
+    test_show::met(b": step", answer);
     let released = engine::release(state, 0, 1);
     let answer = released.answer;
     let after = released.state;
-    show::met(b", release", answer);
+    test_show::met(b", release", answer);
     say::fact(
         b", idle and as handed in",
         idle(stepped, state) && same_state(after, state),

@@ -1,5 +1,4 @@
 // A case of `step_in_place`: what it answers and leaves in the lent state, beside what `step` hands back.
-use crate::show;
 use state::State;
 use state::Stepped;
 use test_same::states::same_state;
@@ -27,7 +26,7 @@ pub fn lent(name: &[u8], state: State) {
     let stepped = left.stepped;
     let there = left.state;
     let answer = stepped.answer;
-    show::answer(b"step in place", answer);
+    test_show::answer(b"step in place", answer);
     let other = engine::step(state);
     let next = other.state;
     say::fact(b"it answers as step does", same_step(stepped, other));

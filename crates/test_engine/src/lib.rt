@@ -1,4 +1,3 @@
 // Cases of the engine's calls: what each call answers, and the lines that a case prints.
 pub mod calls;
 pub mod lent;
-pub mod show;

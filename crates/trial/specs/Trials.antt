@@ -1,10 +1,9 @@
 -- What the functions lent to the Rust tests answer and leave behind.
 --     answerCode                 an answer as one number
 --     tasksIn, planIn, stateIn   the state whose fields were handed over
---     stepsOf s k                the answer of the last of k + 1 steps; followed: after a first one
 --     TasksLeft, PlanLeft, StateLeft    the fields that are left behind are a state's
 --     ReleaseLeaves, StepsLeave  all that a release, and steps, leave behind
-use Prim.Native.Nat.{ℕ, zero, suc, _+_, _*_}
+use Prim.Native.Nat.{ℕ, _+_, _*_}
 use mathlib.Core.Bool.{Bool}
 use mathlib.Core.Path.{_≡_}
 use mathlib.Core.List.{List}
@@ -18,7 +17,6 @@ use Rattle.tasks.specs.Tests.{numberOf, indexOf}
 use Rattle.state.specs.declared.State.{State}
 use Rattle.state.specs.declared.Released.{Released}
 use Rattle.state.specs.declared.Stepped.{Stepped}
-use Rattle.state.specs.Calls.{stepOf}
 
 unfoldable pub answerCode : Answer → ℕ
 answerCode a = 4294967296 * numberOf a + indexOf a
@@ -34,14 +32,6 @@ budgetsOf l = tab (λ i. taskOf l i .budget) 16
 
 unfoldable pub offsetsOf : List Task → List ℕ
 offsetsOf l = tab (λ i. taskOf l i .offset) 16
-
--- the answer after k more steps, each of the state that the one before it handed back
-unfoldable pub followed : Stepped → ℕ → Stepped
-followed r zero = r
-followed r (suc k) = stepOf (followed r k .state)
-
-unfoldable pub stepsOf : State → ℕ → Stepped
-stepsOf s k = followed (stepOf s) k
 
 unfoldable pub tasksIn : List ℕ → List ℕ → List ℕ → List Task
 tasksIn T C Y = tab (entry T C Y) 16

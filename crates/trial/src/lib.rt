@@ -1,19 +1,17 @@
 // The engine's calls as C functions for the Rust tests and the benchmark. They are no part of the product: the state crosses the border as
 // its fields, each array behind a pointer of its own, so that a test can hand over any state and see each field that comes back.
-use advance::tick;
-use engine::step;
 use fields::columns::split;
 use state::State;
 use state::Stepped;
 use tasks::Answer;
 use tasks::Plan;
 use tasks::Task;
-use tasks::limits;
 use tasks::no_task;
-use tasks::refusal;
+use trial_ticks::steps;
 ghost use mathlib.Core.Path.{_≡_};
 ghost use Rattle.state.specs.Calls.{releaseOf};
-ghost use Rattle.trial.specs.Trials.{answerCode, stepsOf, tasksIn, planIn, stateIn, TasksLeft, PlanLeft, StateLeft, ReleaseLeaves, StepsLeave};
+ghost use Rattle.trial_ticks.specs.Ticks.{stepsOf};
+ghost use Rattle.trial.specs.Trials.{answerCode, tasksIn, planIn, stateIn, TasksLeft, PlanLeft, StateLeft, ReleaseLeaves, StepsLeave};
 
 // An answer as one number: 0, or 4,294,967,296 × refusal number + index.
 fn code(answer: Answer) -> u64
@@ -41,35 +39,6 @@ fn entries(separation: &[u32; 16], budget: &[u32; 16], offset: &[u32; 16]) -> [T
         i += 1;
     }
     task
-}
-
-// A step, and as many ticks after it as `more` says. Only the step tests whether the state is sound: each later state is so by proof.
-fn steps(state: State, more: usize) -> Stepped
-    ensures { λ r. ⌜ r ≡ stepsOf state more ⌝ }
-{
-    let mut stepped = step(state);
-    let first = stepped.answer;
-    let Answer::Accepted = first else {
-        return stepped;
-    };
-    let mut k = 0;
-    while k < more {
-        let state = stepped.state;
-        if state.clock == limits::CLOCK_END {
-            return Stepped {
-                answer: Answer::Refused {
-                    number: refusal::CLOCK_AT_ITS_END,
-                    index: 0,
-                },
-                state,
-                runs: [255u8; 8],
-                responses: [0u32; 16],
-            };
-        }
-        stepped = tick(state);
-        k += 1;
-    }
-    stepped
 }
 
 // The plan whose fields were handed over.

@@ -1,8 +1,8 @@
--- `test_engine::show::numbers` is safe and ends: the numbers that are left are the measure.
+-- `test_show::numbers` is safe and ends: the numbers that are left are the measure.
 use Prim.Native.Nat.{_-_, _≤_}
 use borrow.Author.Needs.{needs}
-use Rattle.test_engine.proofs.show.numbers.Statement.{statement}
-use Rattle.test_engine.proofs.show.numbers.Tie as tie
+use Rattle.test_show.proofs.numbers.Statement.{statement}
+use Rattle.test_show.proofs.numbers.Tie as tie
 
 abbrev Inv-loop : tie.InvT-loop
 Inv-loop words values i₀ t4 i = i ≤ 16

@@ -1,8 +1,8 @@
--- `test_engine::show::jobs` is safe and ends: the job places that are left are the measure.
+-- `test_show::jobs` is safe and ends: the job places that are left are the measure.
 use Prim.Native.Nat.{_-_, _≤_}
 use borrow.Author.Needs.{needs}
-use Rattle.test_engine.proofs.show.jobs.Statement.{statement}
-use Rattle.test_engine.proofs.show.jobs.Tie as tie
+use Rattle.test_show.proofs.jobs.Statement.{statement}
+use Rattle.test_show.proofs.jobs.Tie as tie
 
 abbrev Inv-loop : tie.InvT-loop
 Inv-loop i held release remaining k₀ k = k ≤ 256

@@ -1,8 +1,8 @@
--- `test_engine::show::loops` is safe and ends: the loops that are left are the measure.
+-- `test_show::loops` is safe and ends: the loops that are left are the measure.
 use Prim.Native.Nat.{_-_, _≤_}
 use borrow.Author.Needs.{needs}
-use Rattle.test_engine.proofs.show.loops.Statement.{statement}
-use Rattle.test_engine.proofs.show.loops.Tie as tie
+use Rattle.test_show.proofs.loops.Statement.{statement}
+use Rattle.test_show.proofs.loops.Tie as tie
 
 abbrev Inv-loop : tie.InvT-loop
 Inv-loop jobs released last release remaining i₀ i = i ≤ 16

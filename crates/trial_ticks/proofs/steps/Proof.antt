@@ -1,15 +1,15 @@
--- `trial::steps` meets its contract; the loop's invariant says that its turns so far were steps, and that the state is still sound.
+-- `trial_ticks::steps` meets its contract; the loop's invariant says that its turns so far were steps, and that the state is still sound.
 use Rattle.state.specs.declared.Stepped.{Stepped}
 use Rattle.state.specs.CallLaws.{sound-clock}
 use Rattle.state.specs.Fit.{Shaped, length-mapped}
-use Rattle.trial.specs.Trials.{followed, stepsOf}
-use Rattle.trial.specs.TrialLaws.{SoundShape, tick-kept, step-kept, steps-refused, steps-next, steps-end}
+use Rattle.trial_ticks.specs.Ticks.{followed, stepsOf}
+use Rattle.trial_ticks.specs.TickLaws.{SoundShape, tick-kept, step-kept, steps-refused, steps-next, steps-end}
 use borrow.Author.Needs.{needs}
 use native.Mathlib.Omega.{arith}
 use Prim.Native.Nat.{_≤_, _<_, _-_}
 use mathlib.Core.Path.{_≡_, refl, sym, _∙_, ap}
-use Rattle.trial.proofs.steps.Statement.{statement}
-use Rattle.trial.proofs.steps.Tie as tie
+use Rattle.trial_ticks.proofs.steps.Statement.{statement}
+use Rattle.trial_ticks.proofs.steps.Tie as tie
 
 abbrev Inv-loop : tie.InvT-loop
 Inv-loop more stepped₀ k₀ stepped k = (k ≤ more) × (stepped ≡ followed stepped₀ k) × SoundShape (stepped .state)
