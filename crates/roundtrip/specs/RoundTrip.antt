@@ -25,7 +25,8 @@ use Rattle.tasks.specs.TestsLaws.{Passed, tests-passed}
 use Rattle.tasks.specs.AnswerLaws.{firstMet-passed}
 use Rattle.table.specs.declared.Judgement.{Judgement}
 use Rattle.codec.specs.Table.{countedLength, taskSetIn, contentIn, verdict, bytesOf}
-use Rattle.table.specs.Judged.{judged, writeTest, writtenLength, writtenTo}
+use Rattle.table.specs.Judged.{judged}
+use Rattle.writer.specs.Written.{writeTest, writtenLength, writtenTo}
 use Rattle.codec.specs.Bytes.{byte}
 use Rattle.codec.specs.ByteLaws.{Bytes}
 use Rattle.tasks.specs.ContentLaws.{Fits, fits-back, plan-fits}

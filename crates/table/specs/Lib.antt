@@ -2,4 +2,3 @@ pub mod Judged
 pub mod LoadedLaws
 pub mod JudgeLaws
 pub mod PartLaws
-pub mod WriterLaws

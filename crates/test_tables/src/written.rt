@@ -1,11 +1,11 @@
 // A plan's case: what `write` answers to it and what it leaves in the buffer.
-use table::Written;
 use tasks::Plan;
 use test_same::plans::same_plan;
 use test_script::buffer::FILL;
 use test_script::buffer::untouched;
 use test_script::line::front;
 use test_script::say;
+use writer::Written;
 
 fn say_length(plan: Plan, buffer: &[u8], length: usize, table: &[u8]) {
     say::number(b"write ", length as u64);
@@ -23,9 +23,9 @@ fn say_length(plan: Plan, buffer: &[u8], length: usize, table: &[u8]) {
 // The first `room` bytes of the buffer are lent.
 fn lend(plan: Plan, buffer: &mut [u8], room: usize) -> Written {
     if room < buffer.len() {
-        return table::write(plan, &mut buffer[..room]);
+        return writer::write(plan, &mut buffer[..room]);
     }
-    table::write(plan, buffer)
+    writer::write(plan, buffer)
 }
 
 // Writes the plan to `room` bytes. Where it is not refused, `table` is what should come out.

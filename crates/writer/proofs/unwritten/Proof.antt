@@ -1,8 +1,8 @@
--- `table::writer::unwritten` meets its contract.
+-- `writer::unwritten` meets its contract.
 use mathlib.Core.Path.{sym, refl}
 use borrow.Author.Needs.{needs}
-use Rattle.table.proofs.writer.unwritten.Statement.{statement}
-use Rattle.table.proofs.writer.unwritten.Tie as tie
+use Rattle.writer.proofs.unwritten.Statement.{statement}
+use Rattle.writer.proofs.unwritten.Tie as tie
 
 enum-told : tie.Need-enum-told
 enum-told c = search needs

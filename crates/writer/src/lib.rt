@@ -1,5 +1,4 @@
 // The writer: a plan handed in unchecked, to a table's bytes.
-use crate::Written;
 use analysis::slack_count;
 use analysis::test;
 use codec::places::table_length;
@@ -9,7 +8,13 @@ use tasks::Plan;
 use tasks::refusal;
 ghost use mathlib.Core.Path.{_≡_};
 ghost use lib.ListN.{length};
-ghost use Rattle.table.specs.Judged.{answerOfWritten, lengthOfWritten, writeTest, writtenLength, writtenTo};
+ghost use Rattle.writer.specs.Written.{answerOfWritten, lengthOfWritten, writeTest, writtenLength, writtenTo};
+
+// What the writer answers: how many bytes it wrote, or the refusal.
+pub enum Written {
+    Length(usize),
+    Refused { number: u8, index: u16 },
+}
 
 // The answer of a refused test, passed on.
 fn unwritten(answer: Answer) -> Written

@@ -12,9 +12,9 @@ use Rattle.tasks.specs.declared.Answer.the-variants.{Accepted, Refused}
 use Rattle.tasks.specs.Content.{contentOf}
 use Rattle.tasks.specs.Tests.{firstMet, testPlan}
 use Rattle.tasks.specs.TestsLaws.{tests-limits}
-use Rattle.table.specs.declared.Written.{Written}
+use Rattle.writer.specs.declared.Written.{Written}
 use Rattle.codec.specs.Table.{bytesOf}
-use Rattle.table.specs.Judged.{answerOfWritten, lengthOfWritten, writeTest, writtenLength, writtenTo}
+use Rattle.writer.specs.Written.{answerOfWritten, lengthOfWritten, writeTest, writtenLength, writtenTo}
 
 abbrev pub Writes : Plan → List ℕ → Written → List ℕ → Type 0
 Writes p out r after =

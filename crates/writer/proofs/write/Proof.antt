@@ -1,12 +1,12 @@
--- `table::writer::write` meets its contract: each return is a case of `Writes`.
+-- `writer::write` meets its contract: each return is a case of `Writes`.
 use native.Mathlib.Omega.{arith}
 use mathlib.Core.Path.{refl, sym, _∙_}
 use borrow.Author.Needs.{needs}
-use Rattle.table.specs.declared.Written.the-variants.{Length, Refused as NotWritten}
+use Rattle.writer.specs.declared.Written.the-variants.{Length, Refused as NotWritten}
 use Rattle.sections.specs.WriteLaws.{length-plan}
-use Rattle.table.specs.WriterLaws.{write-refused, plan-few, write-short, write-done}
-use Rattle.table.proofs.writer.write.Statement.{statement}
-use Rattle.table.proofs.writer.write.Tie as tie
+use Rattle.writer.specs.WriterLaws.{write-refused, plan-few, write-short, write-done}
+use Rattle.writer.proofs.write.Statement.{statement}
+use Rattle.writer.proofs.write.Tie as tie
 
 test-requires : tie.Need-test-requires
 test-requires c κs = search needs
