@@ -20,7 +20,7 @@ use Rattle.tasks.specs.declared.Answer.{Answer}
 use Rattle.tasks.specs.TaskSet.{TaskSet, found, row}
 use Rattle.tasks.specs.Content.{Content, noTask}
 use Rattle.tasks.specs.Tests.{refuse, firstMet, tests}
-use Rattle.codec.specs.Bytes.{byte, number, digits, entries}
+use Rattle.numbers.specs.Bytes.{byte, number, digits, entries}
 
 -- "Loops: n entries of 12 bytes"
 abbrev pub taskSize : ℕ

@@ -14,9 +14,9 @@ use lib.Seq.{take-add, drop-drop}
 use Rattle.tasks.specs.declared.Task.{Task}
 use Rattle.tasks.specs.TaskSet.{TaskSet}
 use Rattle.tasks.specs.Limits.{Limits}
-use Rattle.codec.specs.Bytes.{byte, digits}
+use Rattle.numbers.specs.Bytes.{byte, digits}
 use Rattle.codec.specs.Table.{taskSize, taskIn, taskBytes}
-use Rattle.codec.specs.ByteLaws.{Bytes, number-same, number-digits, number-digits-at, digits-number, length-digits}
+use Rattle.numbers.specs.ByteLaws.{Bytes, number-same, number-digits, number-digits-at, digits-number, length-digits}
 
 pub length-task : (k : Task) → length (taskBytes k) ≡ taskSize
 unfolding taskBytes digits

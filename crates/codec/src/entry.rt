@@ -1,7 +1,7 @@
 // A task's entry in a table: from its bytes, and to them. Document 01: "entries of 12 bytes: separation T, budget C, priority offset Y, 4
 // bytes each".
-use crate::numbers::number4;
-use crate::numbers::put4;
+use numbers::number4;
+use numbers::put4;
 use tasks::Task;
 ghost use mathlib.Core.Path.{_≡_};
 ghost use Prim.Native.Nat.{_+_, _≤_};

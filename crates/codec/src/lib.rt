@@ -1,4 +1,3 @@
-// Numbers, the entry of a task and the places of the sections in a table's bytes. Document 01, "Bytes of a show table".
+// The entry of a task and the places of the sections in a table's bytes. Document 01, "Bytes of a show table".
 pub mod entry;
-pub mod numbers;
 pub mod places;

@@ -18,8 +18,8 @@ use Rattle.tasks.specs.Tests.{firstMet, tests}
 use Rattle.tasks.specs.TestsLaws.{tests-limits, tests-bounded}
 use Rattle.tasks.specs.AnswerLaws.{firstMet-passed}
 use Rattle.table.specs.declared.Judgement.{Judgement}
-use Rattle.codec.specs.Bytes.{digits, entries}
-use Rattle.codec.specs.ByteLaws.{length-digits, length-entries, entries-same}
+use Rattle.numbers.specs.Bytes.{digits, entries}
+use Rattle.numbers.specs.ByteLaws.{length-digits, length-entries, entries-same}
 use Rattle.laws.specs.SetsLaws.{sets-whole}
 use Rattle.codec.specs.Table.{taskCount, taskSetIn, contentIn, verdict}
 use Rattle.table.specs.Judged.{judged}

@@ -15,7 +15,7 @@ use Rattle.tasks.specs.declared.Answer.{Answer}
 use Rattle.tasks.specs.TaskSet.{bound, row}
 use Rattle.tasks.specs.Content.{Content, taskOf}
 use Rattle.tasks.specs.Tests.{refuse, firstMet, numberOf, indexOf, unlessRefused}
-use Rattle.codec.specs.Bytes.{digits, entries}
+use Rattle.numbers.specs.Bytes.{digits, entries}
 use Rattle.codec.specs.Table.{taskCount, contentIn, verdict}
 use Rattle.replay.specs.Ran.{runTest, ranOf}
 

@@ -1,5 +1,5 @@
 // The functions that the desktop planner calls as C functions, over byte slices: a pointer and a length each.
-use codec::numbers::put4;
+use numbers::put4;
 use replay::run_log;
 use table::judge;
 use tasks::Answer;
@@ -10,7 +10,7 @@ ghost use mathlib.Core.List.{_++_};
 ghost use Prim.Native.Nat.{_+_, _*_, _≤_, _<_};
 ghost use lib.ListN.{length};
 ghost use lib.Seq.{sets};
-ghost use Rattle.codec.specs.Bytes.{digits, entries};
+ghost use Rattle.numbers.specs.Bytes.{digits, entries};
 ghost use Rattle.replay.specs.Ran.{runLeaves};
 ghost use Rattle.dahomike.specs.Answers.{answerNumber, judgeNumber, judgeLeaves, runNumber, pairOf, Reportable};
 

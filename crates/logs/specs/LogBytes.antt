@@ -14,7 +14,7 @@ use Rattle.tasks.specs.Numbers.{tickHigh}
 use Rattle.tasks.specs.Tests.{refuse, lowest, firstMet}
 use Rattle.history.specs.Log.{Entry}
 use Rattle.history.specs.Report.{Report, finished, refusal}
-use Rattle.codec.specs.Bytes.{byte, number, digits, entries}
+use Rattle.numbers.specs.Bytes.{byte, number, digits, entries}
 
 -- "A 2-byte count, then 9 bytes an entry"
 unfoldable pub entryCount : List ℕ → ℕ

@@ -22,7 +22,7 @@ use Rattle.tasks.specs.declared.Answer.the-variants.{Accepted, Refused}
 use Rattle.tasks.specs.Tests.{firstMet, unlessRefused}
 use Rattle.tasks.specs.AnswerLaws.{refuse-passed, lowest-passed, lowest-none, lowest-found, firstMet-passed, firstMet-pass, firstMet-stop}
 use Rattle.history.specs.Log.{Entry, noEntry, tickAt, loopAt, demandAt}
-use Rattle.codec.specs.Bytes.{byte, number}
+use Rattle.numbers.specs.Bytes.{byte, number}
 use Rattle.logs.specs.declared.read.Entries.{Entries}
 use Rattle.logs.specs.declared.read.Entries.the-variants.{Read, Refused as NotRead}
 use Rattle.logs.specs.LogBytes.{entryCount, entryIn, entriesIn, test14, test15, logTest}

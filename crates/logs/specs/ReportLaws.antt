@@ -18,8 +18,8 @@ use lib.Dec.{ltb}
 use lib.Seq.{sets, length-sets, ext-getD, getD-set-same, getD-set-other, getD-append-add, getD-drop}
 use borrow.Author.Tests.{ltb-true, ltb-false}
 use Rattle.history.specs.Report.{Report, finished, refusal}
-use Rattle.codec.specs.Bytes.{byte, digits, entries}
-use Rattle.codec.specs.ByteLaws.{length-entries, byte-entries}
+use Rattle.numbers.specs.Bytes.{byte, digits, entries}
+use Rattle.numbers.specs.ByteLaws.{length-entries, byte-entries}
 use Rattle.logs.specs.LogBytes.{reportBytes, reportsTo}
 
 pub length-report : (r : Report) → length (reportBytes r) ≡ 8

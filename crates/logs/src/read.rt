@@ -1,6 +1,6 @@
 // The reader of a release log: its count, and its entries one by one.
-use codec::numbers::count_at;
-use codec::numbers::number4;
+use numbers::count_at;
+use numbers::number4;
 use tasks::limits;
 use tasks::refusal;
 ghost use mathlib.Core.Path.{_≡_};

@@ -1,11 +1,11 @@
 // The answer's bytes: eight for each entry of the log, kind and value, 4 bytes each.
-use codec::numbers::put4;
+use numbers::put4;
 ghost use mathlib.Core.Path.{_≡_};
 ghost use mathlib.Core.List.{_++_};
 ghost use Prim.Native.Nat.{_+_, _*_, _≤_};
 ghost use lib.ListN.{length};
 ghost use lib.Seq.{sets};
-ghost use Rattle.codec.specs.Bytes.{digits};
+ghost use Rattle.numbers.specs.Bytes.{digits};
 ghost use Rattle.history.specs.Report.{finished, refusal};
 ghost use Rattle.logs.specs.LogBytes.{reportBytes};
 

@@ -12,7 +12,7 @@ use Prim.Native.Nat.{ℕ, _+_, _*_, _≤_, _<_}
 use mathlib.Core.Path.{_≡_}
 use mathlib.Core.Logic.{_↔_, _⊎_}
 use mathlib.Core.List.{List}
-use Rattle.codec.specs.Bytes.{byte, number}
+use Rattle.numbers.specs.Bytes.{byte, number}
 
 -- "The first byte is the edition, 1. Three sections follow in this order, each after a one-byte count": m at 1, m labels, n, the loops
 abbrev pub loopsOf : List ℕ → ℕ

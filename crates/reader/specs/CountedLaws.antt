@@ -16,7 +16,7 @@ use Rattle.tasks.specs.Tests.{firstMet}
 use Rattle.tasks.specs.AnswerLaws.{refuse-passed, firstMet-passed}
 use Rattle.reader.specs.declared.Counts.{Counts}
 use Rattle.reader.specs.declared.Counts.the-variants.{Read, Refused as NotRead}
-use Rattle.codec.specs.Bytes.{byte}
+use Rattle.numbers.specs.Bytes.{byte}
 use Rattle.codec.specs.Table.{tasksFrom, slackFrom, tableLength, countedLength, coreCount, taskCount, slackCount, test1, test2}
 use Rattle.reader.specs.Counted.{countsTest, answerOfCounts, coresOfCounts, tasksOfCounts, offersOfCounts, Counted}
 

@@ -1,11 +1,11 @@
 // The reader: its one stage, which finds the three counts or refuses, and the loading of each section's entries, which cannot refuse.
 use codec::entry::TASK_SIZE;
 use codec::entry::task_at;
-use codec::numbers::count_at;
-use codec::numbers::number4;
 use codec::places::slack_from;
 use codec::places::table_length;
 use codec::places::tasks_from;
+use numbers::count_at;
+use numbers::number4;
 use tasks::Task;
 use tasks::no_task;
 use tasks::refusal;
@@ -14,7 +14,7 @@ ghost use Prim.Native.Nat.{_+_, _*_, _≤_, min};
 ghost use lib.ListN.{length};
 ghost use Rattle.laws.specs.Tab.{tab, cut};
 ghost use Rattle.tasks.specs.Content.{noTask};
-ghost use Rattle.codec.specs.Bytes.{byte, number};
+ghost use Rattle.numbers.specs.Bytes.{byte, number};
 ghost use Rattle.codec.specs.Table.{taskSize, taskIn};
 ghost use Rattle.reader.specs.Counted.{Counted};
 

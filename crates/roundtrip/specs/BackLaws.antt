@@ -20,9 +20,9 @@ use Rattle.tasks.specs.Content.{Content, noTask}
 use Rattle.tasks.specs.Limits.{Bounded}
 use Rattle.tasks.specs.TestsLaws.{Passed}
 use Rattle.tasks.specs.FoundLaws.{found-past}
-use Rattle.codec.specs.Bytes.{byte, number, digits, entries}
+use Rattle.numbers.specs.Bytes.{byte, number, digits, entries}
 use Rattle.codec.specs.Table.{taskSize, tasksFrom, slackFrom, coreCount, taskCount, tasksAt, slackCount, slackAt, taskIn, taskSetIn, contentIn, taskBytes, bytesOf}
-use Rattle.codec.specs.ByteLaws.{number-after, number-digits, length-digits, length-entries, byte-entries, number-entries}
+use Rattle.numbers.specs.ByteLaws.{number-after, number-digits, length-digits, length-entries, byte-entries, number-entries}
 use Rattle.codec.specs.TaskLaws.{length-task, task-same, limits-narrow, task-back}
 use Rattle.tasks.specs.ContentLaws.{content-ext, Fits}
 

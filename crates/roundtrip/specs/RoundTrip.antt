@@ -27,8 +27,8 @@ use Rattle.table.specs.declared.Judgement.{Judgement}
 use Rattle.codec.specs.Table.{countedLength, taskSetIn, contentIn, verdict, bytesOf}
 use Rattle.table.specs.Judged.{judged}
 use Rattle.writer.specs.Written.{writeTest, writtenLength, writtenTo}
-use Rattle.codec.specs.Bytes.{byte}
-use Rattle.codec.specs.ByteLaws.{Bytes}
+use Rattle.numbers.specs.Bytes.{byte}
+use Rattle.numbers.specs.ByteLaws.{Bytes}
 use Rattle.tasks.specs.ContentLaws.{Fits, fits-back, plan-fits}
 use Rattle.roundtrip.specs.SectionLaws.{Parts, verdict-parts, parts-verdict, table-parts, labels-again, tasks-again, slack-again, table-fits}
 use Rattle.sections.specs.WriteLaws.{length-bytes}

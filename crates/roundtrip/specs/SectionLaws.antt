@@ -25,9 +25,9 @@ use Rattle.tasks.specs.Tests.{firstMet, tests}
 use Rattle.tasks.specs.TestsLaws.{Passed, tests-passed}
 use Rattle.tasks.specs.FoundLaws.{found-past}
 use Rattle.tasks.specs.AnswerLaws.{refuse-passed, firstMet-passed}
-use Rattle.codec.specs.Bytes.{byte, number, digits, entries}
+use Rattle.numbers.specs.Bytes.{byte, number, digits, entries}
 use Rattle.codec.specs.Table.{taskSize, tasksFrom, slackFrom, tableLength, countedLength, coreCount, taskCount, tasksAt, slackCount, slackAt, taskIn, taskSetIn, contentIn, test1, test2, verdict, taskBytes}
-use Rattle.codec.specs.ByteLaws.{Bytes, digits-number, entries-same, entries-parts}
+use Rattle.numbers.specs.ByteLaws.{Bytes, digits-number, entries-same, entries-parts}
 use Rattle.codec.specs.TaskLaws.{task-again}
 use Rattle.tasks.specs.ContentLaws.{Fits}
 

@@ -32,7 +32,7 @@ use Rattle.history.specs.Report.{finished, refusal}
 use Rattle.history.specs.OnMachine.{machineEngine}
 use Rattle.history.specs.Balance.{not-refused, reached}
 use Rattle.history.specs.Owners.{Owned, finishing, owned-length, owned-head, owner-ends, owners-tick}
-use Rattle.codec.specs.Bytes.{byte}
+use Rattle.numbers.specs.Bytes.{byte}
 use Rattle.logs.specs.LogBytes.{reportBytes}
 use Rattle.logs.specs.ReportLaws.{Said, said-length, said-beyond, said-here, said-other}
 use Rattle.heads.specs.Order.{headWork}

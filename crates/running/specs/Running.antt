@@ -26,7 +26,7 @@ use Rattle.history.specs.Log.{Entry, tickAt, loopAt, demandAt, outcome, Taken, 
 use Rattle.history.specs.Report.{finished, refusal}
 use Rattle.history.specs.OnMachine.{machineEngine}
 use Rattle.history.specs.Owners.{Owned}
-use Rattle.codec.specs.Bytes.{byte}
+use Rattle.numbers.specs.Bytes.{byte}
 use Rattle.heads.specs.Order.{Heads}
 use Rattle.logs.specs.ReportLaws.{Said}
 

@@ -14,9 +14,9 @@ use Rattle.laws.specs.TabLaws.{cut-below}
 use Rattle.tasks.specs.declared.Plan.{Plan}
 use Rattle.tasks.specs.TaskSet.{row}
 use Rattle.tasks.specs.Content.{Content, contentOf, taskOf, noTask}
-use Rattle.codec.specs.Bytes.{digits, entries}
+use Rattle.numbers.specs.Bytes.{digits, entries}
 use Rattle.codec.specs.Table.{taskSize, tasksFrom, slackFrom, tableLength, taskBytes, bytesOf}
-use Rattle.codec.specs.ByteLaws.{length-digits, length-entries, entries-same}
+use Rattle.numbers.specs.ByteLaws.{length-digits, length-entries, entries-same}
 use Rattle.laws.specs.SetsLaws.{sets-three, sets-whole}
 use Rattle.codec.specs.TaskLaws.{length-task}
 

@@ -2,10 +2,10 @@
 use analysis::slack_count;
 use codec::entry::TASK_SIZE;
 use codec::entry::put_task;
-use codec::numbers::put4;
 use codec::places::slack_from;
 use codec::places::table_length;
 use codec::places::tasks_from;
+use numbers::put4;
 use tasks::Plan;
 use tasks::Task;
 ghost use mathlib.Core.Path.{_≡_};
@@ -15,7 +15,7 @@ ghost use lib.ListN.{length, drop};
 ghost use lib.Seq.{sets};
 ghost use Rattle.tasks.specs.TaskSet.{row};
 ghost use Rattle.tasks.specs.Content.{contentOf, taskOf};
-ghost use Rattle.codec.specs.Bytes.{digits, entries};
+ghost use Rattle.numbers.specs.Bytes.{digits, entries};
 ghost use Rattle.codec.specs.Table.{taskSize, taskBytes, bytesOf};
 
 // The cores' section: the count at `at`, and then the labels.

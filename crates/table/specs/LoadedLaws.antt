@@ -16,7 +16,7 @@ use Rattle.tasks.specs.declared.Plan.{Plan}
 use Rattle.tasks.specs.Content.{Content, noTask, contentOf, planOf}
 use Rattle.tasks.specs.Tests.{outside, firstMet, test3, test4, test5, test6, test7, test8, test9, test10}
 use Rattle.tasks.specs.LimitsLaws.{limitTests}
-use Rattle.codec.specs.Bytes.{byte, number}
+use Rattle.numbers.specs.Bytes.{byte, number}
 use Rattle.codec.specs.Table.{taskSize, tasksFrom, slackFrom, coreCount, taskCount, tasksAt, slackCount, slackAt, taskIn, taskSetIn, contentIn}
 use Rattle.tasks.specs.ContentLaws.{plan-ext, withSlack, tasks-back, labels-back, slack-back}
 use Rattle.reader.specs.CountedLaws.{CountsIn}

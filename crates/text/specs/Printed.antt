@@ -9,7 +9,7 @@ use mathlib.Core.List.{List, _++_}
 use Rattle.tasks.specs.TaskSet.{bound, late}
 use Rattle.tasks.specs.Content.{Content}
 use Rattle.tasks.specs.Tests.{numberOf, indexOf, unlessRefused}
-use Rattle.codec.specs.Bytes.{entries}
+use Rattle.numbers.specs.Bytes.{entries}
 use Rattle.codec.specs.Table.{contentIn, verdict}
 use Rattle.decimal.specs.Decimal.{words, said}
 

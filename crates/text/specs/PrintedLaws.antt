@@ -26,8 +26,8 @@ use Rattle.tasks.specs.Limits.{Bounded}
 use Rattle.tasks.specs.Content.{contentOf, taskOf, noTask}
 use Rattle.tasks.specs.Tests.{testPlan}
 use Rattle.tasks.specs.TestsLaws.{tests-limits, tests-bounded}
-use Rattle.codec.specs.Bytes.{entries}
-use Rattle.codec.specs.ByteLaws.{entries-same}
+use Rattle.numbers.specs.Bytes.{entries}
+use Rattle.numbers.specs.ByteLaws.{entries-same}
 use Rattle.text.specs.Printed.{pairLine, countsLine, taskLine, refusalLine, lineOf, planText}
 
 pub length-pair : (w : List ℕ) (a : ℕ) (v : List ℕ) (b : ℕ) → length (pairLine w a v b) ≡ length w + length (decimal a) + (length v + length (decimal b)) + 1

@@ -19,8 +19,8 @@ use Rattle.tasks.specs.declared.Answer.the-variants.{Accepted, Refused}
 use Rattle.tasks.specs.Content.{contentOf}
 use Rattle.tasks.specs.Tests.{refuse, firstMet, tests, testPlan}
 use Rattle.tasks.specs.AnswerLaws.{refuse-met, firstMet-pass, firstMet-stop}
-use Rattle.codec.specs.Bytes.{byte}
-use Rattle.codec.specs.ByteLaws.{Bytes}
+use Rattle.numbers.specs.Bytes.{byte}
+use Rattle.numbers.specs.ByteLaws.{Bytes}
 use Rattle.codec.specs.Table.{coreCount, taskCount, slackCount, tasksAt, slackAt, contentIn, test1, test2, verdict}
 use Rattle.table.specs.declared.Judgement.{Judgement}
 use Rattle.table.specs.Judged.{judged}

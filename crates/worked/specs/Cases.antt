@@ -34,7 +34,7 @@ use Rattle.history.specs.Report.{Report, finished, refusal, finishTick, report}
 use Rattle.delivered.specs.Demand3.{runOn, demand-machine}
 use Rattle.logs.specs.LogBytes.{entryCount, entryIn, entriesIn, test14, test15, logTest}
 use Rattle.laws.specs.Member.{member}
-use Rattle.codec.specs.Bytes.{byte, number, digits, entries}
+use Rattle.numbers.specs.Bytes.{byte, number, digits, entries}
 use Rattle.decimal.specs.Decimal.{words, digitsIn, decimal, said}
 use Rattle.text.specs.Printed.{pairLine, countsLine, taskLine, refusalLine, lineOf, planText, printed}
 use Rattle.codec.specs.Table.{coreCount, taskCount, tasksAt, slackCount, slackAt, taskIn, taskSetIn, contentIn, test1, test2, verdict, taskBytes}

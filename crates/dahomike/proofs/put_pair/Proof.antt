@@ -2,10 +2,10 @@
 use mathlib.Core.List.{_++_, List}
 use Prim.Native.Nat.{ℕ, _+_}
 use lib.Seq.{sets}
-use Rattle.codec.specs.Bytes.{digits}
+use Rattle.numbers.specs.Bytes.{digits}
 use mathlib.Core.Path.{_≡_, _∙_}
 use Rattle.laws.specs.SetsLaws.{sets-next}
-use Rattle.codec.specs.ByteLaws.{length-digits}
+use Rattle.numbers.specs.ByteLaws.{length-digits}
 use native.Mathlib.Omega.{arith}
 use borrow.Author.Needs.{needs}
 use Rattle.dahomike.proofs.put_pair.Statement.{statement}

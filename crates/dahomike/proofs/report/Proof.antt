@@ -4,9 +4,9 @@ use mathlib.Core.List.{_++_}
 use lib.Seq.{sets}
 use Rattle.tasks.specs.TaskSet.{row}
 use Rattle.tasks.specs.Content.{taskOf, noTask}
-use Rattle.codec.specs.Bytes.{digits, entries}
-use Rattle.codec.specs.ByteLaws.{length-digits}
-use Rattle.codec.specs.StoreLaws.{sets-entry}
+use Rattle.numbers.specs.Bytes.{digits, entries}
+use Rattle.numbers.specs.ByteLaws.{length-digits}
+use Rattle.numbers.specs.StoreLaws.{sets-entry}
 use Rattle.dahomike.specs.Answers.{pairOf, boundIn}
 use borrow.Author.Needs.{needs}
 use native.Mathlib.Omega.{arith}

@@ -5,7 +5,7 @@ use mathlib.Core.Path.{_≡_, refl}
 use borrow.Author.Needs.{needs}
 use Rattle.laws.specs.Tab.{tab, cut}
 use Rattle.laws.specs.TabLaws.{filled-none}
-use Rattle.codec.specs.Bytes.{byte}
+use Rattle.numbers.specs.Bytes.{byte}
 use Rattle.reader.specs.LoadLaws.{filled-step, filled-end}
 use Rattle.reader.proofs.load_labels.Statement.{statement}
 use Rattle.reader.proofs.load_labels.Tie as tie

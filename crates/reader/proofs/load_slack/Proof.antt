@@ -5,7 +5,7 @@ use mathlib.Core.Path.{_≡_}
 use borrow.Author.Needs.{needs}
 use Rattle.laws.specs.Tab.{tab, cut}
 use Rattle.laws.specs.TabLaws.{filled-none}
-use Rattle.codec.specs.Bytes.{number}
+use Rattle.numbers.specs.Bytes.{number}
 use Rattle.reader.specs.LoadLaws.{filled-step, filled-end}
 use Rattle.reader.proofs.load_slack.Statement.{statement}
 use Rattle.reader.proofs.load_slack.Tie as tie

@@ -3,7 +3,7 @@ use native.Mathlib.Omega.{arith}
 use mathlib.Core.Path.{refl, ap, _∙_}
 use lib.ListN.{List·getD-eq-default}
 use borrow.Author.Needs.{needs}
-use Rattle.codec.specs.Bytes.{byte}
+use Rattle.numbers.specs.Bytes.{byte}
 use Rattle.reader.specs.CountedLaws.{core-count, task-count, slack-count, counted-edition, counted-length, counted-read}
 use Rattle.reader.proofs.read_counts.Statement.{statement}
 use Rattle.reader.proofs.read_counts.Tie as tie

@@ -8,8 +8,8 @@ use lib.Seq.{sets}
 use lib.ListN.{length, length-set}
 use borrow.Author.Needs.{needs}
 use Rattle.tasks.specs.TaskSet.{row}
-use Rattle.codec.specs.Bytes.{entries}
-use Rattle.codec.specs.StoreLaws.{sets-entry, sets-section}
+use Rattle.numbers.specs.Bytes.{entries}
+use Rattle.numbers.specs.StoreLaws.{sets-entry, sets-section}
 use Rattle.sections.proofs.put_labels.Statement.{statement}
 use Rattle.sections.proofs.put_labels.Tie as tie
 

@@ -7,9 +7,9 @@ use lib.Seq.{sets}
 use lib.ListN.{length, length-set}
 use borrow.Author.Needs.{needs}
 use Rattle.tasks.specs.TaskSet.{row}
-use Rattle.codec.specs.Bytes.{digits, entries}
-use Rattle.codec.specs.StoreLaws.{sets-entry, sets-section}
-use Rattle.codec.specs.ByteLaws.{length-digits}
+use Rattle.numbers.specs.Bytes.{digits, entries}
+use Rattle.numbers.specs.StoreLaws.{sets-entry, sets-section}
+use Rattle.numbers.specs.ByteLaws.{length-digits}
 use Rattle.sections.proofs.put_slack.Statement.{statement}
 use Rattle.sections.proofs.put_slack.Tie as tie
 

@@ -7,9 +7,9 @@ use lib.Seq.{sets}
 use lib.ListN.{length, length-set}
 use borrow.Author.Needs.{needs}
 use Rattle.tasks.specs.Content.{noTask, taskOf}
-use Rattle.codec.specs.Bytes.{entries}
+use Rattle.numbers.specs.Bytes.{entries}
 use Rattle.codec.specs.Table.{taskSize, taskBytes}
-use Rattle.codec.specs.StoreLaws.{sets-entry, sets-section}
+use Rattle.numbers.specs.StoreLaws.{sets-entry, sets-section}
 use Rattle.codec.specs.TaskLaws.{length-task}
 use Rattle.sections.proofs.put_tasks.Statement.{statement}
 use Rattle.sections.proofs.put_tasks.Tie as tie

@@ -1,7 +1,7 @@
 -- `text::put_plan` meets its contract. The loop's invariant: the lines of the first i loops are stored behind the first line.
 use Rattle.decimal.specs.Decimal.{words, Stored}
 use Rattle.decimal.specs.PutLaws.{put-behind}
-use Rattle.codec.specs.Bytes.{entries}
+use Rattle.numbers.specs.Bytes.{entries}
 use Rattle.text.specs.Printed.{countsLine}
 use Rattle.text.specs.PrintedLaws.{lineIn, lines-none, lines-next, within, counts-short, line-room, plan-text}
 use borrow.Author.Needs.{needs}

@@ -3,9 +3,9 @@ use Prim.Native.Nat.{_+_}
 use native.Mathlib.Omega.{arith}
 use borrow.Author.Needs.{needs}
 use Rattle.codec.specs.Table.{taskBytes}
-use Rattle.codec.specs.ByteLaws.{length-digits}
+use Rattle.numbers.specs.ByteLaws.{length-digits}
 use Rattle.laws.specs.SetsLaws.{sets-three}
-use Rattle.codec.specs.Bytes.{digits}
+use Rattle.numbers.specs.Bytes.{digits}
 use Rattle.codec.proofs.entry.put_task.Statement.{statement}
 use Rattle.codec.proofs.entry.put_task.Tie as tie
 

@@ -6,7 +6,7 @@ use lib.Dec.{ltb}
 use borrow.Author.Tests.{lt-ltb, le-ltb}
 use Rattle.laws.specs.First.{first}
 use Rattle.laws.specs.FirstLaws.{none-more, found-at}
-use Rattle.codec.specs.Bytes.{number}
+use Rattle.numbers.specs.Bytes.{number}
 use Rattle.logs.specs.LogBytes.{entryIn}
 use borrow.Author.Needs.{needs}
 use Rattle.logs.proofs.read.first_late.Statement.{statement}

@@ -2,8 +2,8 @@
 use Prim.Native.Nat.{_+_, _*_}
 use native.Mathlib.Omega.{arith}
 use mathlib.Core.Path.{_∙_}
-use Rattle.codec.specs.Bytes.{digits}
-use Rattle.codec.specs.ByteLaws.{length-digits}
+use Rattle.numbers.specs.Bytes.{digits}
+use Rattle.numbers.specs.ByteLaws.{length-digits}
 use Rattle.laws.specs.SetsLaws.{sets-next}
 use borrow.Author.Needs.{needs}
 use Rattle.logs.proofs.report.put_report.Statement.{statement}

@@ -9,8 +9,8 @@ use mathlib.Core.List.{List, _∷_}
 use lib.ListN.{length, set}
 use lib.Seq.{sets}
 use Rattle.laws.specs.SetsLaws.{sets-next}
-use Rattle.codec.specs.Bytes.{entries}
-use Rattle.codec.specs.ByteLaws.{length-entries}
+use Rattle.numbers.specs.Bytes.{entries}
+use Rattle.numbers.specs.ByteLaws.{length-entries}
 
 pub sets-entry :
     (k : ℕ) (f : ℕ → List ℕ) (size : (i : ℕ) → length (f i) ≡ k) (l : List ℕ) (at i j : ℕ) (u v : List ℕ)

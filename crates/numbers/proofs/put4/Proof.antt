@@ -1,12 +1,12 @@
--- `codec::numbers::put4` meets its contract.
+-- `numbers::put4` meets its contract.
 use Prim.Native.Nat.{_/_, _%_}
 use native.Mathlib.Omega.{arith}
 use lib.ListN.{length-set}
 use borrow.Author.Needs.{needs}
-use Rattle.codec.specs.Bytes.{digits}
+use Rattle.numbers.specs.Bytes.{digits}
 use Rattle.laws.specs.SetsLaws.{sets-four}
-use Rattle.codec.proofs.numbers.put4.Statement.{statement}
-use Rattle.codec.proofs.numbers.put4.Tie as tie
+use Rattle.numbers.proofs.put4.Statement.{statement}
+use Rattle.numbers.proofs.put4.Tie as tie
 
 cast-out : tie.Need-cast-out
 cast-out c = search needs

@@ -1,8 +1,8 @@
--- `codec::numbers::number4` meets its contract.
+-- `numbers::number4` meets its contract.
 use borrow.Author.Needs.{needs}
-use Rattle.codec.specs.ByteLaws.{number-four}
-use Rattle.codec.proofs.numbers.number4.Statement.{statement}
-use Rattle.codec.proofs.numbers.number4.Tie as tie
+use Rattle.numbers.specs.ByteLaws.{number-four}
+use Rattle.numbers.proofs.number4.Statement.{statement}
+use Rattle.numbers.proofs.number4.Tie as tie
 
 byte-at-requires : tie.Need-byte-at-requires
 byte-at-requires c κs = search needs

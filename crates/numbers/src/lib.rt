@@ -3,7 +3,7 @@ ghost use mathlib.Core.Path.{_≡_};
 ghost use Prim.Native.Nat.{_+_, _≤_, _<_};
 ghost use lib.ListN.{length};
 ghost use lib.Seq.{sets};
-ghost use Rattle.codec.specs.Bytes.{byte, number, digits};
+ghost use Rattle.numbers.specs.Bytes.{byte, number, digits};
 
 fn byte_at(t: &[u8], at: usize) -> u32
     requires { ⌜ at < length (now t) ⌝ }

@@ -1,9 +1,9 @@
--- `codec::numbers::count_at` meets its contract: an element of a slice of bytes is below 256.
+-- `numbers::byte_at` meets its contract: an element of a slice of bytes is below 256.
 use native.Mathlib.Omega.{arith}
 use borrow.Author.Needs.{needs}
-use Rattle.codec.specs.Bytes.{byte}
-use Rattle.codec.proofs.numbers.count_at.Statement.{statement}
-use Rattle.codec.proofs.numbers.count_at.Tie as tie
+use Rattle.numbers.specs.Bytes.{byte}
+use Rattle.numbers.proofs.byte_at.Statement.{statement}
+use Rattle.numbers.proofs.byte_at.Tie as tie
 
 shared-slice-read-result : tie.Need-shared-slice-read-result
 shared-slice-read-result c = search needs
@@ -15,5 +15,5 @@ returns : tie.Need-returns
 unfolding byte
 returns c = (search needs, omega (arith, c .shared-slice-known .given (c .before .args .at)))
 
-pub count-at-spec : {M : Type 1} → statement M
-count-at-spec = tie.close (tie.spec shared-slice-read-result cast-result returns)
+pub byte-at-spec : {M : Type 1} → statement M
+byte-at-spec = tie.close (tie.spec shared-slice-read-result cast-result returns)

@@ -20,7 +20,7 @@ use mathlib.Core.List.{List, _∷_, _++_, append-assoc}
 use lib.ListN.{length, take, drop, length-append, List·getD-append}
 use lib.Dec.{lit<}
 use lib.Seq.{getD-append-add, drop-cons, take-add, drop-drop}
-use Rattle.codec.specs.Bytes.{byte, number, digits, entries}
+use Rattle.numbers.specs.Bytes.{byte, number, digits, entries}
 
 unfoldable pub Bytes : List ℕ → Type 0
 Bytes t = (i : ℕ) → byte t i < 256
