@@ -1,7 +1,7 @@
 // The clauses of *sound* that look at the places of a state: the unused ones of its table part, each loop's, and each job's.
 use tasks::Task;
-use tasks::is_no_task;
 use tasks::limits;
+use tidy::is_no_task;
 ghost use mathlib.Core.Path.{_≡_};
 ghost use mathlib.Core.Bool.{not, _&&_, _||_};
 ghost use Prim.Native.Nat.{_+_, _-_, _/_, _%_, _<_};

@@ -1,7 +1,7 @@
 // A state with nothing pending.
 use state::State;
 use tasks::Plan;
-use tasks::no_plan;
+use tidy::no_plan;
 ghost use mathlib.Core.Path.{_≡_};
 ghost use Rattle.machine.specs.Machine.{opened};
 ghost use Rattle.state.specs.State.{stateOf, zeroState};

@@ -11,7 +11,7 @@ use reader::load_tasks;
 use reader::read_counts;
 use tasks::Answer;
 use tasks::Plan;
-use tasks::no_plan;
+use tidy::no_plan;
 ghost use mathlib.Core.Path.{_≡_};
 ghost use Rattle.table.specs.Judged.{judged, refusedWith, slackPart};
 ghost use Rattle.reader.specs.Counted.{answerOfCounts};

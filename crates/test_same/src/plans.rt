@@ -1,7 +1,7 @@
 // Plans compared, and their unused places.
 use tasks::Plan;
 use tasks::Task;
-use tasks::is_no_task;
+use tidy::is_no_task;
 
 fn same_labels(a: Plan, b: Plan) -> bool {
     let cores = a.cores;

@@ -2,7 +2,7 @@
 // doesn't have changes nothing.
 use state::State;
 use tasks::Plan;
-use tasks::no_plan;
+use tidy::no_plan;
 
 // A plan opened.
 pub fn opened(plan: Plan) -> State {

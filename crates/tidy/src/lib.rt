@@ -1,12 +1,49 @@
-// Rows and plans cut at their used places: zeros beyond.
+// Zeros in unused places: a task and a plan of zeros, and plans cut at their used places.
 use tasks::Plan;
 use tasks::Task;
-use tasks::no_task;
 ghost use mathlib.Core.Path.{_≡_};
 ghost use Prim.Native.Nat.{_≤_};
 ghost use Rattle.laws.specs.Tab.{tab, cut};
 ghost use Rattle.tasks.specs.TaskSet.{row};
-ghost use Rattle.tasks.specs.Content.{noTask, taskOf, tidy};
+ghost use Rattle.tasks.specs.Content.{noTask, zeroTask, zeroPlan, taskOf, tidy};
+
+// A task of zeros: an unused place.
+pub fn no_task() -> Task
+    ensures { λ r. ⌜ r ≡ noTask ⌝ }
+{
+    Task {
+        separation: 0,
+        budget: 0,
+        offset: 0,
+    }
+}
+
+// Whether a task is that one.
+pub fn is_no_task(task: Task) -> bool
+    ensures { λ r. ⌜ r ≡ zeroTask task ⌝ }
+{
+    if task.separation != 0 {
+        return false;
+    }
+    if task.budget != 0 {
+        return false;
+    }
+    task.offset == 0
+}
+
+// A plan of zeros, which a refused judgement hands back.
+pub fn no_plan() -> Plan
+    ensures { λ r. ⌜ r ≡ zeroPlan ⌝ }
+{
+    Plan {
+        offered: false,
+        cores: 0,
+        tasks: 0,
+        labels: [0; 8],
+        task: [no_task(); 16],
+        slack: [0; 16],
+    }
+}
 
 fn tidy_labels(labels: &[u8; 8], cores: usize) -> [u8; 8]
     requires { ⌜ cores ≤ 8 ⌝ }

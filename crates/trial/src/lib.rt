@@ -6,7 +6,7 @@ use state::Stepped;
 use tasks::Answer;
 use tasks::Plan;
 use tasks::Task;
-use tasks::no_task;
+use tidy::no_task;
 use trial_ticks::steps;
 ghost use mathlib.Core.Path.{_≡_};
 ghost use Rattle.state.specs.Calls.{releaseOf};

@@ -1,8 +1,8 @@
--- `tasks::is_no_task` meets its contract.
+-- `tidy::is_no_task` meets its contract.
 use Rattle.tasks.specs.Content.{zeroTask}
 use borrow.Author.Tests.{eq-eqb, ne-eqb}
-use Rattle.tasks.proofs.is_no_task.Statement.{statement}
-use Rattle.tasks.proofs.is_no_task.Tie as tie
+use Rattle.tidy.proofs.is_no_task.Statement.{statement}
+use Rattle.tidy.proofs.is_no_task.Tie as tie
 
 returns : tie.Need-returns
 unfolding zeroTask

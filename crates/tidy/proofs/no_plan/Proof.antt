@@ -1,8 +1,8 @@
--- `tasks::no_plan` meets its contract, by the definition of a plan of zeros.
+-- `tidy::no_plan` meets its contract, by the definition of a plan of zeros.
 use borrow.Author.Needs.{needs}
 use Rattle.tasks.specs.Content.{zeroPlan}
-use Rattle.tasks.proofs.no_plan.Statement.{statement}
-use Rattle.tasks.proofs.no_plan.Tie as tie
+use Rattle.tidy.proofs.no_plan.Statement.{statement}
+use Rattle.tidy.proofs.no_plan.Tie as tie
 
 no-task-requires : tie.Need-no-task-requires
 no-task-requires c κs = search needs
