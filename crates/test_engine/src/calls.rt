@@ -2,11 +2,11 @@
 use state::State;
 use tasks::Answer;
 use tasks::Plan;
-use test_same::plans::same_plan;
-use test_same::plans::unused_zero;
-use test_same::states::idle;
-use test_same::states::same_state;
-use test_same::states::same_table;
+use test_same_plan::same_plan;
+use test_same_plan::unused_zero;
+use test_same_state::idle;
+use test_same_state::same_state;
+use test_same_state::same_table;
 use test_script::say;
 use test_states::made::zeros;
 

@@ -1,8 +1,8 @@
 // A case of `step_in_place`: what it answers and leaves in the lent state, beside what `step` hands back.
 use state::State;
 use state::Stepped;
-use test_same::states::same_state;
-use test_same::states::same_step;
+use test_same_state::same_state;
+use test_same_state::same_step;
 use test_script::say;
 
 // The answer of a call, and the state that was lent to it.

@@ -1,7 +1,7 @@
 // The lines that show an answer and a state.
 use state::State;
 use tasks::Answer;
-use test_same::states::unused_zero;
+use test_same_state::unused_zero;
 use test_script::say;
 
 // A line with an answer.

@@ -2,8 +2,8 @@
 use crate::written;
 use tasks::Answer;
 use tasks::Plan;
-use test_same::plans::all_zero;
-use test_same::plans::unused_zero;
+use test_same_plan::all_zero;
+use test_same_plan::unused_zero;
 use test_script::say;
 
 // 64 bits hold the bound of any offered slack.

@@ -1,6 +1,6 @@
 // A plan's case: what `write` answers to it and what it leaves in the buffer.
 use tasks::Plan;
-use test_same::plans::same_plan;
+use test_same_plan::same_plan;
 use test_script::buffer::FILL;
 use test_script::buffer::untouched;
 use test_script::line::front;

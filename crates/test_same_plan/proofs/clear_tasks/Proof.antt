@@ -1,8 +1,8 @@
--- `test_same::plans::clear_tasks` is safe and ends: the loops that are left are the measure.
+-- `test_same_plan::clear_tasks` is safe and ends: the loops that are left are the measure.
 use Prim.Native.Nat.{_-_}
 use borrow.Author.Needs.{needs}
-use Rattle.test_same.proofs.plans.clear_tasks.Statement.{statement}
-use Rattle.test_same.proofs.plans.clear_tasks.Tie as tie
+use Rattle.test_same_plan.proofs.clear_tasks.Statement.{statement}
+use Rattle.test_same_plan.proofs.clear_tasks.Tie as tie
 
 abbrev Inv-loop : tie.InvT-loop
 Inv-loop from plan i₀ i = Unit

@@ -1,8 +1,8 @@
--- `test_same::plans::same_tasks` is safe and ends: the loops that are left are the measure.
+-- `test_same_plan::same_tasks` is safe and ends: the loops that are left are the measure.
 use Prim.Native.Nat.{_-_, _≤_}
 use borrow.Author.Needs.{needs}
-use Rattle.test_same.proofs.plans.same_tasks.Statement.{statement}
-use Rattle.test_same.proofs.plans.same_tasks.Tie as tie
+use Rattle.test_same_plan.proofs.same_tasks.Statement.{statement}
+use Rattle.test_same_plan.proofs.same_tasks.Tie as tie
 
 abbrev Inv-loop : tie.InvT-loop
 Inv-loop a b tasks i₀ i = i ≤ 16

@@ -1,23 +1,23 @@
--- `test_same::plans::same_labels` is safe and ends: the labels that are left are the measure.
+-- `test_same_state::same_flags` is safe and ends: the loops that are left are the measure.
 use Prim.Native.Nat.{_-_, _≤_}
 use borrow.Author.Needs.{needs}
-use Rattle.test_same.proofs.plans.same_labels.Statement.{statement}
-use Rattle.test_same.proofs.plans.same_labels.Tie as tie
+use Rattle.test_same_state.proofs.same_flags.Statement.{statement}
+use Rattle.test_same_state.proofs.same_flags.Tie as tie
 
 abbrev Inv-loop : tie.InvT-loop
-Inv-loop a b cores i₀ i = i ≤ 8
+Inv-loop a b i₀ i = i ≤ 16
 
 abbrev μ-loop : tie.MeasureT-loop
-μ-loop a b cores i₀ i = 8 - i
+μ-loop a b i₀ i = 16 - i
 
 loop-holds : tie.Need-loop-holds Inv-loop μ-loop
 loop-holds c = search needs
 
-element-copy-out-if2 : tie.Need-element-copy-out-if2 Inv-loop μ-loop
-element-copy-out-if2 c = search needs
+element-copy-out-if1 : tie.Need-element-copy-out-if1 Inv-loop μ-loop
+element-copy-out-if1 c = search needs
 
-element-copy-out-if2-2 : tie.Need-element-copy-out-if2-2 Inv-loop μ-loop
-element-copy-out-if2-2 c = search needs
+element-copy-out-if1-2 : tie.Need-element-copy-out-if1-2 Inv-loop μ-loop
+element-copy-out-if1-2 c = search needs
 
 returns : tie.Need-returns Inv-loop μ-loop
 returns c = search needs
@@ -34,15 +34,15 @@ loop-again c = search needs
 returns-2 : tie.Need-returns-2 Inv-loop μ-loop
 returns-2 c = search needs
 
-pub same-labels-spec : {M : Type 1} → statement M
-same-labels-spec =
+pub same-flags-spec : {M : Type 1} → statement M
+same-flags-spec =
     tie.close
     (tie.spec
     Inv-loop
     μ-loop
     loop-holds
-    element-copy-out-if2
-    element-copy-out-if2-2
+    element-copy-out-if1
+    element-copy-out-if1-2
     returns
     add-i
     loop-less

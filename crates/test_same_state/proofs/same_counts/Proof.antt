@@ -1,20 +1,29 @@
--- `test_same::plans::clear_labels` is safe and ends: the labels that are left are the measure.
-use Prim.Native.Nat.{_-_}
+-- `test_same_state::same_counts` is safe and ends: the loops that are left are the measure.
+use Prim.Native.Nat.{_-_, _≤_}
 use borrow.Author.Needs.{needs}
-use Rattle.test_same.proofs.plans.clear_labels.Statement.{statement}
-use Rattle.test_same.proofs.plans.clear_labels.Tie as tie
+use Rattle.test_same_state.proofs.same_counts.Statement.{statement}
+use Rattle.test_same_state.proofs.same_counts.Tie as tie
 
 abbrev Inv-loop : tie.InvT-loop
-Inv-loop from plan i₀ i = Unit
+Inv-loop a b i₀ i = i ≤ 16
 
 abbrev μ-loop : tie.MeasureT-loop
-μ-loop from plan i₀ i = 8 - i
+μ-loop a b i₀ i = 16 - i
 
 loop-holds : tie.Need-loop-holds Inv-loop μ-loop
 loop-holds c = search needs
 
+mul-if1 : tie.Need-mul-if1 Inv-loop μ-loop
+mul-if1 c = search needs
+
 element-copy-out-if1 : tie.Need-element-copy-out-if1 Inv-loop μ-loop
 element-copy-out-if1 c = search needs
+
+mul-if1-2 : tie.Need-mul-if1-2 Inv-loop μ-loop
+mul-if1-2 c = search needs
+
+element-copy-out-if1-2 : tie.Need-element-copy-out-if1-2 Inv-loop μ-loop
+element-copy-out-if1-2 c = search needs
 
 returns : tie.Need-returns Inv-loop μ-loop
 returns c = search needs
@@ -31,14 +40,17 @@ loop-again c = search needs
 returns-2 : tie.Need-returns-2 Inv-loop μ-loop
 returns-2 c = search needs
 
-pub clear-labels-spec : {M : Type 1} → statement M
-clear-labels-spec =
+pub same-counts-spec : {M : Type 1} → statement M
+same-counts-spec =
     tie.close
     (tie.spec
     Inv-loop
     μ-loop
     loop-holds
+    mul-if1
     element-copy-out-if1
+    mul-if1-2
+    element-copy-out-if1-2
     returns
     add-i
     loop-less

@@ -1,29 +1,20 @@
--- `test_same::states::same_counts` is safe and ends: the loops that are left are the measure.
-use Prim.Native.Nat.{_-_, _≤_}
+-- `test_same_plan::clear_labels` is safe and ends: the labels that are left are the measure.
+use Prim.Native.Nat.{_-_}
 use borrow.Author.Needs.{needs}
-use Rattle.test_same.proofs.states.same_counts.Statement.{statement}
-use Rattle.test_same.proofs.states.same_counts.Tie as tie
+use Rattle.test_same_plan.proofs.clear_labels.Statement.{statement}
+use Rattle.test_same_plan.proofs.clear_labels.Tie as tie
 
 abbrev Inv-loop : tie.InvT-loop
-Inv-loop a b i₀ i = i ≤ 16
+Inv-loop from plan i₀ i = Unit
 
 abbrev μ-loop : tie.MeasureT-loop
-μ-loop a b i₀ i = 16 - i
+μ-loop from plan i₀ i = 8 - i
 
 loop-holds : tie.Need-loop-holds Inv-loop μ-loop
 loop-holds c = search needs
 
-mul-if1 : tie.Need-mul-if1 Inv-loop μ-loop
-mul-if1 c = search needs
-
 element-copy-out-if1 : tie.Need-element-copy-out-if1 Inv-loop μ-loop
 element-copy-out-if1 c = search needs
-
-mul-if1-2 : tie.Need-mul-if1-2 Inv-loop μ-loop
-mul-if1-2 c = search needs
-
-element-copy-out-if1-2 : tie.Need-element-copy-out-if1-2 Inv-loop μ-loop
-element-copy-out-if1-2 c = search needs
 
 returns : tie.Need-returns Inv-loop μ-loop
 returns c = search needs
@@ -40,17 +31,14 @@ loop-again c = search needs
 returns-2 : tie.Need-returns-2 Inv-loop μ-loop
 returns-2 c = search needs
 
-pub same-counts-spec : {M : Type 1} → statement M
-same-counts-spec =
+pub clear-labels-spec : {M : Type 1} → statement M
+clear-labels-spec =
     tie.close
     (tie.spec
     Inv-loop
     μ-loop
     loop-holds
-    mul-if1
     element-copy-out-if1
-    mul-if1-2
-    element-copy-out-if1-2
     returns
     add-i
     loop-less

@@ -1,8 +1,8 @@
--- `test_same::states::same_places` is safe and ends: the job places that are left are the measure.
+-- `test_same_state::same_places` is safe and ends: the job places that are left are the measure.
 use Prim.Native.Nat.{_-_, _≤_}
 use borrow.Author.Needs.{needs}
-use Rattle.test_same.proofs.states.same_places.Statement.{statement}
-use Rattle.test_same.proofs.states.same_places.Tie as tie
+use Rattle.test_same_state.proofs.same_places.Statement.{statement}
+use Rattle.test_same_state.proofs.same_places.Tie as tie
 
 abbrev Inv-loop : tie.InvT-loop
 Inv-loop a b k₀ k = k ≤ 256

@@ -1,3 +1,0 @@
-// What the cases compare: plans and states, and whether their unused places are zero.
-pub mod plans;
-pub mod states;
