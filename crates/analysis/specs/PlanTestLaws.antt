@@ -1,5 +1,6 @@
 -- How the test of a plan by 3 to 13 is put together from its tested-slack and its bounds.
 --     test-refused     a refusal of the tested-slack is the plan's
+--     tested-limits    what 3 to 12 leave; few-tasks: at most sixteen tasks
 --     test-found       a plan marked as found: 12 and 13 against the found slack
 --     test-offered     a plan marked as offered: 13
 use Prim.Native.Nat.{ℕ, _≤_, _<_}
@@ -19,6 +20,7 @@ use Rattle.tasks.specs.TaskSet.{found, bound, row}
 use Rattle.tasks.specs.Content.{Content, contentOf}
 use Rattle.tasks.specs.Tests.{firstMet, orNext, foundTest, boundsTest, test11, test12, test13, tests}
 use Rattle.tasks.specs.AnswerLaws.{lowest-ext, lowest-passed, orNext-passed, firstMet-passed}
+use Rattle.tasks.specs.Limits.{Limits}
 use Rattle.tasks.specs.LimitsLaws.{limitTests, slackTests, tests-split, limits-passed}
 use Rattle.analysis.specs.SlackTest.{offering, offeredTest, hadSlack}
 
@@ -77,8 +79,11 @@ module _ (c : Content) where
         let r = firstMet-passed (test11 c) _ (orNext-passed (limitTests c) _ e .1) in
         (r .0, firstMet-passed (offeredTest c) _ (r .1) .0)
 
+    pub tested-limits : Limits (c .tasks)
+    tested-limits = limits-passed c limits .0
+
     pub few-tasks : c .tasks .count ≤ 16
-    few-tasks = limits-passed c limits .0 .tasks-high
+    few-tasks = tested-limits .tasks-high
 
     left : tests c ≡ orNext (test12 c) (test13 c)
     unfolding slackTests firstMet

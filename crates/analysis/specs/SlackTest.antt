@@ -3,16 +3,16 @@
 --     offeredTest    12 of offered slack
 --     taskTests      6 to 12
 --     hadSlack       the slack: offered, or found
---     Offered        12 of offered slack, and that slack with zeros in unused places
---     RatesTested    the answer by 9 to 12, and the slack
---     TasksTested    the answer by 6 to 12, and the slack
---     PlanTested        the answer by 3 to 12, and the slack where none is met
+--     Offered        12 of offered slack, and that slack with zeros in unused places, with the tasks counted at it
+--     RatesTested    the answer by 9 to 12, and the slack with the tasks counted at it
+--     TasksTested    the answer by 6 to 12, and the same
+--     PlanTested     the answer by 3 to 12, and the same where none is met
 use Prim.Native.Nat.{ℕ}
 use mathlib.Core.Path.{_≡_}
 use mathlib.Core.Bool.{cond}
 use mathlib.Core.List.{List, [], _∷_}
 use lib.Dec.{eqb}
-use Rattle.laws.specs.Tab.{tab, cut}
+use Rattle.laws.specs.Tab.{cut}
 use Rattle.tasks.specs.declared.Plan.{Plan}
 use Rattle.tasks.specs.declared.Answer.{Answer}
 use Rattle.tasks.specs.declared.Answer.the-variants.{Accepted}
@@ -21,6 +21,7 @@ use Rattle.tasks.specs.Content.{Content, contentOf}
 use Rattle.tasks.specs.Tests.{refuse, firstMet, orNext, badOffers, compliantTest, test6, test7, test8, test9, test10, test11}
 use Rattle.tasks.specs.LimitsLaws.{limitTests}
 use Rattle.slack.specs.Rates.{ratesTest}
+use Rattle.slack.specs.Arrays.{Had}
 use Rattle.analysis.specs.declared.slack_test.Tested.{Tested}
 
 unfoldable pub offering : Plan → ℕ → Content
@@ -43,7 +44,7 @@ hadSlack c = cond (eqb (c .offers) 0) (row (found (c .tasks))) (c .slack)
 -- 12 of offered slack, from an array that may hold more than the used places
 pub record Offered (s : TaskSet) (slack : List ℕ) (r : Tested) : Type 0 where
   pub answer : r .answer ≡ compliantTest s (cut (s .count) (row slack) 0)
-  pub had : r .answer ≡ Accepted → r .slack ≡ tab (cut (s .count) (row slack) 0) 16
+  pub had : r .answer ≡ Accepted → Had s (cut (s .count) (row slack) 0) (r .slack) (r .names)
 
 -- 11, and 12 of offered slack
 unfoldable pub slackTest : TaskSet → List ℕ → ℕ → Answer
@@ -54,14 +55,14 @@ slackTest s slack k =
 -- 9 to 12
 pub record RatesTested (s : TaskSet) (slack : List ℕ) (k : ℕ) (r : Tested) : Type 0 where
   pub answer : r .answer ≡ orNext (ratesTest s) (slackTest s slack k)
-  pub had : r .answer ≡ Accepted → r .slack ≡ tab (cond (eqb k 0) (row (found s)) (cut (s .count) (row slack) 0)) 16
+  pub had : r .answer ≡ Accepted → Had s (cond (eqb k 0) (row (found s)) (cut (s .count) (row slack) 0)) (r .slack) (r .names)
 
 -- 6 to 12
 pub record TasksTested (p : Plan) (k : ℕ) (r : Tested) : Type 0 where
   pub answer : r .answer ≡ taskTests (offering p k)
-  pub slack : r .answer ≡ Accepted → r .slack ≡ tab (hadSlack (offering p k)) 16
+  pub had : r .answer ≡ Accepted → Had (offering p k .tasks) (hadSlack (offering p k)) (r .slack) (r .names)
 
 pub record PlanTested (p : Plan) (k : ℕ) (r : Tested) : Type 0 where
   pub answer :
       r .answer ≡ orNext (limitTests (offering p k)) (firstMet (test11 (offering p k) ∷ offeredTest (offering p k) ∷ []))
-  pub slack : r .answer ≡ Accepted → r .slack ≡ tab (hadSlack (offering p k)) 16
+  pub had : r .answer ≡ Accepted → Had (offering p k .tasks) (hadSlack (offering p k)) (r .slack) (r .names)

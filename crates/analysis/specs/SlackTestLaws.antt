@@ -4,7 +4,7 @@
 --     limits-split      3 to 10 are the three stages
 --     limits-from       what the three stages leave
 --     stopped, passed-on                           a refusal is passed on, and a passed test leaves the next
---     slack-tests, slack-had                       11 and 12 of a plan, and the slack that it has
+--     slack-tests, had-plan                        11 and 12 of a plan, and the slack that it has with the tasks counted at it
 --     slack-none, slack-count, slack-offered       11 and 12 by the slack count
 use Prim.Native.Nat.{ℕ, _-_, _≤_, _<_}
 use mathlib.Core.Path.{_≡_, refl, sym, _∙_, ap}
@@ -12,15 +12,17 @@ use mathlib.Core.Bool.{Bool, true, false, cond}
 use mathlib.Core.List.{List, [], _∷_}
 use native.Mathlib.Omega.{arith}
 use lib.Dec.{ltb, eqb}
+use lib.ListN.{take}
 use borrow.Author.Tests.{ltb-true, ltb-false, eq-eqb, ne-eqb}
 use Rattle.laws.specs.Tab.{tab, cut}
-use Rattle.laws.specs.TabLaws.{getD-cut, cut-below, cut-above}
+use Rattle.laws.specs.TabLaws.{tab-ext, getD-cut, cut-below, cut-above}
 use Rattle.tasks.specs.declared.Task.{Task}
 use Rattle.tasks.specs.declared.Plan.{Plan}
 use Rattle.tasks.specs.declared.Answer.{Answer}
 use Rattle.tasks.specs.declared.Answer.the-variants.{Accepted, Refused}
-use Rattle.tasks.specs.TaskSet.{TaskSet, plainTask, plain, found, row}
-use Rattle.tasks.specs.PlainLaws.{plain-multiple, plain-shares, plain-compliant, plain-found}
+use Rattle.tasks.specs.TaskSet.{TaskSet, plainTask, plain, counted, found, row}
+use Rattle.tasks.specs.PlainLaws.{plain-multiple, plain-shares, plain-counted, plain-compliant, plain-found}
+use Rattle.tasks.specs.AmountLaws.{counted-ext}
 use Rattle.tasks.specs.Content.{Content, contentOf, taskOf, noTask}
 use Rattle.tasks.specs.Tests.{badLabel, firstMet, orNext, compliantTest, test3, test4, test5, test6, test7, test8, test9, test10, test11}
 use Rattle.tasks.specs.AnswerLaws.{refuse-passed, lowest-ext, firstMet-append, firstMet-passed}
@@ -30,6 +32,7 @@ use Rattle.fields.specs.Columns.{columnsOf, setFrom}
 use Rattle.fields.specs.Stages.{frameTest, fieldsTest}
 use Rattle.fields.specs.StageLaws.{fields-scan}
 use Rattle.slack.specs.Rates.{Ranges, ratesTest}
+use Rattle.slack.specs.Arrays.{Had}
 use Rattle.analysis.specs.SlackTest.{offering, slackTest, offeredTest, hadSlack}
 use Rattle.slack.specs.StageLaws.{Framed}
 
@@ -159,6 +162,21 @@ module _ (p : Plan) (k : ℕ) (s : TaskSet) (e : s ≡ plain (contentOf p .tasks
   unfolding slackTest test11 offeredTest offering contentOf plain
   slack-tests = rw (e, plain-compliant (contentOf p .tasks) (cut (p .tasks) (row (p .slack)) 0))
 
-  pub slack-had : (i : ℕ) → cond (eqb k 0) (row (found s)) (cut (s .count) (row (p .slack)) 0) i ≡ hadSlack (offering p k) i
+  slack-had : (i : ℕ) → cond (eqb k 0) (row (found s)) (cut (s .count) (row (p .slack)) 0) i ≡ hadSlack (offering p k) i
   unfolding hadSlack offering contentOf plain
   slack-had i = rw (e, plain-found (contentOf p .tasks))
+
+  pub had-plan :
+      (slack names : List ℕ) → Had s (cond (eqb k 0) (row (found s)) (cut (s .count) (row (p .slack)) 0)) slack names
+      → Had (offering p k .tasks) (hadSlack (offering p k)) slack names
+  unfolding plain offering
+  had-plan slack names g =
+      record {
+        places = g .places ∙ tab-ext _ _ 16 (λ i h. slack-had i);
+        named =
+            ap (λ (t : TaskSet). take (t .cores - 1) names) (sym e)
+            ∙ g .named
+            ∙ ap (λ (t : TaskSet). counted t (cond (eqb k 0) (row (found s)) (cut (s .count) (row (p .slack)) 0))) e
+            ∙ plain-counted (contentOf p .tasks) _
+            ∙ counted-ext (contentOf p .tasks) _ _ (λ i h. slack-had i);
+      }

@@ -2,8 +2,8 @@
 use fields::columns::split;
 use fields::frame::frame;
 use fields::ranges::task_ranges;
+use largest::first_names;
 use slack::amount::amount;
-use slack::amount::first_counted;
 use slack::rates::rate;
 use slack::vector::first_uncovered;
 use slack::vector::search;
@@ -19,10 +19,12 @@ ghost use Rattle.analysis.specs.SlackTest.{PlanTested, Offered, RatesTes
 ghost use Rattle.fields.specs.Columns.{setFrom};
 ghost use Rattle.slack.specs.Rates.{Ranges};
 
-// The answer, and where it is no refusal the slack, offered or found, with zeros in unused places.
+// The answer, and where it is no refusal the slack, offered or found, with zeros in unused places, and the tasks by name, those counted at
+// that slack first.
 pub struct Tested {
     pub answer: Answer,
     pub slack: [u32; 16],
+    pub names: [u8; 16],
 }
 
 fn untested(answer: Answer) -> Tested
@@ -31,6 +33,7 @@ fn untested(answer: Answer) -> Tested
     Tested {
         answer,
         slack: [0; 16],
+        names: [0; 16],
     }
 }
 
@@ -49,8 +52,8 @@ fn offered(
     ensures { λ r. ⌜ ((s : TaskSet) → ArraysOf s (now (share .entry)) (now (budget .entry)) (now (offset .entry)) multiple surplus cores tasks → Offered s (now (slack .entry)) r) ⌝ }
 {
     let used = tidy_slack(slack, tasks);
-    let mut chosen = first_counted(cores - 1);
-    let whole = amount(share, offset, &used, &mut chosen, surplus, tasks);
+    let mut names = first_names();
+    let whole = amount(share, offset, &used, &mut names, surplus, cores - 1, tasks);
     let bad = first_uncovered(&used, budget, whole, multiple, cores as u64, tasks);
     if bad < tasks {
         return untested(Answer::Refused {
@@ -61,6 +64,7 @@ fn offered(
     Tested {
         answer: Answer::Accepted,
         slack: used,
+        names,
     }
 }
 
@@ -84,10 +88,12 @@ fn test_rated(
     };
     let share = rates.share;
     if offers == 0 {
+        let mut names = first_names();
         let found = search(
             &share,
             budget,
             offset,
+            &mut names,
             rates.multiple,
             rates.surplus,
             cores,
@@ -96,6 +102,7 @@ fn test_rated(
         return Tested {
             answer: Answer::Accepted,
             slack: found,
+            names,
         };
     }
     if offers != tasks {

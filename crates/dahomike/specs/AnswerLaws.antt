@@ -1,12 +1,13 @@
 -- The C functions' answers and the bytes that they leave behind, from what their code has seen.
 --     judge-refused    1 to 13, judge-short 24, judge-done the report
+--     counted-refused, counted-short, counted-done    the same of the names
 --     run-refused, run-done      the log run's answer
 --     reportable       an accepted plan's slack and bounds fit 4 bytes each
 use Prim.Native.Nat.{ℕ, _+_, _*_, _≤_, _<_}
 use mathlib.Core.Path.{_≡_, sym, _∙_, ap}
 use mathlib.Core.List.{List, _++_}
 use native.Mathlib.Omega.{arith}
-use lib.ListN.{length, length-append}
+use lib.ListN.{length, take, length-append}
 use lib.Seq.{sets}
 use borrow.Author.Tests.{lt-ltb, le-ltb}
 use Rattle.laws.specs.TabLaws.{getD-tab}
@@ -22,10 +23,11 @@ use Rattle.numbers.specs.Bytes.{digits, entries}
 use Rattle.numbers.specs.ByteLaws.{length-digits, length-entries, entries-same}
 use Rattle.laws.specs.SetsLaws.{sets-whole}
 use Rattle.codec.specs.Table.{taskCount, taskSetIn, contentIn, verdict}
-use Rattle.table.specs.Judged.{judged}
+use Rattle.table.specs.Judged.{namesIn, judged}
+use Rattle.table.specs.NamesLaws.{names-count, names-first}
 use Rattle.replay.specs.declared.run.Ran.{Ran}
 use Rattle.replay.specs.Ran.{runTest, ranOf}
-use Rattle.dahomike.specs.Answers.{answerNumber, judgeTest, judgeNumber, reportBytes, judgeLeaves, runNumber, boundIn, pairOf, Reportable}
+use Rattle.dahomike.specs.Answers.{answerNumber, judgeTest, judgeNumber, reportBytes, judgeLeaves, countedTest, countedNumber, countedLeaves, runNumber, boundIn, pairOf, Reportable}
 
 size : (a b : ℕ) → length (digits 4 a ++ digits 4 b) ≡ 8
 size a b = length-append (digits 4 a) (digits 4 b) ∙ rw (length-digits 4 a, length-digits 4 b)
@@ -123,6 +125,34 @@ module _ (t out : List ℕ) (j : Judgement) (e : j ≡ judged t) where
         in (
           rw (accepted, le-ltb (length out) (8 * taskCount t) l) count-is,
           rw (accepted, le-ltb (length out) (8 * taskCount t) l) (written ∙ rw (report-long, report-is)),
+        )
+
+-- ---- the names
+
+module _ (t out : List ℕ) (j : Judgement) (e : j ≡ judged t) where
+  pub counted-refused :
+      (k i : ℕ) → j .answer ≡ Refused k i → (answerNumber (Refused k i) 0 ≡ countedNumber t (length out)) × (out ≡ countedLeaves t out)
+  unfolding countedNumber countedLeaves countedTest firstMet answerNumber
+  counted-refused k i a = let v = sym (verdict-is t out j e) ∙ a in (rw v, rw v)
+
+  module _ (a : j .answer ≡ Accepted) where
+    names : verdict t ≡ Accepted
+    names = sym (verdict-is t out j e) ∙ a
+
+    pub counted-short :
+        length out < j .count → (answerNumber (Refused 24 0) 0 ≡ countedNumber t (length out)) × (out ≡ countedLeaves t out)
+    unfolding countedNumber countedLeaves countedTest firstMet answerNumber
+    counted-short h =
+        let l : length out < length (namesIn t) = omega (arith, names-count t j e) in
+        (rw (names, lt-ltb (length out) (length (namesIn t)) l), rw (names, lt-ltb (length out) (length (namesIn t)) l))
+
+    pub counted-done :
+        j .count ≤ length out → (j .count ≡ countedNumber t (length out)) × (sets out 0 (take (j .count) (j .counted)) ≡ countedLeaves t out)
+    unfolding countedNumber countedLeaves countedTest firstMet answerNumber
+    counted-done h =
+        let l : length (namesIn t) ≤ length out = omega (arith, names-count t j e) in (
+          rw (names, le-ltb (length out) (length (namesIn t)) l) (names-count t j e),
+          rw (names, le-ltb (length out) (length (namesIn t)) l) (ap (sets out 0) (names-first t j e) ∙ sets-whole out (namesIn t) l),
         )
 
 -- ---- the log run

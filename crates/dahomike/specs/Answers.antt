@@ -4,6 +4,8 @@
 --     judgeNumber     the judgement's answer
 --     reportBytes     slack and bound for each loop
 --     judgeLeaves     the lent buffer afterwards
+--     countedTest     1 to 13, and then 24 of the names
+--     countedNumber, countedLeaves    how many names, and the lent buffer afterwards
 --     runNumber       the log run's answer; what it leaves behind is replay's `runLeaves`
 --     pairOf, Reportable    one task's eight bytes from a plan, and what the plan keeps to so that they fit
 use Prim.Native.Nat.{ℕ, _+_, _*_, _≤_, _<_}
@@ -17,6 +19,7 @@ use Rattle.tasks.specs.Content.{Content, taskOf}
 use Rattle.tasks.specs.Tests.{refuse, firstMet, numberOf, indexOf, unlessRefused}
 use Rattle.numbers.specs.Bytes.{digits, entries}
 use Rattle.codec.specs.Table.{taskCount, contentIn, verdict}
+use Rattle.table.specs.Judged.{namesIn}
 use Rattle.replay.specs.Ran.{runTest, ranOf}
 
 -- "Each of the two answers one 64-bit number: n for judgement, … and 4,294,967,296 × refusal number + index for a refused call."
@@ -38,6 +41,17 @@ reportBytes c = entries (λ i. digits 4 (c .slack i) ++ digits 4 (bound (c .task
 unfoldable pub judgeLeaves : List ℕ → List ℕ → List ℕ
 judgeLeaves t out =
     unlessRefused (judgeTest t (length out)) (reportBytes (contentIn t) ++ drop (8 * taskCount t) out) out
+
+-- 24 where the lent buffer is shorter than the names, a byte each
+unfoldable pub countedTest : List ℕ → ℕ → Answer
+countedTest t room = firstMet (verdict t ∷ refuse 24 (ltb room (length (namesIn t))) ∷ [])
+
+unfoldable pub countedNumber : List ℕ → ℕ → ℕ
+countedNumber t room = answerNumber (countedTest t room) (length (namesIn t))
+
+-- the names from the buffer's beginning on; "bytes beyond stay", and "Nothing lent is written" on a refusal
+unfoldable pub countedLeaves : List ℕ → List ℕ → List ℕ
+countedLeaves t out = unlessRefused (countedTest t (length out)) (namesIn t ++ drop (length (namesIn t)) out) out
 
 -- the sum that is a task's bound, from a plan's own arrays
 unfoldable pub boundIn : Plan → ℕ → ℕ

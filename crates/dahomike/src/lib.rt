@@ -1,4 +1,5 @@
 // The functions that the desktop planner calls as C functions, over byte slices: a pointer and a length each.
+use decimal::put_words;
 use numbers::put4;
 use replay::run_log;
 use table::judge;
@@ -12,7 +13,7 @@ ghost use lib.ListN.{length};
 ghost use lib.Seq.{sets};
 ghost use Rattle.numbers.specs.Bytes.{digits, entries};
 ghost use Rattle.replay.specs.Ran.{runLeaves};
-ghost use Rattle.dahomike.specs.Answers.{answerNumber, judgeNumber, judgeLeaves, runNumber, pairOf, Reportable};
+ghost use Rattle.dahomike.specs.Answers.{answerNumber, judgeNumber, judgeLeaves, countedNumber, countedLeaves, runNumber, pairOf, Reportable};
 
 // "4,294,967,296 × refusal number + index for a refused call"
 fn refused(answer: Answer) -> u64
@@ -69,6 +70,28 @@ pub extern "C" fn dahomike_judge(table: &[u8], out: &mut [u8]) -> u64
     }
     report(plan, out);
     tasks as u64
+}
+
+// The loops counted in the judgement of a table: how many, and a byte for each, largest weight first; or the refusal.
+#[no_mangle]
+pub extern "C" fn dahomike_counted(table: &[u8], out: &mut [u8]) -> u64
+    ensures { λ r. ⌜ (r ≡ countedNumber (now (table .entry)) (length (now (out .entry)))) × (now (out .exit) ≡ countedLeaves (now (table .entry)) (now (out .entry))) ⌝ }
+{
+    let judgement = judge(table);
+    let answer = judgement.answer;
+    let Answer::Accepted = answer else {
+        return refused(answer);
+    };
+    let count = judgement.count;
+    if out.len() < count {
+        return refused(Answer::Refused {
+            number: refusal::BUFFER_TOO_SHORT,
+            index: 0,
+        });
+    }
+    let counted = judgement.counted;
+    put_words(out, 0, &counted[..count]);
+    count as u64
 }
 
 // The run of a log on a table: taken + 65,536 × refused and each entry's 8 bytes, or the refusal.

@@ -10,16 +10,15 @@ use lib.ListN.{length}
 use Rattle.laws.specs.Sum.{count}
 use Rattle.laws.specs.SumLaws.{count-le, count-not, count-pos, count-members}
 use Rattle.laws.specs.Member.{member, Distinct}
+use Rattle.laws.specs.SortedLaws.{sorted-distinct}
 use Rattle.tasks.specs.TaskSet.{TaskSet}
 use Rattle.machine.specs.Machine.{Machine, waiting}
-use Rattle.choice.specs.Key.{keyOf}
+use Rattle.choice.specs.Key.{keyOf, sooner}
 use Rattle.heads.specs.Order.{Rises, Heads}
-use Rattle.heads.specs.OrderLaws.{later, later-in, not-again, loopIn, loop-at, all-rise}
+use Rattle.heads.specs.OrderLaws.{rises-sorted, later, later-in, loopIn, loop-at, all-rise}
 
 rises-distinct : (K : ℕ → ℕ) (l : List ℕ) → Rises K l → Distinct l
-unfolding Rises Distinct
-rises-distinct K [] r = tt
-rises-distinct K (i ∷ l) r = (not-again K i l (r .0), rises-distinct K l (r .1))
+rises-distinct K l r = sorted-distinct (sooner K) l (rises-sorted K l r)
 
 length-later : (f : ℕ → ℕ) (a d : ℕ) → length (later f a d) ≡ d
 unfolding later

@@ -1,2 +1,3 @@
-pub mod Passes
-pub mod PassLaws
+pub mod Chosen
+pub mod ExchangeLaws
+pub mod ChosenLaws

@@ -10,6 +10,6 @@ pub mod Member
 pub mod MemberLaws
 pub mod SumLaws
 pub mod RankLaws
+pub mod SortedLaws
 pub mod LargestLaws
-pub mod SwapLaws
 pub mod SetsLaws

@@ -6,6 +6,7 @@
 --     member-append                 members of the two parts
 --     member-take                   a member of a beginning is a member; not-member-take: what is no member is none of a beginning
 --     distinct-take                 a beginning of a list that names none twice names none twice
+--     distinct-by-places            a list that has no index at two places names none twice
 --     member-at                     what stands at a place of the list is a member; member-stands: every member stands at one
 use Prim.Native.Nat.{ℕ, zero, suc, _<_}
 use mathlib.Core.Bool.{Bool, true, false, _||_, true≢false}
@@ -98,3 +99,15 @@ member-stands (j ∷ l) i d m =
     (λ (q : i ≡ j). (0, omega arith, sym q))
     (λ (q : member i l ≡ true). let r = member-stands l i d q in (suc (r .0), omega (arith, r .1), r .2))
     (member-cases i j l m)
+
+pub distinct-by-places : (l : List ℕ) → ((a b : ℕ) → a < length l → b < length l → getD l a 0 ≡ getD l b 0 → a ≡ b) → Distinct l
+unfolding Distinct
+distinct-by-places [] once = tt
+distinct-by-places (j ∷ l) once =
+    (new (member j l) refl, distinct-by-places l (λ a b h k e. let q = once (suc a) (suc b) (omega arith) (omega arith) e in omega arith))
+  where
+    new : (b : Bool) → member j l ≡ b → member j l ≡ false
+    new true m =
+        let s = member-stands l j 0 m in
+        absurd (omega (arith, once 0 (suc (s .0)) (omega arith) (omega (arith, s .1)) (sym (s .2))))
+    new false m = m

@@ -12,23 +12,26 @@
 --     sum-but-one      rows that agree but at k
 --     sum-upto         the sum below fewer is at most the sum below more; sum-rest: equal, if the rest is zeros
 --     sum-cut          a row that is cut off at n, with zeros after it
---     count-ext, count-mono, count-le      the same of the number of indices at which a test holds
+--     count-ext, count-mono, count-less, count-le      the same of the number of indices at which a test holds
 --     count-none, count-all, count-not, count-pos      it is 0, it is n, the indices at which the test fails, it isn't 0
+--     count-full       where it is n, the test holds at every index
 --     sumIn p f n      the sum of f over the indices below n at which p holds
 --     sumIn-step, sumIn-mono, sumIn-le      the same of that sum; it is at most the whole one
 --     sumIn-count      of a constant row; sumIn-rest: with the indices at which p fails it is the whole sum
 --     sumOver-ext, sumOver-mono, sumOver-const
+--     sumOver-append   over two lists, one behind the other; sumOver-take: over the first k of a list, place by place
 --     sumOver-members  over a list that names no index twice, all below n, it is the sum over its members; count-members: their number
 use Prim.Native.Nat.{ℕ, zero, suc, _+_, _*_, _≤_, _<_}
 use mathlib.Core.Bool.{Bool, true, false, cond, not}
 use mathlib.Core.Path.{_≡_, refl, sym, _∙_}
 use mathlib.Core.Logic.{_≢_, ⊎-elim}
-use mathlib.Core.List.{List, [], _∷_}
+use mathlib.Core.List.{List, [], _∷_, _++_}
 use native.Mathlib.Nat.{not-suc-le-zero, le-of-suc-le-suc, eq-or-lt-of-le, mul-add, suc-mul, mul-comm, le-refl}
 use native.Mathlib.Numerals.{add-one}
 use native.Mathlib.Omega.{arith}
 use lib.Arith.{le-zero}
-use lib.ListN.{length}
+use lib.ListN.{length, getD, take}
+use lib.Seq.{take-suc}
 use borrow.Author.Tests.{eq-eqb, ne-eqb}
 use Rattle.laws.specs.Sum.{sum, count, sumOver}
 use Rattle.laws.specs.Tab.{cut}
@@ -161,6 +164,20 @@ pub count-mono : (p q : ℕ → Bool) (n : ℕ) → ((i : ℕ) → i < n → p i
 unfolding count sumIn
 count-mono p q n sub = sumIn-mono p q (λ i. 1) (λ i. 1) n sub (λ i h e. omega arith)
 
+pub count-less :
+    (p q : ℕ → Bool) (n : ℕ) → ((i : ℕ) → i < n → p i ≡ true → q i ≡ true) → (k : ℕ) → k < n → p k ≡ false → q k ≡ true
+    → count p n < count q n
+unfolding count
+count-less p q n sub k h e f =
+    sum-less
+    (λ i. cond (p i) 1 0)
+    (λ i. cond (q i) 1 0)
+    n
+    (λ i l. within (p i) (q i) 1 1 (sub i l) (λ _. omega arith))
+    k
+    h
+    (rw (e, f) (λ z. omega arith))
+
 pub count-le : (p : ℕ → Bool) (n : ℕ) → count p n ≤ n
 unfolding count
 count-le p n = omega (arith, sum-le-mul (λ i. cond (p i) 1 0) 1 n (λ i h. one (p i)))
@@ -185,6 +202,13 @@ pub count-pos : (p : ℕ → Bool) (n i : ℕ) → i < n → p i ≡ true → 0 
 unfolding count
 count-pos p n i h e = omega (arith, rw e at (term-le-sum (λ j. cond (p j) 1 0) n i h))
 
+pub count-full : (p : ℕ → Bool) (n : ℕ) → count p n ≡ n → (i : ℕ) → i < n → p i ≡ true
+count-full p n full i h = go (p i) refl
+  where
+    go : (b : Bool) → p i ≡ b → p i ≡ true
+    go true e = e
+    go false e = absurd (omega (arith, count-less p (λ j. true) n (λ j l _. refl) i h e refl, count-le (λ j. true) n))
+
 pub sumOver-mono : (f g : ℕ → ℕ) (l : List ℕ) → ((i : ℕ) → member i l ≡ true → f i ≤ g i) → sumOver f l ≤ sumOver g l
 unfolding sumOver
 sumOver-mono f g [] le = omega arith
@@ -199,6 +223,17 @@ pub sumOver-const : (b : ℕ) (l : List ℕ) → sumOver (λ i. b) l ≡ length 
 unfolding sumOver
 sumOver-const b [] = omega arith
 sumOver-const b (i ∷ l) = omega (arith, sumOver-const b l, suc-mul (length l) b)
+
+pub sumOver-append : (f : ℕ → ℕ) (l m : List ℕ) → sumOver f (l ++ m) ≡ sumOver f l + sumOver f m
+unfolding sumOver
+sumOver-append f [] m = omega arith
+sumOver-append f (i ∷ l) m = omega (arith, sumOver-append f l m)
+
+pub sumOver-take : (f : ℕ → ℕ) (l : List ℕ) (k : ℕ) → k ≤ length l → sumOver f (take k l) ≡ sum (λ a. f (getD l a 0)) k
+unfolding sumOver sum
+sumOver-take f l zero h = refl
+sumOver-take f l (suc k) h =
+    rw (take-suc l k 0 h, sumOver-append f (take k l) (getD l k 0 ∷ []), sumOver-take f l k (omega arith)) (omega arith)
 
 pub sumOver-members :
     (f : ℕ → ℕ) (l : List ℕ) (n : ℕ) → Distinct l → ((i : ℕ) → member i l ≡ true → i < n) → sumOver f l ≡ sumIn (λ i. member i l) f n

@@ -9,6 +9,8 @@
 --     cut-all           filled up to its length an array is the row's tab
 --     getD-tab-cut      a tab read anywhere is the row cut off at its length
 --     getD-cut          the tab of a row that is cut off below its length, read anywhere
+--     getD-first        the first k entries of a list, read anywhere
+--     take-tab          a list put into a longer one, and read back
 --     filled-none       an array of z alone is filled up to 0
 --     filled-next       a store at i fills it up to i + 1
 use Prim.Native.Nat.{ℕ, zero, suc, _+_, _≤_, _<_}
@@ -19,8 +21,8 @@ use mathlib.Core.List.{List, [], _∷_}
 use native.Mathlib.Nat.{not-suc-le-zero, le-of-suc-le-suc, eq-or-lt-of-le}
 use native.Mathlib.Omega.{arith}
 use lib.Dec.{ltb, eqb}
-use lib.ListN.{length, getD, set, replicate, length-append, length-set, length-replicate, getD-replicate, List·getD-append, List·getD-eq-default}
-use lib.Seq.{ext-getD, getD-at, getD-set-same, getD-set-other}
+use lib.ListN.{length, getD, set, take, replicate, length-append, length-set, length-take, length-replicate, getD-replicate, List·getD-append, List·getD-eq-default}
+use lib.Seq.{ext-getD, getD-at, getD-take, getD-set-same, getD-set-other}
 use borrow.Author.Tests.{ltb-true, ltb-false, lt-ltb, le-ltb, eqb-true, eqb-false}
 use Rattle.laws.specs.Tab.{tab, cut}
 
@@ -98,6 +100,25 @@ module _ {A : Type 0} where
       go false e =
           let l = ltb-false i N e in
           cut-above N (cut n f z) z i l ∙ sym (cut-above n f z i (omega arith))
+
+  pub getD-first : (k : ℕ) (l : List A) (i : ℕ) (z : A) → getD (take k l) i z ≡ cut k (λ j. getD l j z) z i
+  getD-first k l i z = go (ltb i k) refl
+    where
+      go : (b : Bool) → ltb i k ≡ b → getD (take k l) i z ≡ cut k (λ j. getD l j z) z i
+      go true e =
+          let h = ltb-true i k e in
+          getD-take k l i z h ∙ sym (cut-below k (λ j. getD l j z) z i h)
+      go false e =
+          let h = ltb-false i k e in
+          List·getD-eq-default (take k l) z (omega (arith, length-take k l)) ∙ sym (cut-above k (λ j. getD l j z) z i h)
+
+  pub take-tab : (l : List A) (n : ℕ) (z : A) → length l ≤ n → take (length l) (tab (λ i. getD l i z) n) ≡ l
+  take-tab l n z h =
+      ext-getD z (take (length l) (tab (λ i. getD l i z) n)) l
+      (length-take (length l) (tab (λ i. getD l i z) n) ∙ omega (arith, length-tab (λ i. getD l i z) n))
+      (λ i k.
+      let low : i < length l = omega (arith, length-take (length l) (tab (λ i. getD l i z) n)) in
+      getD-take (length l) (tab (λ i. getD l i z) n) i z low ∙ getD-tab (λ i. getD l i z) n i z (omega arith))
 
   pub filled-none : (f : ℕ → A) (z : A) (N : ℕ) → replicate N z ≡ tab (cut 0 f z) N
   filled-none f z N = ext-tab (cut 0 f z) (replicate N z) N z (length-replicate N z) (λ i h. rw (cut-above 0 f z i (omega arith)) (getD-replicate N i z z h))

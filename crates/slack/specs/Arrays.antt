@@ -3,13 +3,16 @@
 --     lifted       the least slack, from what is needed and the budget, both divided by the number of cores
 --     upto         the row f below n and g from n on
 --     ArraysOf     the arrays and numbers are those of the task set s
+--     Had          the slack x in an array, and the tasks counted at it first among the names
 use Prim.Native.Nat.{ℕ, _+_, _*_, _-_, _<_}
 use mathlib.Core.Path.{_≡_}
 use mathlib.Core.Bool.{Bool, cond}
 use mathlib.Core.List.{List}
 use lib.Dec.{ltb}
+use lib.ListN.{take}
 use Rattle.laws.specs.Sum.{sum}
-use Rattle.tasks.specs.TaskSet.{TaskSet, hyperperiod, share, surplus, row}
+use Rattle.laws.specs.Tab.{tab}
+use Rattle.tasks.specs.TaskSet.{TaskSet, hyperperiod, share, surplus, counted, row}
 use Rattle.tasks.specs.Limits.{Limits}
 
 unfoldable pub uncovered : ℕ → ℕ → ℕ → List ℕ → List ℕ → ℕ → Bool
@@ -31,3 +34,7 @@ pub record ArraysOf (s : TaskSet) (shares budgets offsets : List ℕ) (h surplus
   pub share : (i : ℕ) → i < s .count → row shares i ≡ share s i
   pub budget : (i : ℕ) → i < s .count → row budgets i ≡ s .task i .budget
   pub offset : (i : ℕ) → i < s .count → row offsets i ≡ s .task i .offset
+
+pub record Had (s : TaskSet) (x : ℕ → ℕ) (slack names : List ℕ) : Type 0 where
+  pub places : slack ≡ tab x 16
+  pub named : take (s .cores - 1) names ≡ counted s x

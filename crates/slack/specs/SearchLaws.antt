@@ -1,27 +1,26 @@
 -- One turn of the slack search: x is raised to y, from the amount a of x and d, what is needed of it.
---     counted-first    the first k tasks chosen are k
 --     turn-need       what is needed is small
 --     turn-raised     y is x raised
 --     turn-length, turn-past    y has sixteen places, and zeros from n on
---     turn-over       nothing changed: y is the found slack
+--     turn-over       nothing changed: y is the found slack; turn-counted: and the tasks counted at x are those counted at it
 --     turn-less       something changed: the distance to the ceiling falls
 use Prim.Native.Nat.{ℕ, _+_, _*_, _-_, _/_, _%_, _≤_, _<_}
 use mathlib.Core.Path.{_≡_, refl, sym, _∙_, ap}
-use mathlib.Core.Bool.{Bool, true, false, cond, not}
+use mathlib.Core.Bool.{Bool, true, false, not}
 use mathlib.Core.List.{List}
 use native.Mathlib.Omega.{arith}
-use native.Mathlib.Nat.{mul-le-mul-left, le-trans, mul-one}
+use native.Mathlib.Nat.{mul-le-mul-left, le-trans}
 use lib.ListN.{length, getD}
 use lib.Dec.{ltb, eqb}
 use borrow.Author.Tests.{ltb-true, ltb-false, eqb-true, eqb-false, not-true, not-false}
 use Rattle.laws.specs.First.{first}
 use Rattle.laws.specs.FirstLaws.{first-le, first-holds, first-none}
-use Rattle.laws.specs.Sum.{sum, count}
-use Rattle.laws.specs.SumLaws.{sum-ext, sum-const, sum-cut}
+use Rattle.laws.specs.Sum.{sum}
 use Rattle.laws.specs.Tab.{tab, cut}
-use Rattle.laws.specs.TabLaws.{length-tab, getD-tab, getD-tab-out, getD-cut, cut-below, cut-above}
-use Rattle.tasks.specs.TaskSet.{TaskSet, hyperperiod, amount, needed, found, row}
+use Rattle.laws.specs.TabLaws.{length-tab, getD-tab, getD-tab-out}
+use Rattle.tasks.specs.TaskSet.{TaskSet, hyperperiod, counted, amount, needed, found, row}
 use Rattle.tasks.specs.ShareLaws.{hyperperiod-low}
+use Rattle.tasks.specs.AmountLaws.{counted-ext}
 use Rattle.tasks.specs.SlackLaws.{needed-covers}
 use Rattle.tasks.specs.RisingLaws.{Raised, Rising, rising-step, raised-high, rising-falls}
 use Rattle.tasks.specs.FoundLaws.{found-still, found-array}
@@ -29,17 +28,6 @@ use Rattle.slack.specs.RatesLaws.{row-filled}
 use Rattle.slack.specs.Arrays.{lifted, upto, ArraysOf}
 use Rattle.slack.specs.ArraysLaws.{upto-below, upto-above}
 use Rattle.slack.specs.NeedLaws.{need, need-least, needed-lifted}
-
-pub counted-first : (k n : ℕ) → k ≤ n → n ≤ 16 → count (λ i. getD (tab (cut k (λ i. true) false) 16) i false) n ≡ k
-unfolding count
-counted-first k n h l =
-    sum-ext _ (cut k (λ i. 1) 0) n (λ i t. one i t (ltb i k) refl) ∙ sum-cut (λ i. 1) k n h ∙ sum-const 1 k ∙ mul-one k
-  where
-    one : (i : ℕ) → i < n → (b : Bool) → ltb i k ≡ b → _≡_ {A = ℕ} (cond (getD (tab (cut k (λ i. true) false) 16) i false) 1 0) (cut k (λ i. 1) 0 i)
-    one i t true e =
-        rw (getD-cut k 16 (λ i. true) false (le-trans h l) i, cut-below k (λ i. true) false i (ltb-true i k e), cut-below {A = ℕ} k (λ i. 1) 0 i (ltb-true i k e))
-    one i t false e =
-        rw (getD-cut k 16 (λ i. true) false (le-trans h l) i, cut-above k (λ i. true) false i (ltb-false i k e), cut-above {A = ℕ} k (λ i. 1) 0 i (ltb-false i k e))
 
 module _ {s : TaskSet} {shares budgets offsets : List ℕ} {h surpluses m n : ℕ} (g : ArraysOf s shares budgets offsets h surpluses m n)
     (x : List ℕ) (a d : ℕ) (ea : a ≡ amount s (row x)) (ed : d ≡ (a + (h - 1)) / h) (z : Rising s (row x))
@@ -100,18 +88,23 @@ module _ {s : TaskSet} {shares budgets offsets : List ℕ} {h surpluses m n : �
             go true e = getD-tab _ 16 k 0 (ltb-true k 16 e) ∙ upto-above _ _ n k l ∙ p k l
             go false e = getD-tab-out _ 16 k 0 (ltb-false k 16 e)
 
-        pub turn-over : ((k : ℕ) → n ≤ k → row x k ≡ 0) → false ≡ ltb (first (λ k. not (eqb (row x k) (lifted (d / m) (d % m) (row quotient k) (row rest k)))) n) n → y ≡ tab (row (found s)) 16
-        turn-over p e =
-            let differs : ℕ → Bool = λ k. not (eqb (row x k) (lifted (d / m) (d % m) (row quotient k) (row rest k))) in
-            let L = g .limits in
-            let none = first-none differs n (omega (arith, first-le differs n, ltb-false (first differs n) n (sym e))) in
-            let still : (k : ℕ) → k < s .count → row x k ≡ row y k =
-            λ k l.
-            let t : k < n = omega (arith, g .tasks) in
-            eqb-true _ _ (not-false _ (none k t)) ∙ sym (turn-entry k t)
-            in
-            let at = found-still s L (row x) (row y) z turn-raised still in
-            found-array s L y 16 turn-length (λ k l. sym (still k l) ∙ at k l) (λ k l. turn-past p k (omega (arith, g .tasks)))
+        module _ (e : false ≡ ltb (first (λ k. not (eqb (row x k) (lifted (d / m) (d % m) (row quotient k) (row rest k)))) n) n) where
+          still : (k : ℕ) → k < s .count → row x k ≡ row y k
+          still k l =
+              let differs : ℕ → Bool = λ k. not (eqb (row x k) (lifted (d / m) (d % m) (row quotient k) (row rest k))) in
+              let t : k < n = omega (arith, g .tasks) in
+              let none = first-none differs n (omega (arith, first-le differs n, ltb-false (first differs n) n (sym e))) in
+              eqb-true _ _ (not-false _ (none k t)) ∙ sym (turn-entry k t)
+
+          settled : (k : ℕ) → k < s .count → row x k ≡ row (found s) k
+          settled = found-still s (g .limits) (row x) (row y) z turn-raised still
+
+          pub turn-over : ((k : ℕ) → n ≤ k → row x k ≡ 0) → y ≡ tab (row (found s)) 16
+          turn-over p =
+              found-array s (g .limits) y 16 turn-length (λ k l. sym (still k l) ∙ settled k l) (λ k l. turn-past p k (omega (arith, g .tasks)))
+
+          pub turn-counted : counted s (row x) ≡ counted s (row (found s))
+          turn-counted = counted-ext s (row x) (row (found s)) settled
 
         pub turn-less : true ≡ ltb (first (λ k. not (eqb (row x k) (lifted (d / m) (d % m) (row quotient k) (row rest k)))) n) n → n * 800000 - sum (row y) n < n * 800000 - sum (row x) n
         turn-less e =

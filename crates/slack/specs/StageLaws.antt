@@ -2,9 +2,10 @@
 --     frame-passed, ranges-passed    what 3 to 8 leave
 --     arrays-of                    the rates and columns of a task set past 3 to 10
 --     cores-low … amounts            what ties the arrays to a task set keeps every number small
+--     counted-row                    the tasks that the code counts are those counted
 --     amount-row                     the amount that the code works out is A
 --     uncovered-test                 the code's test of one task is the condition's
---     offered-refused, offered-passed, offered-slack    12 of offered slack
+--     offered-refused, offered-passed, offered-had    12 of offered slack, and that slack with the tasks counted at it
 --     row-of-filled                  an array that is filled up to n, as a row
 use Prim.Native.Nat.{ℕ, _+_, _*_, _-_, _≤_, _<_}
 use mathlib.Core.Path.{_≡_, refl, sym, _∙_, ap, ap₂, fun-ext}
@@ -12,6 +13,7 @@ use mathlib.Core.Bool.{Bool, true, false, not}
 use mathlib.Core.List.{List}
 use native.Mathlib.Omega.{arith}
 use lib.Dec.{ltb, leb}
+use lib.ListN.{take}
 use borrow.Author.Tests.{lt-ltb, le-ltb, leb-true, leb-false, ltb-false}
 use Rattle.laws.specs.First.{first}
 use Rattle.laws.specs.FirstLaws.{first-ext, first-le}
@@ -35,7 +37,7 @@ use Rattle.fields.specs.Stages.{frameTest, fieldsTest}
 use Rattle.slack.specs.Rates.{Ranges, Figures}
 use Rattle.slack.specs.RatesLaws.{row-filled}
 use Rattle.slack.specs.Weights.{weightRow, Few}
-use Rattle.slack.specs.Arrays.{uncovered, ArraysOf}
+use Rattle.slack.specs.Arrays.{uncovered, ArraysOf, Had}
 
 pub record Framed (m n : ℕ) : Type 0 where
   pub cores-low : 2 ≤ m
@@ -139,16 +141,17 @@ module _ {s : TaskSet} {shares budgets offsets : List ℕ} {h surpluses m n : �
   unfolding weightRow weight
   weight-row x i l = rw (g .share i l, g .offset i l)
 
+  pub counted-row : (x : List ℕ) → largest (m - 1) (weightRow shares offsets x) n ≡ counted s (row x)
+  unfolding counted
+  counted-row x = rw (g .cores, g .tasks) (largest-ext (s .cores - 1) _ _ (s .count) (weight-row x))
+
   pub amount-row :
-      (x : List ℕ) (k : ℕ) → k ≡ m - 1 →
-      sumOver (weightRow shares offsets x) (largest k (weightRow shares offsets x) n) + surpluses ≡ amount s (row x)
-  unfolding amount counted
-  amount-row x k e =
+      (x : List ℕ) → sumOver (weightRow shares offsets x) (largest (m - 1) (weightRow shares offsets x) n) + surpluses ≡ amount s (row x)
+  unfolding amount
+  amount-row x =
       ap₂ (λ (a b : ℕ). a + b)
-      (rw (e, g .cores, g .tasks)
-      (sumOver-ext _ _ _
-      (λ i l. weight-row x i (largest-below (s .cores - 1) (weightRow shares offsets x) (s .count) i l))
-      ∙ ap (sumOver (weight s (row x))) (largest-ext (s .cores - 1) _ _ (s .count) (weight-row x))))
+      (sumOver-ext _ _ _ (λ i l. weight-row x i (omega (arith, g .tasks, largest-below (m - 1) (weightRow shares offsets x) n i l)))
+      ∙ ap (sumOver (weight s (row x))) (counted-row x))
       (g .surplus)
 
   pub uncovered-test :
@@ -175,5 +178,9 @@ module _ {s : TaskSet} {shares budgets offsets : List ℕ} {h surpluses m n : �
       pub offered-passed : n ≤ bad → lowest 12 (λ k. not (covers s (cut (s .count) (row slack) 0) k)) (s .count) ≡ Accepted
       offered-passed l = lowest-none 12 _ (s .count) (omega (arith, first-bad, g .tasks, first-le (λ k. not (covers s (cut (s .count) (row slack) 0) k)) (s .count)))
 
-      pub offered-slack : used ≡ tab (cut (s .count) (row slack) 0) 16
-      offered-slack = rw (← g .tasks) eu
+      pub offered-had : (names : List ℕ) → take (m - 1) names ≡ largest (m - 1) (weightRow shares offsets used) n → Had s (cut (s .count) (row slack) 0) used names
+      offered-had names e =
+          record {
+            places = rw (← g .tasks) eu;
+            named = rw (g .cores) at (e ∙ counted-row used) ∙ ap (counted s) used-row;
+          }

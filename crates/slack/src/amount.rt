@@ -1,14 +1,9 @@
 // The amount A of a slack.
-use largest::largest_sum;
+use largest::choose;
 use multiple::wide;
-ghost use mathlib.Core.Path.{_≡_};
-ghost use mathlib.Core.Bool.{true, false};
-ghost use Prim.Native.Nat.{_+_, _<_, _≤_};
-ghost use Rattle.laws.specs.Sum.{count, sumOver};
-ghost use Rattle.laws.specs.Rank.{largest};
-ghost use Rattle.laws.specs.Tab.{tab, cut};
-ghost use Rattle.largest.specs.Passes.{members};
-ghost use Rattle.slack.specs.Weights.{weightRow, Few, Weighed};
+ghost use Prim.Native.Nat.{_<_, _≤_};
+ghost use Rattle.largest.specs.Chosen.{Arranged};
+ghost use Rattle.slack.specs.Weights.{weightRow, Few, Weighed, Amounts};
 
 // Every weight: share × (x + Y).
 fn weigh(share: &[u64; 16], offset: &[u32; 16], slack: &[u32; 16], tasks: usize) -> [u64; 16]
@@ -24,32 +19,19 @@ fn weigh(share: &[u64; 16], offset: &[u32; 16], slack: &[u32; 16], tasks: usize)
     weight
 }
 
-// The first `counted` tasks, for a start: the choice is put right by the first pass.
-pub fn first_counted(counted: usize) -> [bool; 16]
-    requires { ⌜ counted ≤ 16 ⌝ }
-    ensures { λ r. ⌜ r ≡ tab (cut counted (λ i. true) false) 16 ⌝ }
-{
-    let mut chosen = [false; 16];
-    let mut i = 0;
-    while i < counted {
-        chosen[i] = true;
-        i += 1;
-    }
-    chosen
-}
-
-// "A = the sum of the m − 1 largest weights, plus all n surpluses". The chosen tasks are kept from one slack to the next.
+// "A = the sum of the m − 1 largest weights, plus all n surpluses". The names of the counted tasks are kept from one slack to the next.
 pub fn amount(
     share: &[u64; 16],
     offset: &[u32; 16],
     slack: &[u32; 16],
-    chosen: &mut [bool; 16],
+    names: &mut [u8; 16],
     surplus: u64,
+    many: usize,
     tasks: usize,
 ) -> u64
-    requires { ⌜ Few (now share) tasks × (surplus < 1000000000000000000) ⌝ }
-    ensures { λ r. ⌜ (r ≡ sumOver (weightRow (now (share .entry)) (now (offset .entry)) (now (slack .entry))) (largest (count (members (now (chosen .entry))) tasks) (weightRow (now (share .entry)) (now (offset .entry)) (now (slack .entry))) tasks) + surplus) × (count (members (now (chosen .exit))) tasks ≡ count (members (now (chosen .entry))) tasks) ⌝ }
+    requires { ⌜ Few (now share) tasks × (surplus < 1000000000000000000) × Arranged (now names) tasks × (many ≤ tasks) ⌝ }
+    ensures { λ r. ⌜ Amounts (weightRow (now (share .entry)) (now (offset .entry)) (now (slack .entry))) many tasks surplus (now (names .exit)) r ⌝ }
 {
     let weight = weigh(share, offset, slack, tasks);
-    largest_sum(&weight, chosen, tasks) + surplus
+    choose(&weight, names, many, tasks) + surplus
 }

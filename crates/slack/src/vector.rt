@@ -1,6 +1,5 @@
 // The slack: offered slack tested by document 01's inequality, and slack found by raising zeros until nothing changes.
 use crate::amount::amount;
-use crate::amount::first_counted;
 use multiple::wide;
 ghost use mathlib.Core.Path.{_≡_};
 ghost use mathlib.Core.Bool.{not};
@@ -10,7 +9,8 @@ ghost use lib.ListN.{length};
 ghost use Rattle.laws.specs.First.{first};
 ghost use Rattle.laws.specs.Tab.{tab, cut};
 ghost use Rattle.tasks.specs.TaskSet.{TaskSet, row, found};
-ghost use Rattle.slack.specs.Arrays.{uncovered, lifted, upto, ArraysOf};
+ghost use Rattle.largest.specs.Chosen.{Arranged};
+ghost use Rattle.slack.specs.Arrays.{uncovered, lifted, upto, ArraysOf, Had};
 
 // The lowest task whose m × H × x + H × C is below the amount, or `tasks` where there is none.
 pub fn first_uncovered(
@@ -101,26 +101,27 @@ fn raise(
     changed
 }
 
-// "starting at zeros, the vector is raised until nothing changes"
+// "starting at zeros, the vector is raised until nothing changes". The tasks counted at the found slack stand first in `names`.
 pub fn search(
     share: &[u64; 16],
     budget: &[u32; 16],
     offset: &[u32; 16],
+    names: &mut [u8; 16],
     multiple: u64,
     surplus: u64,
     cores: usize,
     tasks: usize,
 ) -> [u32; 16]
-    requires { ⌜ ((s : TaskSet) × ArraysOf s (now share) (now budget) (now offset) multiple surplus cores tasks) ⌝ }
-    ensures { λ r. ⌜ ((s : TaskSet) → ArraysOf s (now (share .entry)) (now (budget .entry)) (now (offset .entry)) multiple surplus cores tasks → r ≡ tab (row (found s)) 16) ⌝ }
+    requires { ⌜ ((s : TaskSet) × ArraysOf s (now share) (now budget) (now offset) multiple surplus cores tasks) × Arranged (now names) tasks ⌝ }
+    ensures { λ r. ⌜ ((s : TaskSet) → ArraysOf s (now (share .entry)) (now (budget .entry)) (now (offset .entry)) multiple surplus cores tasks → Had s (row (found s)) r (now (names .exit))) ⌝ }
 {
     let divisor = cores as u32;
     let quotient = quotients(budget, divisor, tasks);
     let rest = remainders(budget, divisor, tasks);
-    let mut chosen = first_counted(cores - 1);
+    let many = cores - 1;
     let mut slack = [0u32; 16];
     loop {
-        let whole = amount(share, offset, &slack, &mut chosen, surplus, tasks);
+        let whole = amount(share, offset, &slack, names, surplus, many, tasks);
         let need = ((whole + (multiple - 1)) / multiple) as u32;
         if !raise(
             &mut slack,

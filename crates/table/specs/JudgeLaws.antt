@@ -7,14 +7,16 @@ use mathlib.Core.Path.{_≡_, refl, sym, _∙_, ap}
 use mathlib.Core.Bool.{Bool, true, false, _||_}
 use mathlib.Core.List.{List, [], _∷_}
 use lib.Dec.{eqb}
+use lib.ListN.{length}
 use borrow.Author.Tests.{eqb-true, eqb-false, eq-eqb, ne-eqb, not-false}
 use Rattle.laws.specs.Tab.{tab}
 use Rattle.laws.specs.TabLaws.{tab-ext}
 use Rattle.tasks.specs.declared.Plan.{Plan}
 use Rattle.tasks.specs.declared.Answer.{Answer}
 use Rattle.tasks.specs.declared.Answer.the-variants.{Accepted, Refused}
-use Rattle.tasks.specs.TaskSet.{TaskSet, found, row}
-use Rattle.tasks.specs.Content.{Content, contentOf, planOf, zeroPlan}
+use Rattle.tasks.specs.TaskSet.{TaskSet, counted, found, row}
+use Rattle.tasks.specs.AmountLaws.{counted-ext}
+use Rattle.tasks.specs.Content.{Content, named, contentOf, planOf, zeroPlan}
 use Rattle.tasks.specs.Tests.{firstMet, orNext, test3, test4, test5, test6, test7, test8, test9, test10, test11, tests, unlessRefused}
 use Rattle.tasks.specs.AnswerLaws.{refuse-passed, orNext-passed, firstMet-passed, firstMet-append}
 use Rattle.tasks.specs.LimitsLaws.{limitTests, slackTests, tests-split, limits-passed}
@@ -26,7 +28,7 @@ use Rattle.table.specs.declared.Judgement.{Judgement}
 use Rattle.codec.specs.Table.{coreCount, taskCount, slackCount, taskSetIn, contentIn, test1, test2, verdict}
 use Rattle.reader.specs.Counted.{countsTest}
 use Rattle.tasks.specs.ContentLaws.{content-ext, withSlack}
-use Rattle.table.specs.Judged.{refusedWith, judged}
+use Rattle.table.specs.Judged.{refusedWith, namesIn, judged}
 use Rattle.table.specs.LoadedLaws.{loaded, tasks-in, labels-in, slack-in, limits-all}
 
 -- 3 to 12, and then 13 with the slack that the plan has
@@ -35,9 +37,15 @@ judgedAnswer p k =
     orNext (orNext (limitTests (offering p k)) (firstMet (test11 (offering p k) ∷ offeredTest (offering p k) ∷ [])))
     (boundsOf p (tab (hadSlack (offering p k)) 16))
 
+-- the loops counted at the slack that the plan has
+unfoldable pub judgedNames : Plan → ℕ → List ℕ
+judgedNames p k = counted (offering p k .tasks) (hadSlack (offering p k))
+
 pub record Judges (p : Plan) (k : ℕ) (r : Judgement) : Type 0 where
   pub answer : r .answer ≡ judgedAnswer p k
   pub plan : r .plan ≡ unlessRefused (r .answer) (withSlack p (tab (hadSlack (offering p k)) 16)) zeroPlan
+  pub count : r .count ≡ length (unlessRefused (r .answer) (judgedNames p k) [])
+  pub counted : r .counted ≡ tab (row (unlessRefused (r .answer) (judgedNames p k) [])) 8
 
 alone : (a : Answer) → firstMet (a ∷ []) ≡ a
 unfolding firstMet
@@ -149,6 +157,12 @@ module _ (t : List ℕ) where
   unfolding withSlack loaded planOf
   plan-in e = ap (withSlack (planOf (contentIn t))) (tab-ext (hadSlack said) (contentIn t .slack) 16 (λ i h. had-said e i))
 
+  names-in : tests (contentIn t) ≡ Accepted → judgedNames (loaded t) (slackCount t) ≡ named (contentIn t)
+  unfolding judgedNames named said
+  names-in e =
+      ap (λ (s : TaskSet). counted s (hadSlack said)) (said-tasks (within (eleven-passed e .0) .1))
+      ∙ counted-ext (contentIn t .tasks) _ _ (λ i h. had-said e i)
+
   past-two : countsTest t ≡ Accepted → verdict t ≡ tests (contentIn t)
   unfolding verdict countsTest
   past-two e =
@@ -162,17 +176,26 @@ module _ (t : List ℕ) where
   judged-case Accepted e = plan-in (sym e)
   judged-case (Refused j i) e = refl
 
+  names-case :
+      (a : Answer) → a ≡ tests (contentIn t) →
+      unlessRefused a (judgedNames (loaded t) (slackCount t)) [] ≡ unlessRefused a (named (contentIn t)) []
+  names-case Accepted e = names-in (sym e)
+  names-case (Refused j i) e = refl
+
   -- past 1 and 2 the judging of the loaded plan is the table's judgement
   pub judged-from : countsTest t ≡ Accepted → (r : Judgement) → Judges (loaded t) (slackCount t) r → r ≡ judged t
-  unfolding judged said
+  unfolding judged namesIn said
   judged-from e r g =
       let a = g .answer ∙ answer-in ∙ sym (past-two e) in
       let p = g .plan ∙ ap (λ (b : Answer). unlessRefused b (withSlack (loaded t) (tab (hadSlack said) 16)) zeroPlan) a ∙ judged-case (verdict t) (past-two e) in
-      λ i. record { answer = a i; plan = p i }
+      let l = ap (λ (b : Answer). unlessRefused b (judgedNames (loaded t) (slackCount t)) []) a ∙ names-case (verdict t) (past-two e) in
+      let n = g .count ∙ ap length l in
+      let c = g .counted ∙ ap (λ (l : List ℕ). tab (row l) 8) l in
+      λ i. record { answer = a i; plan = p i; count = n i; counted = c i }
 
 -- a table that meets 1 or 2
 pub counts-refused : (t : List ℕ) (j i : ℕ) → countsTest t ≡ Refused j i → refusedWith (Refused j i) ≡ judged t
-unfolding refusedWith judged verdict countsTest
+unfolding refusedWith judged namesIn verdict countsTest
 counts-refused t j i e = rw first-refused
   where
     first-refused : verdict t ≡ Refused j i

@@ -1,21 +1,35 @@
 -- What the judgement and the slack part answer, for every input.
+--     judgedAs         a judgement by its answer, its plan and the loops that it names
+--     refusedWith      a refused one
+--     namesIn          the loops that the judgement of a table's bytes names
 --     judged           the judgement of a table's bytes
 --     slackPart        the slack section's entries, without the count byte
 use Prim.Native.Nat.{ℕ}
 use mathlib.Core.List.{List, []}
-use lib.ListN.{drop}
+use lib.ListN.{length, drop}
+use Rattle.laws.specs.Tab.{tab}
 use Rattle.tasks.specs.declared.Answer.{Answer}
-use Rattle.tasks.specs.Content.{planOf, zeroPlan}
+use Rattle.tasks.specs.declared.Plan.{Plan}
+use Rattle.tasks.specs.TaskSet.{row}
+use Rattle.tasks.specs.Content.{named, planOf, zeroPlan}
 use Rattle.tasks.specs.Tests.{unlessRefused}
 use Rattle.table.specs.declared.Judgement.{Judgement}
 use Rattle.codec.specs.Table.{contentIn, slackAt, verdict}
 
+-- a judgement with these loops named, zeros in the unused places
+abbrev pub judgedAs : Answer → Plan → List ℕ → Judgement
+judgedAs a p l = record { answer = a; plan = p; count = length l; counted = tab (row l) 8 }
+
 unfoldable pub refusedWith : Answer → Judgement
-refusedWith a = record { answer = a; plan = zeroPlan }
+refusedWith a = judgedAs a zeroPlan []
+
+-- "A judgement hands the names back beside the plan, by the weights at its slack, offered or found alike; a refused one names none."
+unfoldable pub namesIn : List ℕ → List ℕ
+namesIn t = unlessRefused (verdict t) (named (contentIn t)) []
 
 -- "A refused judgement … hands back a plan … of zeros"
 unfoldable pub judged : List ℕ → Judgement
-judged t = record { answer = verdict t; plan = unlessRefused (verdict t) (planOf (contentIn t)) zeroPlan }
+judged t = judgedAs (verdict t) (unlessRefused (verdict t) (planOf (contentIn t)) zeroPlan) (namesIn t)
 
 -- "its entries without the count byte, with count 0 or a refused table as an empty part"
 unfoldable pub slackPart : List ℕ → List ℕ

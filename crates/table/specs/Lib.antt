@@ -2,3 +2,4 @@ pub mod Judged
 pub mod LoadedLaws
 pub mod JudgeLaws
 pub mod PartLaws
+pub mod NamesLaws

@@ -7,8 +7,10 @@ mod verdict;
 pub use verdict::judge;
 pub use verdict::slack_part;
 
-// A judgement's plan, of zeros where the table is refused.
+// A judgement's plan, of zeros where the table is refused, and beside it how many tasks were counted, and which, largest weight first.
 pub struct Judgement {
     pub answer: Answer,
     pub plan: Plan,
+    pub count: usize,
+    pub counted: [u8; 8],
 }

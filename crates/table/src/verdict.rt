@@ -12,6 +12,7 @@ use reader::read_counts;
 use tasks::Answer;
 use tasks::Plan;
 use tidy::no_plan;
+use tidy::tidy_bytes;
 ghost use mathlib.Core.Path.{_≡_};
 ghost use Rattle.table.specs.Judged.{judged, refusedWith, slackPart};
 ghost use Rattle.reader.specs.Counted.{answerOfCounts};
@@ -19,12 +20,17 @@ ghost use Rattle.reader.specs.CountedLaws.{CountsIn};
 ghost use Rattle.table.specs.LoadedLaws.{loaded};
 ghost use Rattle.table.specs.JudgeLaws.{Judges};
 
-// "A refused judgement … hands back a plan … of zeros"
+// "A refused judgement … hands back a plan … of zeros", and "a refused one names none".
 fn refused(answer: Answer) -> Judgement
     ensures { λ r. ⌜ r ≡ refusedWith answer ⌝ }
 {
     let plan = no_plan();
-    Judgement { answer, plan }
+    Judgement {
+        answer,
+        plan,
+        count: 0,
+        counted: [0; 8],
+    }
 }
 
 // The plan that the table's sections fill.
@@ -59,11 +65,16 @@ fn judge_plan(plan: Plan, offers: usize) -> Judgement
     let Answer::Accepted = bounded else {
         return refused(bounded);
     };
+    let names = tested.names;
+    let count = plan.cores - 1;
+    let counted = tidy_bytes(&names, count);
     let mut accepted = plan;
     accepted.slack = slack;
     Judgement {
         answer: Answer::Accepted,
         plan: accepted,
+        count,
+        counted,
     }
 }
 

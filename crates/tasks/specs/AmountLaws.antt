@@ -1,6 +1,9 @@
 -- The counted loops and the amount A.
 --     counted-below, counted-distinct    they are loops of the table, none named twice
 --     counted-length      they are m − 1; counted-few: as a set
+--     counted-ext         they depend on the slack of the loops alone
+--     counted-ahead       a loop left out has a smaller weight than a counted one, or an equal one and is the higher loop
+--     counted-order       and so has a counted one that stands behind another; counted-only: no other m − 1 loops are so
 --     counted-best        no other m − 1 loops have a larger sum of weights
 --     counted-high        their weights add up to (m − 1) × c at most, where no weight is above c
 --     amount-best         A is at least the weights of any m − 1 loops and all surpluses
@@ -10,15 +13,18 @@
 --     amount-high         a ceiling in figures, for slack below 2^32
 use Prim.Native.Nat.{ℕ, _+_, _-_, _*_, _≤_, _<_}
 use mathlib.Core.Path.{_≡_, sym, ap}
-use mathlib.Core.Bool.{Bool, true}
+use mathlib.Core.Bool.{Bool, true, false}
+use mathlib.Core.List.{List}
 use native.Mathlib.Nat.{le-of-eq, le-refl, le-antisymm, add-le-add}
 use native.Mathlib.Omega.{arith}
 use lib.ListN.{length}
 use Rattle.laws.specs.Sum.{sum, count, sumOver}
 use Rattle.laws.specs.SumLaws.{sumIn}
 use Rattle.laws.specs.Member.{member, Distinct}
-use Rattle.laws.specs.LargestLaws.{largest-below, largest-distinct, largest-length, largest-count-le, largest-is-sumIn, largest-best, largest-mono, largest-le-mul}
-use Rattle.tasks.specs.TaskSet.{TaskSet, weight, surplus, counted, amount}
+use Rattle.laws.specs.RankLaws.{sorted-at}
+use Rattle.laws.specs.SortedLaws.{Leading, sorted-by-places}
+use Rattle.laws.specs.LargestLaws.{heavier, ahead-heavier, heavier-ahead, largest-sorted, largest-ahead, largest-only, largest-below, largest-distinct, largest-length, largest-count-le, largest-ext, largest-is-sumIn, largest-best, largest-mono, largest-le-mul}
+use Rattle.tasks.specs.TaskSet.{TaskSet, weight, surplus, counted, amount, row}
 use Rattle.tasks.specs.Limits.{Limits}
 use Rattle.tasks.specs.ShareLaws.{weight-mono, weight-high, surpluses-high}
 
@@ -38,6 +44,37 @@ module _ (s : TaskSet) where
   pub counted-few : (x : ℕ → ℕ) → count (λ i. member i (counted s x)) (s .count) ≤ s .cores - 1
   unfolding counted
   counted-few x = largest-count-le _ (weight s x) (s .count)
+
+  pub counted-ext : (x y : ℕ → ℕ) → ((i : ℕ) → i < s .count → x i ≡ y i) → counted s x ≡ counted s y
+  unfolding counted weight
+  counted-ext x y same = largest-ext _ (weight s x) (weight s y) (s .count) (λ i h. rw (same i h))
+
+  pub counted-ahead :
+      (x : ℕ → ℕ) (i j : ℕ) → member i (counted s x) ≡ true → j < s .count → member j (counted s x) ≡ false
+      → (weight s x j ≤ weight s x i) × (weight s x j ≡ weight s x i → i < j)
+  unfolding counted Leading
+  counted-ahead x i j m h f =
+      ahead-heavier (weight s x) i j (largest-ahead (s .cores - 1) (weight s x) (s .count) i j (largest-below _ (weight s x) (s .count) i m) h m f)
+
+  pub counted-order :
+      (x : ℕ → ℕ) (a b : ℕ) → a < b → b < length (counted s x)
+      → (weight s x (row (counted s x) b) ≤ weight s x (row (counted s x) a))
+      × (weight s x (row (counted s x) b) ≡ weight s x (row (counted s x) a) → row (counted s x) a < row (counted s x) b)
+  unfolding counted row
+  counted-order x a b l h =
+      ahead-heavier (weight s x) _ _
+      (sorted-at (heavier (weight s x)) _ (largest-sorted (s .cores - 1) (weight s x) (s .count)) a b 0 l h)
+
+  pub counted-only :
+      (x : ℕ → ℕ) (l : List ℕ) → s .cores < s .count → length l ≡ s .cores - 1 → ((i : ℕ) → member i l ≡ true → i < s .count)
+      → ((a b : ℕ) → a < b → b < length l → (weight s x (row l b) ≤ weight s x (row l a)) × (weight s x (row l b) ≡ weight s x (row l a) → row l a < row l b))
+      → ((i j : ℕ) → member i l ≡ true → j < s .count → member j l ≡ false → (weight s x j ≤ weight s x i) × (weight s x j ≡ weight s x i → i < j))
+      → l ≡ counted s x
+  unfolding counted row Leading
+  counted-only x l more many below order left =
+      largest-only (s .cores - 1) (weight s x) (s .count) l (omega arith) below
+      (sorted-by-places (heavier (weight s x)) l (λ a b p q. let o = order a b p q in heavier-ahead (weight s x) _ _ (o .0) (o .1)))
+      (λ i j hi hj m f. let o = left i j m hj f in heavier-ahead (weight s x) i j (o .0) (o .1))
 
   pub counted-best :
       (x : ℕ → ℕ) (p : ℕ → Bool) → count p (s .count) ≤ s .cores - 1

@@ -1,5 +1,6 @@
 -- What a table or a plan says, with its unused places left out, and the plan that keeps it.
 --     Content      cores' labels, tasks, the slack count and the slack
+--     named        the loops counted at its slack
 --     contentOf    what a plan says
 --     planOf       the plan that keeps a content, zeros in its unused places
 --     tidy         a plan with zeros in its unused places
@@ -14,7 +15,7 @@ use lib.Dec.{eqb}
 use Rattle.laws.specs.Tab.{tab, cut}
 use Rattle.tasks.specs.declared.Task.{Task}
 use Rattle.tasks.specs.declared.Plan.{Plan}
-use Rattle.tasks.specs.TaskSet.{TaskSet, row}
+use Rattle.tasks.specs.TaskSet.{TaskSet, counted, row}
 
 pub record Content : Type 0 where
   pub tasks : TaskSet
@@ -22,6 +23,10 @@ pub record Content : Type 0 where
   -- the slack section's count: 0 where slack is found
   pub offers : ℕ
   pub slack : ℕ → ℕ
+
+-- "A judgement hands the names back beside the plan, by the weights at its slack, offered or found alike"
+unfoldable pub named : Content → List ℕ
+named c = counted (c .tasks) (c .slack)
 
 unfoldable pub noTask : Task
 noTask = record { separation = 0; budget = 0; offset = 0 }

@@ -1,5 +1,6 @@
 -- The analysis reads T, C and Y of a task and nothing else.
---     plain-multiple, plain-shares      9 and 10 of a task set, and
+--     plain-multiple, plain-shares      9 and 10 of a task set,
+--     plain-counted                     the tasks counted at a slack, and
 --     plain-compliant, plain-found      12 of offered slack and the found slack, are those of its plain tasks
 use Prim.Native.Nat.{ℕ, zero, suc, _*_}
 use mathlib.Core.Path.{_≡_, refl}
@@ -17,6 +18,10 @@ module _ (s : TaskSet) where
   pub plain-shares : badShares (plain s) ≡ badShares s
   unfolding plain hyperperiod share
   plain-shares = refl
+
+  pub plain-counted : (x : ℕ → ℕ) → counted (plain s) x ≡ counted s x
+  unfolding plain hyperperiod share weight counted
+  plain-counted x = refl
 
   pub plain-compliant : (x : ℕ → ℕ) → compliantTest (plain s) x ≡ compliantTest s x
   unfolding plain hyperperiod share weight surplus counted amount cover covers

@@ -3,6 +3,8 @@
 --     H-is-least      H is one, and none is smaller
 --     Candidates          m − 1 loops of the table
 --     most-weight     the counted loops are such a choice, and none has a larger sum of weights
+--     Named           m − 1 loops by the size of their weights: none left out comes before one named
+--     counted-named   the counted loops are named so; named-only: and no others are
 --     Least           compliant slack that is no larger at any loop than any other
 --     found-exists    found slack is that, with one entry for each loop
 --     found-is-only   and is the only one
@@ -10,7 +12,7 @@
 --     offered-exactly    offered slack passes 11 to 13 exactly if it is compliant and every bound is at most 16 × T
 use Prim.Native.Nat.{ℕ, _+_, _-_, _*_, _%_, _≤_, _<_}
 use mathlib.Core.Path.{_≡_, refl, ap, _∙_}
-use mathlib.Core.Bool.{true, not}
+use mathlib.Core.Bool.{true, false, not}
 use mathlib.Core.Logic.{_↔_}
 use mathlib.Core.List.{List, [], _∷_}
 use native.Mathlib.Nat.{le-of-eq}
@@ -29,7 +31,7 @@ use Rattle.tasks.specs.Tests.{firstMet, test11, test12, test13, tests}
 use Rattle.tasks.specs.AnswerLaws.{pass-lowest, pass-firstMet}
 use Rattle.tasks.specs.LimitsLaws.{limitTests, slackTests, tests-split, limits-passed}
 use Rattle.tasks.specs.ShareLaws.{timed, hyperperiod-low, hyperperiod-divided, hyperperiod-least}
-use Rattle.tasks.specs.AmountLaws.{counted-below, counted-distinct, counted-length, counted-best}
+use Rattle.tasks.specs.AmountLaws.{counted-below, counted-distinct, counted-length, counted-ahead, counted-order, counted-only, counted-best}
 use Rattle.tasks.specs.SlackLaws.{compliant-covers}
 use Rattle.tasks.specs.TestsLaws.{tests-compliant, tests-bounded}
 use Rattle.tasks.specs.FoundLaws.{found-compliant, found-least, found-length, found-unique}
@@ -42,6 +44,14 @@ pub record Candidates (s : TaskSet) (l : List ℕ) : Type 0 where
   pub loops : (i : ℕ) → member i l ≡ true → i < s .count
   pub distinct : Distinct l
   pub many : length l ≡ s .cores - 1
+
+-- "names its loops, largest first, equal weights by lower loop"
+pub record Named (s : TaskSet) (x : ℕ → ℕ) (l : List ℕ) : Type 0 where
+  pub loops : Candidates s l
+  pub largest : (i j : ℕ) → member i l ≡ true → j < s .count → member j l ≡ false → weight s x j ≤ weight s x i
+  pub lower : (i j : ℕ) → member i l ≡ true → j < s .count → member j l ≡ false → weight s x j ≡ weight s x i → i < j
+  pub falling : (a b : ℕ) → a < b → b < length l → weight s x (row l b) ≤ weight s x (row l a)
+  pub rising : (a b : ℕ) → a < b → b < length l → weight s x (row l b) ≡ weight s x (row l a) → row l a < row l b
 
 pub record Least (s : TaskSet) (x : ℕ → ℕ) : Type 0 where
   pub compliant : Compliant s x
@@ -72,6 +82,22 @@ module _ (c : Content) (passed : limitTests c ≡ Accepted) where
         rw (sumOver-members (weight (c .tasks) x) l (c .tasks .count) (m .distinct) (m .loops))
         (counted-best (c .tasks) x _ (rw (count-members l (c .tasks .count) (m .distinct) (m .loops)) (le-of-eq (m .many)))),
   )
+
+  pub counted-named : (x : ℕ → ℕ) → Named (c .tasks) x (counted (c .tasks) x)
+  counted-named x =
+      record {
+        loops = most-weight x .0;
+        largest = λ i j m h f. counted-ahead (c .tasks) x i j m h f .0;
+        lower = λ i j m h f. counted-ahead (c .tasks) x i j m h f .1;
+        falling = λ a b l h. counted-order (c .tasks) x a b l h .0;
+        rising = λ a b l h. counted-order (c .tasks) x a b l h .1;
+      }
+
+  pub named-only : (x : ℕ → ℕ) (l : List ℕ) → Named (c .tasks) x l → l ≡ counted (c .tasks) x
+  named-only x l n =
+      counted-only (c .tasks) x l (limits-passed c passed .0 .more-tasks) (n .loops .many) (n .loops .loops)
+      (λ a b p q. (n .falling a b p q, n .rising a b p q))
+      (λ i j m h f. (n .largest i j m h f, n .lower i j m h f))
 
   -- "Found slack is the compliant whole vector that is no larger at any loop than any other"; "One always exists within the limits."
   pub found-exists : Least (c .tasks) (row (found (c .tasks))) × (length (found (c .tasks)) ≡ c .tasks .count)

@@ -1,13 +1,16 @@
--- Document 01, the end of "Worked tables": what the program `plan` prints for a table's bytes.
+-- Document 01, the end of "Worked tables", and document 02, §1: what the program `plan` prints for a table's bytes.
 --     pairLine     a line of words and a number, twice
 --     countsLine, taskLine, refusalLine    the first line, a loop's, and a refusal's
 --     lineOf       the line of loop i of a table
---     planText     the lines of an accepted table
+--     countedLine  the last line of an accepted table
+--     planLines    the lines before it
+--     planText     all of them
 --     printed      the whole text
 use Prim.Native.Nat.{ℕ}
 use mathlib.Core.List.{List, _++_}
-use Rattle.tasks.specs.TaskSet.{bound, late}
-use Rattle.tasks.specs.Content.{Content}
+use lib.ListN.{length}
+use Rattle.tasks.specs.TaskSet.{row, bound, late}
+use Rattle.tasks.specs.Content.{Content, named}
 use Rattle.tasks.specs.Tests.{numberOf, indexOf, unlessRefused}
 use Rattle.numbers.specs.Bytes.{entries}
 use Rattle.codec.specs.Table.{contentIn, verdict}
@@ -32,8 +35,15 @@ refusalLine k i = pairLine (words "refused ") k (words " at ") i
 unfoldable pub lineOf : Content → ℕ → List ℕ
 lineOf c i = taskLine i (c .slack i) (bound (c .tasks) (c .slack) i) (late (c .tasks) (c .slack) i)
 
+-- "one more last line, `counted` and the loops, a space before each"
+unfoldable pub countedLine : List ℕ → List ℕ
+countedLine l = words "counted" ++ entries (λ a. said (words " ") (row l a)) (length l) ++ words "\n"
+
+unfoldable pub planLines : Content → List ℕ
+planLines c = countsLine (c .tasks .cores) (c .tasks .count) ++ entries (lineOf c) (c .tasks .count)
+
 unfoldable pub planText : Content → List ℕ
-planText c = countsLine (c .tasks .cores) (c .tasks .count) ++ entries (lineOf c) (c .tasks .count)
+planText c = planLines c ++ countedLine (named c)
 
 unfoldable pub printed : List ℕ → List ℕ
 printed t = unlessRefused (verdict t) (planText (contentIn t)) (refusalLine (numberOf (verdict t)) (indexOf (verdict t)))

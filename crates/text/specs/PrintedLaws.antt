@@ -3,18 +3,22 @@
 --     refusal-short    a refusal's line fits the buffer
 --     lineIn           a loop's line from a plan's own arrays
 --     line-in          it is the line of what the plan says
---     lines-none, lines-next       a plan's lines stored one behind the other
+--     stored-none, stored-next     pieces of text stored one behind the other; lines-next: a plan's lines
 --     within           an accepted plan has at most 8 cores and 16 loops
 --     counts-short, lines-short    an accepted plan's first line is at most 17 bytes long, and each other at most 49
 --     line-room        there is room for each of its lines
---     plan-text        the text of a plan from its own arrays
+--     plan-text        those lines from its own arrays
+--     nameIn           a name in the last line, from an array
+--     names-short      each takes at most 3 bytes
+--     counted-line     the last line from an array
 use Prim.Native.Nat.{ℕ, zero, suc, _+_, _*_, _≤_, _<_}
-use mathlib.Core.Path.{_≡_, refl, sym, ap}
+use mathlib.Core.Path.{_≡_, refl, sym, ap, _∙_}
 use mathlib.Core.List.{List, _++_}
 use native.Mathlib.Numerals.{add-one}
 use native.Mathlib.Omega.{arith}
-use lib.ListN.{length, length-append}
-use Rattle.decimal.specs.Decimal.{words, decimal, Stored}
+use lib.ListN.{length, take, length-append, length-take}
+use lib.Seq.{getD-take}
+use Rattle.decimal.specs.Decimal.{words, decimal, said, Stored}
 use Rattle.decimal.specs.DecimalLaws.{length-said, decimal-length}
 use Rattle.decimal.specs.PutLaws.{put-behind}
 use Rattle.laws.specs.TabLaws.{cut-below}
@@ -28,7 +32,7 @@ use Rattle.tasks.specs.Tests.{testPlan}
 use Rattle.tasks.specs.TestsLaws.{tests-limits, tests-bounded}
 use Rattle.numbers.specs.Bytes.{entries}
 use Rattle.numbers.specs.ByteLaws.{entries-same}
-use Rattle.text.specs.Printed.{pairLine, countsLine, taskLine, refusalLine, lineOf, planText}
+use Rattle.text.specs.Printed.{pairLine, countsLine, taskLine, refusalLine, lineOf, planLines, countedLine}
 
 pub length-pair : (w : List ℕ) (a : ℕ) (v : List ℕ) (b : ℕ) → length (pairLine w a v b) ≡ length w + length (decimal a) + (length v + length (decimal b)) + 1
 unfolding pairLine words
@@ -55,18 +59,24 @@ lineIn task slack i =
     let x = row slack i in
     taskLine i x (t .offset + x + t .budget) (x + t .budget)
 
--- no line yet, one line more, and all of them behind the first
-pub lines-none : (task : List Task) (slack l : List ℕ) (at : ℕ) → Stored l at (entries (lineIn task slack) 0) at l
+-- pieces stored one behind the other: none yet, and one more
+pub stored-none : (f : ℕ → List ℕ) (l : List ℕ) (at : ℕ) → Stored l at (entries f 0) at l
 unfolding entries
-lines-none task slack l at = record { place = omega arith; left = refl }
+stored-none f l at = record { place = omega arith; left = refl }
+
+pub stored-next :
+    (f : ℕ → List ℕ) (i : ℕ) {l u v : List ℕ} {from at end : ℕ}
+    → Stored l from (entries f i) at u → Stored u at (f i) end v → Stored l from (entries f (i + 1)) end v
+unfolding entries
+stored-next f i s r = rw add-one (put-behind s r)
 
 pub lines-next :
     (task : List Task) (slack : List ℕ) (i b d : ℕ) {l u v : List ℕ} {from at end : ℕ}
     → b ≡ taskOf task i .offset + row slack i + taskOf task i .budget → d ≡ row slack i + taskOf task i .budget
     → Stored l from (entries (lineIn task slack) i) at u → Stored u at (taskLine i (row slack i) b d) end v
     → Stored l from (entries (lineIn task slack) (i + 1)) end v
-unfolding entries lineIn
-lines-next task slack i b d e q s r = rw add-one (put-behind s (rw (e, q) at r))
+unfolding lineIn
+lines-next task slack i b d e q s r = stored-next (lineIn task slack) i s (rw (e, q) at r)
 
 module _ (p : Plan) (passed : testPlan p ≡ Accepted) where
   pub within : (p .cores ≤ 8) × (p .tasks ≤ 16)
@@ -128,6 +138,29 @@ module _ (p : Plan) (passed : testPlan p ≡ Accepted) where
         length-append (entries (lineIn (p .task) (p .slack)) i) (lineIn (p .task) (p .slack) i),
       ))
 
-  pub plan-text : planText (contentOf p) ≡ countsLine (p .cores) (p .tasks) ++ entries (lineIn (p .task) (p .slack)) (p .tasks)
-  unfolding planText contentOf
+  pub plan-text : planLines (contentOf p) ≡ countsLine (p .cores) (p .tasks) ++ entries (lineIn (p .task) (p .slack)) (p .tasks)
+  unfolding planLines contentOf
   plan-text = ap (λ (l : List ℕ). countsLine (p .cores) (p .tasks) ++ l) (sym (entries-same _ _ (p .tasks) line-in))
+
+-- ---- the last line
+
+unfoldable pub nameIn : List ℕ → ℕ → List ℕ
+nameIn counted a = said (words " ") (row counted a)
+
+pub names-short : (counted : List ℕ) (i : ℕ) → ((a : ℕ) → a < i → row counted a < 16) → length (entries (nameIn counted) i) ≤ 3 * i
+unfolding entries nameIn words
+names-short counted zero low = omega arith
+names-short counted (suc i) low =
+    rw length-append
+    (omega (
+      arith,
+      names-short counted i (λ a h. low a (omega arith)),
+      length-said (words " ") (row counted i),
+      decimal-length 1 (row counted i) (omega (arith, low i (omega arith))),
+    ))
+
+pub counted-line : (counted : List ℕ) (count : ℕ) → count ≤ length counted → countedLine (take count counted) ≡ words "counted" ++ entries (nameIn counted) count ++ words "\n"
+unfolding countedLine nameIn row
+counted-line counted count h =
+    let long : length (take count counted) ≡ count = length-take count counted ∙ omega arith in
+    rw (long, entries-same _ (nameIn counted) count (λ a l. ap (said (words " ")) (getD-take count counted a 0 l)))

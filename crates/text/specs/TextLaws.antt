@@ -1,11 +1,13 @@
 -- The text as a whole: which text the answer of a judgement calls for, and the input that is cut off.
 --     judged-passed     an accepted judgement's plan passes 3 to 13
 --     printed-plan, printed-refusal    the text by the judgement's answer
---     plan-short        an accepted plan's text fits the buffer
+--     count-few         at most eight loops are named
+--     plan-short        an accepted plan's text but for its last line is at most 801 bytes long
+--     text-short        an accepted plan's text fits the buffer
 --     text-whole        text stored from the buffer's beginning on
 --     long-text         bytes past 4,340 change nothing
 use Prim.Native.Nat.{ℕ, _+_, _*_, _≤_, _<_}
-use mathlib.Core.Path.{_≡_, refl, sym, ap, _∙_}
+use mathlib.Core.Path.{_≡_, refl, sym, ap, ap₂, _∙_}
 use mathlib.Core.Bool.{Bool, true, false, not}
 use mathlib.Core.List.{List, [], _∷_, _++_}
 use native.Mathlib.Nat.{zero-add}
@@ -16,6 +18,7 @@ use lib.Dec.{ltb, eqb, lit<}
 use borrow.Author.Tests.{ne-eqb, ltb-true, ltb-false}
 use Rattle.tasks.specs.declared.Plan.{Plan}
 use Rattle.tasks.specs.declared.Answer.the-variants.{Accepted, Refused}
+use Rattle.tasks.specs.TaskSet.{row}
 use Rattle.tasks.specs.Content.{contentOf}
 use Rattle.tasks.specs.Tests.{refuse, firstMet, tests, testPlan}
 use Rattle.tasks.specs.AnswerLaws.{refuse-met, firstMet-pass, firstMet-stop}
@@ -24,12 +27,13 @@ use Rattle.numbers.specs.ByteLaws.{Bytes}
 use Rattle.codec.specs.Table.{coreCount, taskCount, slackCount, tasksAt, slackAt, contentIn, test1, test2, verdict}
 use Rattle.table.specs.declared.Judgement.{Judgement}
 use Rattle.table.specs.Judged.{judged}
+use Rattle.table.specs.NamesLaws.{names-are, names-few, names-count, names-first}
 use Rattle.laws.specs.SetsLaws.{sets-whole}
 use Rattle.roundtrip.specs.SectionLaws.{verdict-parts}
 use Rattle.roundtrip.specs.RoundTrip.{judged-fits}
-use Rattle.decimal.specs.Decimal.{Stored}
-use Rattle.text.specs.Printed.{refusalLine, planText, printed}
-use Rattle.text.specs.PrintedLaws.{within, lines-short, counts-short, plan-text}
+use Rattle.decimal.specs.Decimal.{words, Stored}
+use Rattle.text.specs.Printed.{refusalLine, countedLine, planLines, planText, printed}
+use Rattle.text.specs.PrintedLaws.{within, lines-short, counts-short, plan-text, names-short, counted-line}
 
 module _ (t : List ℕ) (j : Judgement) (e : j ≡ judged t) where
   verdict-is : j .answer ≡ verdict t
@@ -43,18 +47,31 @@ module _ (t : List ℕ) (j : Judgement) (e : j ≡ judged t) where
   unfolding testPlan
   judged-passed a = ap tests (content-is a) ∙ verdict-parts t (sym verdict-is ∙ a) .content
 
-  pub printed-plan : j .answer ≡ Accepted → planText (contentOf (j .plan)) ≡ printed t
-  unfolding printed
-  printed-plan a = let v = sym verdict-is ∙ a in rw v (ap planText (content-is a))
+  pub printed-plan : j .answer ≡ Accepted → planLines (contentOf (j .plan)) ++ countedLine (take (j .count) (j .counted)) ≡ printed t
+  unfolding printed planText
+  printed-plan a =
+      let v = sym verdict-is ∙ a in
+      rw v (ap₂ _++_ (ap planLines (content-is a)) (ap countedLine (names-first t j e ∙ names-are t v)))
+
+  pub count-few : j .count ≤ 8
+  count-few = omega (arith, names-count t j e, names-few t)
 
   pub printed-refusal : (k i : ℕ) → j .answer ≡ Refused k i → refusalLine k i ≡ printed t
   unfolding printed
   printed-refusal k i a = let v = sym verdict-is ∙ a in rw v
 
-pub plan-short : (p : Plan) → testPlan p ≡ Accepted → length (planText (contentOf p)) ≤ 1024
+pub plan-short : (p : Plan) → testPlan p ≡ Accepted → length (planLines (contentOf p)) ≤ 801
 plan-short p a =
     rw (plan-text p a, length-append)
     (omega (arith, within p a, counts-short p a, lines-short p a (p .tasks) (omega arith)))
+
+pub text-short :
+    (p : Plan) (counted : List ℕ) (count : ℕ) → testPlan p ≡ Accepted → count ≤ 8 → count ≤ length counted → ((a : ℕ) → a < count → row counted a < 16)
+    → length (planLines (contentOf p) ++ countedLine (take count counted)) ≤ 1024
+unfolding words
+text-short p counted count a few fits low =
+    rw (counted-line counted count fits)
+    (simp length-append (omega (arith, plan-short p a, names-short counted count low)))
 
 pub text-whole :
     (t l : List ℕ) {u l' : List ℕ} {r : ℕ} → u ≡ printed t → length u ≤ 1024 → length l ≡ 1024 → Stored l 0 u r l'

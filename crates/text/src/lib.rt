@@ -1,4 +1,4 @@
-// The text that the program `plan` prints for a table. Document 01, the end of "Worked tables".
+// The text that the program `plan` prints for a table. Document 01, the end of "Worked tables", and document 02, §1.
 use decimal::put_said;
 use decimal::put_words;
 use table::judge;
@@ -6,15 +6,17 @@ use tasks::Answer;
 use tasks::Plan;
 ghost use mathlib.Core.Path.{_≡_};
 ghost use mathlib.Core.List.{_++_};
-ghost use Prim.Native.Nat.{_+_, _≤_};
-ghost use lib.ListN.{length, drop};
+ghost use Prim.Native.Nat.{ℕ, _+_, _≤_, _<_};
+ghost use lib.ListN.{length, take, drop};
 ghost use Rattle.decimal.specs.Decimal.{Stored};
 ghost use Rattle.tasks.specs.declared.Answer.the-variants.{Accepted};
+ghost use Rattle.tasks.specs.TaskSet.{row};
 ghost use Rattle.tasks.specs.Content.{contentOf};
 ghost use Rattle.tasks.specs.Tests.{testPlan};
-ghost use Rattle.text.specs.Printed.{pairLine, taskLine, refusalLine, planText, printed};
+ghost use Rattle.text.specs.Printed.{pairLine, taskLine, refusalLine, countedLine, planLines, printed};
 
-// The length of the buffer that `text` is lent. No text is longer: the longest has a first line of at most 17 bytes and sixteen of at most 49.
+// The length of the buffer that `text` is lent. No text is longer: the longest has a first line of at most 17 bytes, sixteen of at most 49
+// and a last one of at most 32.
 pub const LONGEST: usize = 1024;
 
 // "Late is x + C". In 64 bits, as the text's numbers are.
@@ -53,10 +55,10 @@ fn put_task(out: &mut [u8], at: usize, i: u64, slack: u64, bound: u64, late: u64
     put_words(out, fourth, b"\n")
 }
 
-// The lines of an accepted plan.
+// The lines of an accepted plan, but for the last.
 fn put_plan(out: &mut [u8], plan: Plan) -> usize
     requires { ⌜ (testPlan plan ≡ Accepted) × (1024 ≤ length (now out)) ⌝ }
-    ensures { λ r. ⌜ Stored (now (out .entry)) 0 (planText (contentOf plan)) r (now (out .exit)) ⌝ }
+    ensures { λ r. ⌜ Stored (now (out .entry)) 0 (planLines (contentOf plan)) r (now (out .exit)) ⌝ }
 {
     let tasks = plan.tasks;
     let task = plan.task;
@@ -79,6 +81,20 @@ fn put_plan(out: &mut [u8], plan: Plan) -> usize
     at
 }
 
+// "one more last line, `counted` and the loops, a space before each", from `at` on.
+fn put_counted(out: &mut [u8], at: usize, counted: [u8; 8], count: usize) -> usize
+    requires { ⌜ (count ≤ 8) × ((a : ℕ) → a < count → row counted a < 16) × (at + 32 ≤ length (now out)) ⌝ }
+    ensures { λ r. ⌜ Stored (now (out .entry)) at (countedLine (take count counted)) r (now (out .exit)) ⌝ }
+{
+    let mut end = put_words(out, at, b"counted");
+    let mut i = 0;
+    while i < count {
+        end = put_said(out, end, b" ", counted[i] as u64);
+        i += 1;
+    }
+    put_words(out, end, b"\n")
+}
+
 // "A refusal prints one line", number and index.
 fn put_refusal(out: &mut [u8], number: u8, index: u16) -> usize
     requires { ⌜ 1024 ≤ length (now out) ⌝ }
@@ -97,7 +113,9 @@ pub fn text(table: &[u8], out: &mut [u8; LONGEST]) -> usize
     let judgement = judge(table);
     let answer = judgement.answer;
     let Answer::Refused { number, index } = answer else {
-        return put_plan(out, judgement.plan);
+        let counted = judgement.counted;
+        let lines = put_plan(out, judgement.plan);
+        return put_counted(out, lines, counted, judgement.count);
     };
     put_refusal(out, number, index)
 }

@@ -3,6 +3,7 @@ use tasks::Plan;
 use tasks::Task;
 ghost use mathlib.Core.Path.{_≡_};
 ghost use Prim.Native.Nat.{_≤_};
+ghost use lib.ListN.{length};
 ghost use Rattle.laws.specs.Tab.{tab, cut};
 ghost use Rattle.tasks.specs.TaskSet.{row};
 ghost use Rattle.tasks.specs.Content.{noTask, zeroTask, zeroPlan, taskOf, tidy};
@@ -45,14 +46,15 @@ pub fn no_plan() -> Plan
     }
 }
 
-fn tidy_labels(labels: &[u8; 8], cores: usize) -> [u8; 8]
-    requires { ⌜ cores ≤ 8 ⌝ }
-    ensures { λ r. ⌜ r ≡ tab (cut cores (row (now (labels .entry))) 0) 8 ⌝ }
+// The first bytes, of labels or of names.
+pub fn tidy_bytes(bytes: &[u8], count: usize) -> [u8; 8]
+    requires { ⌜ (count ≤ 8) × (count ≤ length (now bytes)) ⌝ }
+    ensures { λ r. ⌜ r ≡ tab (cut count (row (now (bytes .entry))) 0) 8 ⌝ }
 {
     let mut out = [0u8; 8];
     let mut i = 0;
-    while i < cores {
-        out[i] = labels[i];
+    while i < count {
+        out[i] = bytes[i];
         i += 1;
     }
     out
@@ -96,7 +98,7 @@ pub fn tidied(plan: Plan) -> Plan
     let labels = plan.labels;
     let task = plan.task;
     let slack = plan.slack;
-    let labels = tidy_labels(&labels, cores);
+    let labels = tidy_bytes(&labels, cores);
     let task = tidy_tasks(task, tasks);
     let slack = tidy_slack(&slack, tasks);
     Plan {

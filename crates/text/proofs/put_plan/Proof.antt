@@ -3,7 +3,7 @@ use Rattle.decimal.specs.Decimal.{words, Stored}
 use Rattle.decimal.specs.PutLaws.{put-behind}
 use Rattle.numbers.specs.Bytes.{entries}
 use Rattle.text.specs.Printed.{countsLine}
-use Rattle.text.specs.PrintedLaws.{lineIn, lines-none, lines-next, within, counts-short, line-room, plan-text}
+use Rattle.text.specs.PrintedLaws.{lineIn, stored-none, lines-next, within, counts-short, line-room, plan-text}
 use borrow.Author.Needs.{needs}
 use native.Mathlib.Nat.{zero-add}
 use native.Mathlib.Omega.{arith}
@@ -32,7 +32,7 @@ unfolding countsLine words
 put-pair-requires c κs = omega (arith, counts-short (c .before .before .before .before .before .before .args .plan) (c .before .before .before .before .before .before .pre .0), c .before .before .before .before .before .before .pre .1)
 
 loop-holds : tie.Need-loop-holds Inv-loop μ-loop
-loop-holds c = (search needs, refl, lines-none _ _ _ _)
+loop-holds c = (search needs, refl, stored-none _ _ _)
 
 mul-t : tie.Need-mul-t Inv-loop μ-loop
 mul-t c = omega (arith, within (c .before .before .before .before .before .before .before .before .before .before .before .args .plan) (c .before .before .before .before .before .before .before .before .before .before .before .pre .0))

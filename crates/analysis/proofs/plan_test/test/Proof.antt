@@ -35,7 +35,7 @@ module _ (p : Plan) (k : ℕ) (ek : k ≡ cond (p .offered) (p .tasks) 0) (t : T
       g .answer ∙ ap (λ (c : Content). orNext (limitTests c) (firstMet (test11 c ∷ offeredTest c ∷ []))) (offering-plan p k ek)
 
   had : t .answer ≡ Accepted → t .slack ≡ tab (hadSlack (contentOf p)) 16
-  had e = g .slack e ∙ ap (λ (c : Content). tab (hadSlack c) 16) (offering-plan p k ek)
+  had e = g .had e .places ∙ ap (λ (c : Content). tab (hadSlack c) 16) (offering-plan p k ek)
 
   refused : (j i : ℕ) → t .answer ≡ Refused j i → t .answer ≡ testPlan p
   unfolding testPlan

@@ -1,13 +1,12 @@
 use mathlib.Core.List.{List}
 use borrow.Author.Tests.{ne-eqb}
-use Rattle.laws.specs.Tab.{tab}
 use Rattle.tasks.specs.declared.Answer.{Answer}
 use Rattle.tasks.specs.TaskSet.{found, row}
 use Rattle.tasks.specs.Tests.{orNext}
 use Rattle.slack.specs.declared.rates.Rates.{Rates}
 use Rattle.analysis.specs.declared.slack_test.Tested.{Tested}
 use Rattle.slack.specs.Rates.{Ranges, Rated, ratesTest}
-use Rattle.slack.specs.Arrays.{ArraysOf}
+use Rattle.slack.specs.Arrays.{ArraysOf, Had}
 use Rattle.slack.specs.StageLaws.{Framed}
 use Rattle.analysis.specs.SlackTest.{Offered, RatesTested, slackTest}
 use Rattle.tasks.specs.declared.Answer.the-variants.{Accepted, Refused}
@@ -45,9 +44,9 @@ module _ (m n : ℕ) (separation budget offset slack : List ℕ) (k : ℕ) (f : 
     passed a = passed-on (ratesTest (setFrom m n separation budget offset)) _ (sym (e .answer) ∙ a)
 
     found-slack :
-        (x : List ℕ) → r .answer ≡ Accepted → k ≡ 0 → x ≡ tab (row (found (setFrom m n separation budget offset))) 16 →
-        RatesTested (setFrom m n separation budget offset) slack k (record { answer = Accepted; slack = x })
-    found-slack x a z q =
+        (x names : List ℕ) → r .answer ≡ Accepted → k ≡ 0 → Had (setFrom m n separation budget offset) (row (found (setFrom m n separation budget offset))) x names →
+        RatesTested (setFrom m n separation budget offset) slack k (record { answer = Accepted; slack = x; names = names })
+    found-slack x names a z q =
         record {
           answer = sym (passed a ∙ slack-none (setFrom m n separation budget offset) slack k z);
           had = λ _. rw z q;
@@ -90,17 +89,21 @@ returns c =
     let s = c .before .before .before .before in
     refused (s .args .cores) _ _ _ _ _ _ (s .pre .0) (s .pre .1) _ (c .before .before .before .rate .ensures) _ _ _ _ refl (c .before .enum-told2 .given .1) (c .untested .ensures)
 
+first-names-requires : tie.Need-first-names-requires
+first-names-requires c κs = search needs
+
 search-requires : tie.Need-search-requires
 search-requires c κs =
-    let s = c .before .before .before .before .before .before in
-    (_, tied (s .args .cores) _ _ _ _ (s .args .slack .now) (s .args .offers) (s .pre .0) (s .pre .1) _ (c .before .before .before .before .before .rate .ensures) (c .before .before .before .enum-told .given .1))
+    let s = c .before .before .before .before .before .before .before .before in
+    let t = tied (s .args .cores) _ _ _ _ (s .args .slack .now) (s .args .offers) (s .pre .0) (s .pre .1) _ (c .before .before .before .before .before .before .before .rate .ensures) (c .before .before .before .before .before .enum-told .given .1) in
+    ((_, t), c .before .before .first-names .ensures _ (s .pre .0 .tasks-high))
 
 returns-2 : tie.Need-returns-2
 returns-2 c =
-    let s = c .before .before .before .before .before .before .before in
-    let a = c .before .before .before .before .enum-told .given .1 in
-    let t = tied (s .args .cores) _ _ _ _ (s .args .slack .now) (s .args .offers) (s .pre .0) (s .pre .1) _ (c .before .before .before .before .before .before .rate .ensures) a in
-    found-slack (s .args .cores) _ _ _ _ _ _ (s .pre .0) (s .pre .1) _ (c .before .before .before .before .before .before .rate .ensures) _ a (c .before .before .if1 .taken) (c .search .ensures _ t)
+    let s = c .before .before .before .before .before .before .before .before .before in
+    let a = c .before .before .before .before .before .before .enum-told .given .1 in
+    let t = tied (s .args .cores) _ _ _ _ (s .args .slack .now) (s .args .offers) (s .pre .0) (s .pre .1) _ (c .before .before .before .before .before .before .before .before .rate .ensures) a in
+    found-slack (s .args .cores) _ _ _ _ _ _ (s .pre .0) (s .pre .1) _ (c .before .before .before .before .before .before .before .before .rate .ensures) _ _ a (c .before .before .before .before .if1 .taken) (c .search .ensures _ t)
 
 untested-requires-2 : tie.Need-untested-requires-2
 untested-requires-2 c κs = search needs
@@ -132,6 +135,7 @@ test-rated-spec =
     enum-told-2
     untested-requires
     returns
+    first-names-requires
     search-requires
     returns-2
     untested-requires-2

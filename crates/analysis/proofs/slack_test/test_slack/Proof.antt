@@ -49,11 +49,11 @@ module _ (p : Plan) (k : ℕ) (a : Answer) (ea : a ≡ frameTest (p .cores) (row
   refused t j i e u =
       record {
         answer = u ∙ framed ∙ sym (stopped _ _ j i (sym framed ∙ e)) ∙ sym joined;
-        slack = λ w. absurd (not-both _ j i (u ∙ e) w);
+        had = λ w. absurd (not-both _ j i (u ∙ e) w);
       }
 
   tested : (t : Tested) → a ≡ Accepted → TasksTested p k t → PlanTested p k t
-  tested t e g = record { answer = g .answer ∙ sym (passed-on _ _ (sym framed ∙ e)) ∙ sym joined; slack = g .slack }
+  tested t e g = record { answer = g .answer ∙ sym (passed-on _ _ (sym framed ∙ e)) ∙ sym joined; had = g .had }
 
 frame-requires : tie.Need-frame-requires
 frame-requires c κs = search needs

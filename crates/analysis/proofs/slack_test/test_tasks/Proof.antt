@@ -1,5 +1,4 @@
 use mathlib.Core.List.{[], _∷_}
-use Rattle.laws.specs.TabLaws.{tab-ext}
 use Rattle.tasks.specs.declared.Plan.{Plan}
 use Rattle.tasks.specs.declared.Answer.{Answer}
 use Rattle.tasks.specs.declared.Answer.the-variants.{Accepted, Refused}
@@ -14,7 +13,7 @@ use Rattle.fields.specs.StageLaws.{fields-scan}
 use Rattle.slack.specs.Rates.{Ranges}
 use Rattle.slack.specs.StageLaws.{Framed, ranges-passed}
 use Rattle.analysis.specs.SlackTest.{offering, taskTests, RatesTested, TasksTested}
-use Rattle.analysis.specs.SlackTestLaws.{columns-set, plain-ranges, fields-tests, rates-tests, stopped, passed-on, slack-tests, slack-had}
+use Rattle.analysis.specs.SlackTestLaws.{columns-set, plain-ranges, fields-tests, rates-tests, stopped, passed-on, slack-tests, had-plan}
 use Rattle.fields.specs.StageLaws.{not-both}
 use Prim.Native.Nat.{ℕ}
 use mathlib.Core.Path.{_≡_, ap₂, sym, subst, _∙_}
@@ -37,7 +36,7 @@ module _ (p : Plan) (k : ℕ) (f : Framed (p .cores) (p .tasks)) (a : Answer) (e
   refused t j i e u =
       record {
         answer = u ∙ fielded ∙ sym (stopped _ _ j i (sym fielded ∙ e));
-        slack = λ w. absurd (not-both _ j i (u ∙ e) w);
+        had = λ w. absurd (not-both _ j i (u ∙ e) w);
       }
 
   module _ (l : Columns) (el : l ≡ columnsOf (p .tasks) (p .task)) (e : a ≡ Accepted) where
@@ -56,7 +55,7 @@ module _ (p : Plan) (k : ℕ) (f : Framed (p .cores) (p .tasks)) (a : Answer) (e
               g .answer
               ∙ ap₂ orNext (rates-tests (offering p k) _ stands) (slack-tests p k _ stands)
               ∙ sym (passed-on _ _ (sym fielded ∙ e));
-          slack = λ w. g .had w ∙ tab-ext _ _ 16 (λ i h. slack-had p k _ stands i);
+          had = λ w. had-plan p k _ stands _ _ (g .had w);
         }
 
 split-requires : tie.Need-split-requires

@@ -1,19 +1,27 @@
 -- `table::verdict::judge_plan` meets its contract.
-use Prim.Native.Nat.{ℕ, _≤_}
+use Prim.Native.Nat.{ℕ, _-_, _≤_, _<_}
 use mathlib.Core.Path.{_≡_, sym, _∙_, ap}
+use mathlib.Core.List.{List}
+use native.Mathlib.Omega.{arith}
+use lib.ListN.{length, getD}
+use Rattle.laws.specs.Tab.{tab, cut}
+use Rattle.laws.specs.TabLaws.{tab-ext, getD-first}
+use Rattle.tasks.specs.TaskSet.{row}
+use Rattle.tasks.specs.Limits.{Limits}
+use Rattle.tasks.specs.AmountLaws.{counted-length}
 use Rattle.tasks.specs.declared.Plan.{Plan}
 use Rattle.tasks.specs.declared.Answer.{Answer}
 use Rattle.tasks.specs.declared.Answer.the-variants.{Accepted, Refused}
 use Rattle.tasks.specs.Content.{contentOf}
 use Rattle.analysis.specs.declared.slack_test.Tested.{Tested}
-use Rattle.analysis.specs.SlackTest.{PlanTested, offering}
+use Rattle.analysis.specs.SlackTest.{PlanTested, offering, hadSlack}
 use Rattle.analysis.specs.SlackTestLaws.{stopped, passed-on}
 use Rattle.analysis.specs.PlanTest.{boundsOf}
-use Rattle.analysis.specs.PlanTestLaws.{few-tasks}
+use Rattle.analysis.specs.PlanTestLaws.{tested-limits}
 use Rattle.table.specs.declared.Judgement.{Judgement}
 use Rattle.table.specs.Judged.{refusedWith}
 use Rattle.tasks.specs.ContentLaws.{withSlack}
-use Rattle.table.specs.JudgeLaws.{Judges, judgedAnswer}
+use Rattle.table.specs.JudgeLaws.{Judges, judgedAnswer, judgedNames}
 use borrow.Author.Needs.{needs}
 use Rattle.table.proofs.verdict.judge_plan.Statement.{statement}
 use Rattle.table.proofs.verdict.judge_plan.Tie as tie
@@ -23,23 +31,42 @@ module _ (p : Plan) (k : ℕ) (t : Tested) (g : PlanTested p k t) where
   refused : (r : Judgement) (a : Answer) (j i : ℕ) → r ≡ refusedWith a → a ≡ Refused j i → a ≡ judgedAnswer p k → Judges p k r
   unfolding refusedWith
   refused r a j i e q v =
-      record { answer = ap (λ (r : Judgement). r .answer) e ∙ v; plan = rw (e, q) }
+      record { answer = ap (λ (r : Judgement). r .answer) e ∙ v; plan = rw (e, q); count = rw (e, q); counted = rw (e, q) }
 
   untested : (r : Judgement) (j i : ℕ) → r ≡ refusedWith (t .answer) → t .answer ≡ Refused j i → Judges p k r
   unfolding judgedAnswer
   untested r j i e q = refused r (t .answer) j i e q (g .answer ∙ sym (stopped _ _ j i (sym (g .answer) ∙ q)))
 
   module _ (e : t .answer ≡ Accepted) where
-    few : p .tasks ≤ 16
+    limits : Limits (offering p k .tasks)
+    limits = tested-limits (offering p k) (sym (g .answer) ∙ e)
+
+    pub few : (2 ≤ p .cores) × (p .cores ≤ 8) × (p .tasks ≤ 16)
     unfolding offering contentOf
-    few = few-tasks (offering p k) (sym (g .answer) ∙ e)
+    few = (limits .cores-low, limits .cores-high, limits .tasks-high)
 
     bounded : (b : Answer) → b ≡ boundsOf p (t .slack) → b ≡ judgedAnswer p k
     unfolding judgedAnswer
-    bounded b q = q ∙ rw (g .slack e) (sym (passed-on _ _ (sym (g .answer) ∙ e)))
+    bounded b q = q ∙ rw (g .had e .places) (sym (passed-on _ _ (sym (g .answer) ∙ e)))
 
-    accepted : (b : Answer) → b ≡ boundsOf p (t .slack) → b ≡ Accepted → Judges p k (record { answer = Accepted; plan = withSlack p (t .slack) })
-    accepted b q v = record { answer = sym v ∙ bounded b q; plan = ap (withSlack p) (g .slack e) }
+    count-is : p .cores - 1 ≡ length (judgedNames p k)
+    unfolding judgedNames offering contentOf
+    count-is = sym (counted-length (offering p k .tasks) (hadSlack (offering p k)) (limits .more-tasks))
+
+    names-are : (i : ℕ) → cut (p .cores - 1) (row (t .names)) 0 i ≡ row (judgedNames p k) i
+    unfolding row judgedNames offering contentOf
+    names-are i = sym (getD-first (p .cores - 1) (t .names) i 0) ∙ ap (λ (l : List ℕ). getD l i 0) (g .had e .named)
+
+    accepted :
+        (b : Answer) → b ≡ boundsOf p (t .slack) → b ≡ Accepted → (l : List ℕ) → l ≡ tab (cut (p .cores - 1) (row (t .names)) 0) 8
+        → Judges p k (record { answer = Accepted; plan = withSlack p (t .slack); count = p .cores - 1; counted = l })
+    accepted b q v l el =
+        record {
+          answer = sym v ∙ bounded b q;
+          plan = ap (withSlack p) (g .had e .places);
+          count = count-is;
+          counted = el ∙ tab-ext _ _ 8 (λ i h. names-are i);
+        }
 
 test-slack-requires : tie.Need-test-slack-requires
 test-slack-requires c κs = search needs
@@ -61,7 +88,7 @@ returns c =
 plan-bounds-requires : tie.Need-plan-bounds-requires
 plan-bounds-requires c κs =
     let s = c .before .before .before .before in
-    few (s .args .plan) (s .args .offers) _ (c .before .before .before .test-slack .ensures) (c .before .enum-told .given .1)
+    few (s .args .plan) (s .args .offers) _ (c .before .before .before .test-slack .ensures) (c .before .enum-told .given .1) .2
 
 enum-told-3 : tie.Need-enum-told-3
 enum-told-3 c = search needs
@@ -79,11 +106,25 @@ returns-2 c =
     refused (s .args .plan) (s .args .offers) _ g _ _ _ _ (c .refused2 .ensures) (c .before .enum-told4 .given .1)
     (bounded (s .args .plan) (s .args .offers) _ g (c .before .before .before .before .before .enum-told .given .1) _ (c .before .before .before .plan-bounds .ensures))
 
+sub-count : tie.Need-sub-count
+sub-count c =
+    let s = c .before .before .before .before .before .before .before .before .before in
+    omega (arith, few (s .args .plan) (s .args .offers) _ (c .before .before .before .before .before .before .before .before .test-slack .ensures) (c .before .before .before .before .before .before .enum-told .given .1))
+
+slice-aggregate-tidy-bytes : tie.Need-slice-aggregate-tidy-bytes
+slice-aggregate-tidy-bytes c = search needs
+
+tidy-bytes-requires : tie.Need-tidy-bytes-requires
+tidy-bytes-requires c κs =
+    let s = c .before .before .before .before .before .before .before .before .before .before in
+    let long : length (c .before .before .before .before .before .before .before .before .before .test-slack .result .names) ≡ 16 = search needs in
+    omega (arith, few (s .args .plan) (s .args .offers) _ (c .before .before .before .before .before .before .before .before .before .test-slack .ensures) (c .before .before .before .before .before .before .before .enum-told .given .1))
+
 returns-3 : tie.Need-returns-3
 unfolding withSlack
 returns-3 c =
-    let s = c .before .before .before .before .before .before .before in
-    accepted (s .args .plan) (s .args .offers) _ (c .before .before .before .before .before .before .test-slack .ensures) (c .before .before .before .before .enum-told .given .1) _ (c .before .before .plan-bounds .ensures) (c .enum-told3 .given .1)
+    let s = c .before .before .before .before .before .before .before .before .before .before .before in
+    accepted (s .args .plan) (s .args .offers) _ (c .before .before .before .before .before .before .before .before .before .before .test-slack .ensures) (c .before .before .before .before .before .before .before .before .enum-told .given .1) _ (c .before .before .before .before .before .before .plan-bounds .ensures) (c .before .before .before .before .enum-told3 .given .1) _ (c .tidy-bytes .ensures)
 
 pub judge-plan-spec : {M : Type 1} → statement M
 judge-plan-spec =
@@ -99,4 +140,7 @@ judge-plan-spec =
     enum-told-4
     refused-requires-2
     returns-2
+    sub-count
+    slice-aggregate-tidy-bytes
+    tidy-bytes-requires
     returns-3)
