@@ -1,5 +1,5 @@
 /*
- * Judgement and log run of Dahomike as C functions. `rt staticlib dahomike` writes the library that has them,
+ * Judgement, its counted loops and the log run of Dahomike as C functions. `rt staticlib dahomike` writes the library that has them,
  * target/staticlib/libdahomike.a. The proved source is crates/dahomike/src/lib.rt; .ci/documents holds the declarations here to it.
  *
  * Numbers in tables, logs and answers are unsigned, low byte first. Loops and entries are counted from 0.
@@ -28,10 +28,10 @@
  *     14  A log's length isn't 2 + 9 x count, or its count is absent.
  *     15  A log tick is above 1,000,000,000.
  *     16  The lent answer is shorter than 8 x count.
- *     24  The buffer lent to the judgement is too short.
+ *     24  The buffer lent for the judgement or for its names is too short.
  *
  * Each number is tested over all entries before the next, and the first that is met is answered: 1 to 13 of the table, then 24 for
- * dahomike_judge; 1 to 13 of the table, then 14 to 16 for dahomike_run_log.
+ * dahomike_judge and dahomike_counted; 1 to 13 of the table, then 14 to 16 for dahomike_run_log.
  */
 #ifndef DAHOMIKE_H
 #define DAHOMIKE_H
@@ -55,6 +55,17 @@ extern "C" {
  * compliant. Otherwise it is the slack offered, tested by 12.
  */
 uint64_t dahomike_judge(const uint8_t *table, size_t table_len, uint8_t *out, size_t out_len);
+
+/*
+ * Names the loops that a judgement counted: those with the m - 1 largest weights at its slack, offered or found.
+ *
+ *     table   as above
+ *     out     where the table is accepted, these loops, one byte each, largest weight first, equal weights by lower loop; bytes beyond
+ *             these stay. 7 bytes are enough for every table
+ *
+ * Answers how many, m - 1, or the refusal: one of 1 to 13 and 24.
+ */
+uint64_t dahomike_counted(const uint8_t *table, size_t table_len, uint8_t *out, size_t out_len);
 
 /*
  * Runs a release log on a show table: the engine is opened on the table's plan, stepped up to each entry's tick and handed its release,

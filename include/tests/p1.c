@@ -1,5 +1,5 @@
 /*
- * The header and the static library from C: P1 and P4 judged, P11 run. .ci/run compiles and runs it where there is a C compiler.
+ * The header and the static library from C: P1 and P4 judged, P1's and P3's counted loops named, P11 run. .ci/run compiles and runs it where there is a C compiler.
  */
 #include "../dahomike.h"
 
@@ -69,6 +69,22 @@ static void judge_p1(void) {
     expect_bytes("refused", out, sizeof out, out, 0);
 }
 
+static void name_counted(void) {
+    static const uint8_t name_of_p1[] = {2}, name_of_p3[] = {0};
+    uint8_t p1[sizeof p4 - 12], out[7];
+    memcpy(p1, p4, sizeof p1);
+    p1[sizeof p1 - 1] = 0;
+    memset(out, 0xee, sizeof out);
+    expect_answer("P1 counted, no buffer", dahomike_counted(p1, sizeof p1, out, 0), REFUSED(24, 0));
+    expect_answer("P4 counted", dahomike_counted(p4, sizeof p4, out, sizeof out), REFUSED(12, 0));
+    expect_bytes("refused, counted", out, sizeof out, out, 0);
+    expect_answer("P1 counted", dahomike_counted(p1, sizeof p1, out, sizeof out), 1);
+    expect_bytes("P1 counted", out, sizeof out, name_of_p1, sizeof name_of_p1);
+    memset(out, 0xee, sizeof out);
+    expect_answer("P3 counted", dahomike_counted(p3, sizeof p3, out, 1), 1);
+    expect_bytes("P3 counted", out, sizeof out, name_of_p3, sizeof name_of_p3);
+}
+
 static void run_p11(void) {
     static const uint8_t entries[] = {1, 0, 0, 0, 1, 0, 0, 0, 2, 0, 0, 0, 22, 0, 0, 0, 1, 0, 0, 0, 3, 0, 0, 0};
     uint8_t out[40];
@@ -81,6 +97,7 @@ static void run_p11(void) {
 
 int main(void) {
     judge_p1();
+    name_counted();
     run_p11();
     if (failures == 0) {
         puts("the C functions from C: ok");

@@ -173,9 +173,9 @@ module _ (p : Plan) (k : ℕ) (s : TaskSet) (e : s ≡ plain (contentOf p .tasks
   had-plan slack names g =
       record {
         places = g .places ∙ tab-ext _ _ 16 (λ i h. slack-had i);
-        named =
+        counts =
             ap (λ (t : TaskSet). take (t .cores - 1) names) (sym e)
-            ∙ g .named
+            ∙ g .counts
             ∙ ap (λ (t : TaskSet). counted t (cond (eqb k 0) (row (found s)) (cut (s .count) (row (p .slack)) 0))) e
             ∙ plain-counted (contentOf p .tasks) _
             ∙ counted-ext (contentOf p .tasks) _ _ (λ i h. slack-had i);

@@ -23,7 +23,7 @@ use Rattle.numbers.specs.Bytes.{digits, entries}
 use Rattle.numbers.specs.ByteLaws.{length-digits, length-entries, entries-same}
 use Rattle.laws.specs.SetsLaws.{sets-whole}
 use Rattle.codec.specs.Table.{taskCount, taskSetIn, contentIn, verdict}
-use Rattle.table.specs.Judged.{namesIn, judged}
+use Rattle.table.specs.Judged.{countedIn, judged}
 use Rattle.table.specs.NamesLaws.{names-count, names-first}
 use Rattle.replay.specs.declared.run.Ran.{Ran}
 use Rattle.replay.specs.Ran.{runTest, ranOf}
@@ -143,16 +143,16 @@ module _ (t out : List ℕ) (j : Judgement) (e : j ≡ judged t) where
         length out < j .count → (answerNumber (Refused 24 0) 0 ≡ countedNumber t (length out)) × (out ≡ countedLeaves t out)
     unfolding countedNumber countedLeaves countedTest firstMet answerNumber
     counted-short h =
-        let l : length out < length (namesIn t) = omega (arith, names-count t j e) in
-        (rw (names, lt-ltb (length out) (length (namesIn t)) l), rw (names, lt-ltb (length out) (length (namesIn t)) l))
+        let l : length out < length (countedIn t) = omega (arith, names-count t j e) in
+        (rw (names, lt-ltb (length out) (length (countedIn t)) l), rw (names, lt-ltb (length out) (length (countedIn t)) l))
 
     pub counted-done :
         j .count ≤ length out → (j .count ≡ countedNumber t (length out)) × (sets out 0 (take (j .count) (j .counted)) ≡ countedLeaves t out)
     unfolding countedNumber countedLeaves countedTest firstMet answerNumber
     counted-done h =
-        let l : length (namesIn t) ≤ length out = omega (arith, names-count t j e) in (
-          rw (names, le-ltb (length out) (length (namesIn t)) l) (names-count t j e),
-          rw (names, le-ltb (length out) (length (namesIn t)) l) (ap (sets out 0) (names-first t j e) ∙ sets-whole out (namesIn t) l),
+        let l : length (countedIn t) ≤ length out = omega (arith, names-count t j e) in (
+          rw (names, le-ltb (length out) (length (countedIn t)) l) (names-count t j e),
+          rw (names, le-ltb (length out) (length (countedIn t)) l) (ap (sets out 0) (names-first t j e) ∙ sets-whole out (countedIn t) l),
         )
 
 -- ---- the log run

@@ -19,7 +19,7 @@ use Rattle.tasks.specs.Content.{Content, taskOf}
 use Rattle.tasks.specs.Tests.{refuse, firstMet, numberOf, indexOf, unlessRefused}
 use Rattle.numbers.specs.Bytes.{digits, entries}
 use Rattle.codec.specs.Table.{taskCount, contentIn, verdict}
-use Rattle.table.specs.Judged.{namesIn}
+use Rattle.table.specs.Judged.{countedIn}
 use Rattle.replay.specs.Ran.{runTest, ranOf}
 
 -- "Each of the two answers one 64-bit number: n for judgement, … and 4,294,967,296 × refusal number + index for a refused call."
@@ -44,14 +44,14 @@ judgeLeaves t out =
 
 -- 24 where the lent buffer is shorter than the names, a byte each
 unfoldable pub countedTest : List ℕ → ℕ → Answer
-countedTest t room = firstMet (verdict t ∷ refuse 24 (ltb room (length (namesIn t))) ∷ [])
+countedTest t room = firstMet (verdict t ∷ refuse 24 (ltb room (length (countedIn t))) ∷ [])
 
 unfoldable pub countedNumber : List ℕ → ℕ → ℕ
-countedNumber t room = answerNumber (countedTest t room) (length (namesIn t))
+countedNumber t room = answerNumber (countedTest t room) (length (countedIn t))
 
 -- the names from the buffer's beginning on; "bytes beyond stay", and "Nothing lent is written" on a refusal
 unfoldable pub countedLeaves : List ℕ → List ℕ → List ℕ
-countedLeaves t out = unlessRefused (countedTest t (length out)) (namesIn t ++ drop (length (namesIn t)) out) out
+countedLeaves t out = unlessRefused (countedTest t (length out)) (countedIn t ++ drop (length (countedIn t)) out) out
 
 -- the sum that is a task's bound, from a plan's own arrays
 unfoldable pub boundIn : Plan → ℕ → ℕ

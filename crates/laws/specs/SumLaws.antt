@@ -10,13 +10,12 @@
 --     sum-le-mul       entries at most b: the sum is at most n * b
 --     term-le-sum      an entry is at most the sum
 --     sum-but-one      rows that agree but at k
---     sum-upto         the sum below fewer is at most the sum below more; sum-rest: equal, if the rest is zeros
---     sum-cut          a row that is cut off at n, with zeros after it
+--     sum-upto         the sum below fewer is at most the sum below more
 --     count-ext, count-mono, count-less, count-le      the same of the number of indices at which a test holds
 --     count-none, count-all, count-not, count-pos      it is 0, it is n, the indices at which the test fails, it isn't 0
 --     count-full       where it is n, the test holds at every index
 --     sumIn p f n      the sum of f over the indices below n at which p holds
---     sumIn-step, sumIn-mono, sumIn-le      the same of that sum; it is at most the whole one
+--     sumIn-mono, sumIn-le      the same of that sum; it is at most the whole one
 --     sumIn-count      of a constant row; sumIn-rest: with the indices at which p fails it is the whole sum
 --     sumOver-ext, sumOver-mono, sumOver-const
 --     sumOver-append   over two lists, one behind the other; sumOver-take: over the first k of a list, place by place
@@ -34,8 +33,6 @@ use lib.ListN.{length, getD, take}
 use lib.Seq.{take-suc}
 use borrow.Author.Tests.{eq-eqb, ne-eqb}
 use Rattle.laws.specs.Sum.{sum, count, sumOver}
-use Rattle.laws.specs.Tab.{cut}
-use Rattle.laws.specs.TabLaws.{cut-below, cut-above}
 use Rattle.laws.specs.Member.{member, Distinct}
 use Rattle.laws.specs.MemberLaws.{member-here, member-there}
 
@@ -104,18 +101,6 @@ sum-but-one f g (suc n) k h same =
     (λ (q : k < n). omega (arith, sum-but-one f g n k q (λ i l ne. same i (omega arith) ne), same n (omega arith) (omega arith)))
     (eq-or-lt-of-le (le-of-suc-le-suc h))
 
-pub sum-rest : (f : ℕ → ℕ) (m n : ℕ) → m ≤ n → ((i : ℕ) → m ≤ i → i < n → f i ≡ 0) → sum f n ≡ sum f m
-unfolding sum
-sum-rest f m zero h none = rw (le-zero h)
-sum-rest f m (suc n) h none =
-    ⊎-elim
-    (λ (q : m ≡ suc n). rw q)
-    (λ (q : m < suc n). omega (arith, sum-rest f m n (omega arith) (λ i l u. none i l (omega arith)), none n (omega arith) (omega arith)))
-    (eq-or-lt-of-le h)
-
-pub sum-cut : (f : ℕ → ℕ) (m n : ℕ) → m ≤ n → sum (cut m f 0) n ≡ sum f m
-sum-cut f m n h = sum-rest (cut m f 0) m n h (λ i l u. cut-above m f 0 i l) ∙ sum-ext (cut m f 0) f m (cut-below m f 0)
-
 pub count-ext : (p q : ℕ → Bool) (n : ℕ) → ((i : ℕ) → i < n → p i ≡ q i) → count p n ≡ count q n
 unfolding count
 count-ext p q n same = sum-ext (λ i. cond (p i) 1 0) (λ i. cond (q i) 1 0) n (λ i h. rw (same i h))
@@ -127,10 +112,6 @@ within true c x y sub le = rw (sub refl) (le refl)
 
 unfoldable pub sumIn : (ℕ → Bool) → (ℕ → ℕ) → ℕ → ℕ
 sumIn p f n = sum (λ i. cond (p i) (f i) 0) n
-
-pub sumIn-step : (p : ℕ → Bool) (f : ℕ → ℕ) (n : ℕ) → sumIn p f (n + 1) ≡ sumIn p f n + cond (p n) (f n) 0
-unfolding sumIn
-sumIn-step p f n = sum-step (λ i. cond (p i) (f i) 0) n
 
 pub sumIn-mono :
     (p q : ℕ → Bool) (f g : ℕ → ℕ) (n : ℕ) → ((i : ℕ) → i < n → p i ≡ true → q i ≡ true) → ((i : ℕ) → i < n → p i ≡ true → f i ≤ g i)

@@ -19,13 +19,13 @@ use borrow.Author.Tests.{le-ltb}
 use Rattle.tasks.specs.declared.Plan.{Plan}
 use Rattle.tasks.specs.declared.Answer.{Answer}
 use Rattle.tasks.specs.declared.Answer.the-variants.{Accepted, Refused}
-use Rattle.tasks.specs.Content.{named, contentOf, planOf, tidy, Same}
+use Rattle.tasks.specs.Content.{countedOf, contentOf, planOf, tidy, Same}
 use Rattle.tasks.specs.Tests.{orNext, firstMet, tests, testPlan}
 use Rattle.tasks.specs.TestsLaws.{Passed, tests-passed}
 use Rattle.tasks.specs.AnswerLaws.{firstMet-passed}
 use Rattle.table.specs.declared.Judgement.{Judgement}
 use Rattle.codec.specs.Table.{countedLength, taskSetIn, contentIn, verdict, bytesOf}
-use Rattle.table.specs.Judged.{judgedAs, namesIn, judged}
+use Rattle.table.specs.Judged.{judgedAs, countedIn, judged}
 use Rattle.writer.specs.Written.{writeTest, writtenLength, writtenTo}
 use Rattle.numbers.specs.Bytes.{byte}
 use Rattle.numbers.specs.ByteLaws.{Bytes}
@@ -82,8 +82,8 @@ module _ (p : Plan) (a : testPlan p ≡ Accepted) where
       (bytesOf (contentOf p))
       (record { edition = back-edition; long = back-long; content = ap tests plan-back ∙ a })
 
-  pub judged-back : judged (bytesOf (contentOf p)) ≡ judgedAs Accepted (tidy p) (named (contentOf p))
-  unfolding judged namesIn tidy
+  pub judged-back : judged (bytesOf (contentOf p)) ≡ judgedAs Accepted (tidy p) (countedOf (contentOf p))
+  unfolding judged countedIn tidy
   judged-back = rw (verdict-back, plan-back)
 
   -- "two plans are the same if their used entries and that mark agree"
@@ -92,15 +92,15 @@ module _ (p : Plan) (a : testPlan p ≡ Accepted) where
   same-back = sym (ap (λ (j : Judgement). contentOf (j .plan)) judged-back ∙ fits-back (contentOf p) plan-again-fits)
 
 -- an accepted table's judgement
-judged-accepted : (t : List ℕ) → verdict t ≡ Accepted → judged t ≡ judgedAs Accepted (judged t .plan) (named (contentIn t))
-unfolding judged namesIn
+judged-accepted : (t : List ℕ) → verdict t ≡ Accepted → judged t ≡ judgedAs Accepted (judged t .plan) (countedOf (contentIn t))
+unfolding judged countedIn
 judged-accepted t a = rw a
 
 pub judged-again : (t : List ℕ) → verdict t ≡ Accepted → judged (bytesOf (contentOf (judged t .plan))) ≡ judged t
 unfolding testPlan
 judged-again t a =
     judged-back (judged t .plan) (ap tests (judged-fits t a) ∙ verdict-parts t a .content)
-    ∙ ap₂ (judgedAs Accepted) (judged-tidy t a) (ap named (judged-fits t a))
+    ∙ ap₂ (judgedAs Accepted) (judged-tidy t a) (ap countedOf (judged-fits t a))
     ∙ sym (judged-accepted t a)
 
 -- ---- the calls: what `write` answers and leaves behind, and what `judge` answers to it
@@ -144,5 +144,5 @@ module _ (p : Plan) (out : List ℕ) (a : writeTest p (length out) ≡ Accepted)
   unfolding leftBy writtenLength writtenTo
   left-are = rw a (take-at (bytesOf (contentOf p)) _ _ refl)
 
-  pub plan-again : (judged (leftBy p out) ≡ judgedAs Accepted (tidy p) (named (contentOf p))) × Same p (judged (leftBy p out) .plan)
+  pub plan-again : (judged (leftBy p out) ≡ judgedAs Accepted (tidy p) (countedOf (contentOf p))) × Same p (judged (leftBy p out) .plan)
   plan-again = (rw left-are (judged-back p tested), rw left-are (same-back p tested))

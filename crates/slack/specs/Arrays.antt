@@ -37,4 +37,4 @@ pub record ArraysOf (s : TaskSet) (shares budgets offsets : List ℕ) (h surplus
 
 pub record Had (s : TaskSet) (x : ℕ → ℕ) (slack names : List ℕ) : Type 0 where
   pub places : slack ≡ tab x 16
-  pub named : take (s .cores - 1) names ≡ counted s x
+  pub counts : take (s .cores - 1) names ≡ counted s x

@@ -182,5 +182,5 @@ module _ {s : TaskSet} {shares budgets offsets : List ℕ} {h surpluses m n : �
       offered-had names e =
           record {
             places = rw (← g .tasks) eu;
-            named = rw (g .cores) at (e ∙ counted-row used) ∙ ap (counted s) used-row;
+            counts = rw (g .cores) at (e ∙ counted-row used) ∙ ap (counted s) used-row;
           }

@@ -16,7 +16,7 @@ use Rattle.tasks.specs.declared.Answer.{Answer}
 use Rattle.tasks.specs.declared.Answer.the-variants.{Accepted, Refused}
 use Rattle.tasks.specs.TaskSet.{TaskSet, counted, found, row}
 use Rattle.tasks.specs.AmountLaws.{counted-ext}
-use Rattle.tasks.specs.Content.{Content, named, contentOf, planOf, zeroPlan}
+use Rattle.tasks.specs.Content.{Content, countedOf, contentOf, planOf, zeroPlan}
 use Rattle.tasks.specs.Tests.{firstMet, orNext, test3, test4, test5, test6, test7, test8, test9, test10, test11, tests, unlessRefused}
 use Rattle.tasks.specs.AnswerLaws.{refuse-passed, orNext-passed, firstMet-passed, firstMet-append}
 use Rattle.tasks.specs.LimitsLaws.{limitTests, slackTests, tests-split, limits-passed}
@@ -28,7 +28,7 @@ use Rattle.table.specs.declared.Judgement.{Judgement}
 use Rattle.codec.specs.Table.{coreCount, taskCount, slackCount, taskSetIn, contentIn, test1, test2, verdict}
 use Rattle.reader.specs.Counted.{countsTest}
 use Rattle.tasks.specs.ContentLaws.{content-ext, withSlack}
-use Rattle.table.specs.Judged.{refusedWith, namesIn, judged}
+use Rattle.table.specs.Judged.{refusedWith, countedIn, judged}
 use Rattle.table.specs.LoadedLaws.{loaded, tasks-in, labels-in, slack-in, limits-all}
 
 -- 3 to 12, and then 13 with the slack that the plan has
@@ -157,8 +157,8 @@ module _ (t : List ℕ) where
   unfolding withSlack loaded planOf
   plan-in e = ap (withSlack (planOf (contentIn t))) (tab-ext (hadSlack said) (contentIn t .slack) 16 (λ i h. had-said e i))
 
-  names-in : tests (contentIn t) ≡ Accepted → judgedNames (loaded t) (slackCount t) ≡ named (contentIn t)
-  unfolding judgedNames named said
+  names-in : tests (contentIn t) ≡ Accepted → judgedNames (loaded t) (slackCount t) ≡ countedOf (contentIn t)
+  unfolding judgedNames countedOf said
   names-in e =
       ap (λ (s : TaskSet). counted s (hadSlack said)) (said-tasks (within (eleven-passed e .0) .1))
       ∙ counted-ext (contentIn t .tasks) _ _ (λ i h. had-said e i)
@@ -178,13 +178,13 @@ module _ (t : List ℕ) where
 
   names-case :
       (a : Answer) → a ≡ tests (contentIn t) →
-      unlessRefused a (judgedNames (loaded t) (slackCount t)) [] ≡ unlessRefused a (named (contentIn t)) []
+      unlessRefused a (judgedNames (loaded t) (slackCount t)) [] ≡ unlessRefused a (countedOf (contentIn t)) []
   names-case Accepted e = names-in (sym e)
   names-case (Refused j i) e = refl
 
   -- past 1 and 2 the judging of the loaded plan is the table's judgement
   pub judged-from : countsTest t ≡ Accepted → (r : Judgement) → Judges (loaded t) (slackCount t) r → r ≡ judged t
-  unfolding judged namesIn said
+  unfolding judged countedIn said
   judged-from e r g =
       let a = g .answer ∙ answer-in ∙ sym (past-two e) in
       let p = g .plan ∙ ap (λ (b : Answer). unlessRefused b (withSlack (loaded t) (tab (hadSlack said) 16)) zeroPlan) a ∙ judged-case (verdict t) (past-two e) in
@@ -195,7 +195,7 @@ module _ (t : List ℕ) where
 
 -- a table that meets 1 or 2
 pub counts-refused : (t : List ℕ) (j i : ℕ) → countsTest t ≡ Refused j i → refusedWith (Refused j i) ≡ judged t
-unfolding refusedWith judged namesIn verdict countsTest
+unfolding refusedWith judged countedIn verdict countsTest
 counts-refused t j i e = rw first-refused
   where
     first-refused : verdict t ≡ Refused j i

@@ -1,7 +1,7 @@
 -- What the judgement and the slack part answer, for every input.
 --     judgedAs         a judgement by its answer, its plan and the loops that it names
 --     refusedWith      a refused one
---     namesIn          the loops that the judgement of a table's bytes names
+--     countedIn        the loops that the judgement of a table's bytes names
 --     judged           the judgement of a table's bytes
 --     slackPart        the slack section's entries, without the count byte
 use Prim.Native.Nat.{ℕ}
@@ -11,7 +11,7 @@ use Rattle.laws.specs.Tab.{tab}
 use Rattle.tasks.specs.declared.Answer.{Answer}
 use Rattle.tasks.specs.declared.Plan.{Plan}
 use Rattle.tasks.specs.TaskSet.{row}
-use Rattle.tasks.specs.Content.{named, planOf, zeroPlan}
+use Rattle.tasks.specs.Content.{countedOf, planOf, zeroPlan}
 use Rattle.tasks.specs.Tests.{unlessRefused}
 use Rattle.table.specs.declared.Judgement.{Judgement}
 use Rattle.codec.specs.Table.{contentIn, slackAt, verdict}
@@ -24,12 +24,12 @@ unfoldable pub refusedWith : Answer → Judgement
 refusedWith a = judgedAs a zeroPlan []
 
 -- "A judgement hands the names back beside the plan, by the weights at its slack, offered or found alike; a refused one names none."
-unfoldable pub namesIn : List ℕ → List ℕ
-namesIn t = unlessRefused (verdict t) (named (contentIn t)) []
+unfoldable pub countedIn : List ℕ → List ℕ
+countedIn t = unlessRefused (verdict t) (countedOf (contentIn t)) []
 
 -- "A refused judgement … hands back a plan … of zeros"
 unfoldable pub judged : List ℕ → Judgement
-judged t = judgedAs (verdict t) (unlessRefused (verdict t) (planOf (contentIn t)) zeroPlan) (namesIn t)
+judged t = judgedAs (verdict t) (unlessRefused (verdict t) (planOf (contentIn t)) zeroPlan) (countedIn t)
 
 -- "its entries without the count byte, with count 0 or a refused table as an empty part"
 unfoldable pub slackPart : List ℕ → List ℕ

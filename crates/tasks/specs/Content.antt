@@ -1,6 +1,6 @@
 -- What a table or a plan says, with its unused places left out, and the plan that keeps it.
 --     Content      cores' labels, tasks, the slack count and the slack
---     named        the loops counted at its slack
+--     countedOf    the loops counted at its slack
 --     contentOf    what a plan says
 --     planOf       the plan that keeps a content, zeros in its unused places
 --     tidy         a plan with zeros in its unused places
@@ -25,8 +25,8 @@ pub record Content : Type 0 where
   pub slack : ℕ → ℕ
 
 -- "A judgement hands the names back beside the plan, by the weights at its slack, offered or found alike"
-unfoldable pub named : Content → List ℕ
-named c = counted (c .tasks) (c .slack)
+unfoldable pub countedOf : Content → List ℕ
+countedOf c = counted (c .tasks) (c .slack)
 
 unfoldable pub noTask : Task
 noTask = record { separation = 0; budget = 0; offset = 0 }

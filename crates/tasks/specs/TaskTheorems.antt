@@ -3,8 +3,9 @@
 --     H-is-least      H is one, and none is smaller
 --     Candidates          m − 1 loops of the table
 --     most-weight     the counted loops are such a choice, and none has a larger sum of weights
---     Named           m − 1 loops by the size of their weights: none left out comes before one named
---     counted-named   the counted loops are named so; named-only: and no others are
+--     ByWeight        m − 1 loops by the size of their weights: none left out comes before one of them
+--     counted-by-weight    the counted loops are so; by-weight-only: and no others are
+--     names-at-slack  the loops that a judgement names are so by the weights at its slack
 --     Least           compliant slack that is no larger at any loop than any other
 --     found-exists    found slack is that, with one entry for each loop
 --     found-is-only   and is the only one
@@ -25,7 +26,7 @@ use Rattle.laws.specs.SumLaws.{sumOver-members, count-members}
 use Rattle.laws.specs.Member.{member, Distinct}
 use Rattle.tasks.specs.declared.Answer.the-variants.{Accepted}
 use Rattle.tasks.specs.TaskSet.{TaskSet, hyperperiod, weight, counted, Compliant, covers, found, bound, late, row}
-use Rattle.tasks.specs.Content.{Content}
+use Rattle.tasks.specs.Content.{Content, countedOf}
 use Rattle.tasks.specs.Limits.{Bounded}
 use Rattle.tasks.specs.Tests.{firstMet, test11, test12, test13, tests}
 use Rattle.tasks.specs.AnswerLaws.{pass-lowest, pass-firstMet}
@@ -46,7 +47,7 @@ pub record Candidates (s : TaskSet) (l : List ℕ) : Type 0 where
   pub many : length l ≡ s .cores - 1
 
 -- "names its loops, largest first, equal weights by lower loop"
-pub record Named (s : TaskSet) (x : ℕ → ℕ) (l : List ℕ) : Type 0 where
+pub record ByWeight (s : TaskSet) (x : ℕ → ℕ) (l : List ℕ) : Type 0 where
   pub loops : Candidates s l
   pub largest : (i j : ℕ) → member i l ≡ true → j < s .count → member j l ≡ false → weight s x j ≤ weight s x i
   pub lower : (i j : ℕ) → member i l ≡ true → j < s .count → member j l ≡ false → weight s x j ≡ weight s x i → i < j
@@ -83,8 +84,8 @@ module _ (c : Content) (passed : limitTests c ≡ Accepted) where
         (counted-best (c .tasks) x _ (rw (count-members l (c .tasks .count) (m .distinct) (m .loops)) (le-of-eq (m .many)))),
   )
 
-  pub counted-named : (x : ℕ → ℕ) → Named (c .tasks) x (counted (c .tasks) x)
-  counted-named x =
+  pub counted-by-weight : (x : ℕ → ℕ) → ByWeight (c .tasks) x (counted (c .tasks) x)
+  counted-by-weight x =
       record {
         loops = most-weight x .0;
         largest = λ i j m h f. counted-ahead (c .tasks) x i j m h f .0;
@@ -93,11 +94,16 @@ module _ (c : Content) (passed : limitTests c ≡ Accepted) where
         rising = λ a b l h. counted-order (c .tasks) x a b l h .1;
       }
 
-  pub named-only : (x : ℕ → ℕ) (l : List ℕ) → Named (c .tasks) x l → l ≡ counted (c .tasks) x
-  named-only x l n =
+  pub by-weight-only : (x : ℕ → ℕ) (l : List ℕ) → ByWeight (c .tasks) x l → l ≡ counted (c .tasks) x
+  by-weight-only x l n =
       counted-only (c .tasks) x l (limits-passed c passed .0 .more-tasks) (n .loops .many) (n .loops .loops)
       (λ a b p q. (n .falling a b p q, n .rising a b p q))
       (λ i j m h f. (n .largest i j m h f, n .lower i j m h f))
+
+  -- "by the weights at its slack, offered or found alike"
+  pub names-at-slack : ByWeight (c .tasks) (c .slack) (countedOf c)
+  unfolding countedOf
+  names-at-slack = counted-by-weight (c .slack)
 
   -- "Found slack is the compliant whole vector that is no larger at any loop than any other"; "One always exists within the limits."
   pub found-exists : Least (c .tasks) (row (found (c .tasks))) × (length (found (c .tasks)) ≡ c .tasks .count)

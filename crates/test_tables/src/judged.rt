@@ -58,5 +58,8 @@ pub fn bytes(name: &[u8], table: &[u8]) {
             say::fact(b"the plan is of zeros", all_zero(plan));
         }
     }
+    let counted = judgement.counted;
+    say::number(b"counted ", judgement.count as u64);
+    say::bytes(b" by name", &counted);
     say::bytes(b"slack part", table::slack_part(table));
 }

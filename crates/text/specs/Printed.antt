@@ -10,7 +10,7 @@ use Prim.Native.Nat.{ℕ}
 use mathlib.Core.List.{List, _++_}
 use lib.ListN.{length}
 use Rattle.tasks.specs.TaskSet.{row, bound, late}
-use Rattle.tasks.specs.Content.{Content, named}
+use Rattle.tasks.specs.Content.{Content, countedOf}
 use Rattle.tasks.specs.Tests.{numberOf, indexOf, unlessRefused}
 use Rattle.numbers.specs.Bytes.{entries}
 use Rattle.codec.specs.Table.{contentIn, verdict}
@@ -43,7 +43,7 @@ unfoldable pub planLines : Content → List ℕ
 planLines c = countsLine (c .tasks .cores) (c .tasks .count) ++ entries (lineOf c) (c .tasks .count)
 
 unfoldable pub planText : Content → List ℕ
-planText c = planLines c ++ countedLine (named c)
+planText c = planLines c ++ countedLine (countedOf c)
 
 unfoldable pub printed : List ℕ → List ℕ
 printed t = unlessRefused (verdict t) (planText (contentIn t)) (refusalLine (numberOf (verdict t)) (indexOf (verdict t)))

@@ -1,8 +1,10 @@
--- Document 01, "Worked tables": P1 to P11 as theorems of the definitions, from a table's and a log's bytes to the verdict, slack and bounds,
--- to what a run of the log writes, and to what `plan` prints.
---     Case         a table's loops and offered slack, a log, and what document 01 says of them
---     cases        P1 to P11, P8, P9 and P10 in both forms; where document 01 gives no budgets or offsets they are ours
---     rows         these are its 14 rows
+-- Document 01, "Worked tables": P1 to P11 as theorems of the definitions, from a table's and a log's bytes to the verdict, slack, bounds and
+-- counted loops, to what a run of the log writes, and to what `plan` prints.
+--     Case         a table's loops and offered slack, a log, and what documents 01 and 02 say of them
+--     cases        P1 to P11, P8, P9 and P10 in both forms; where document 01 gives no budgets or offsets they are ours. Behind them tables of
+--                  ours: equal weights at the edge of the choice, in both orders, and among the counted loops; and other loops counted at the
+--                  found slack than at zeros, and at an offered one than at the found
+--     rows         these are its 19 rows
 --     agrees       whether the definitions say the same of a case
 --     Shown, texts, prints    a table's loops and the text that `plan` prints for them
 --     worked       the definitions agree in every case, with the log run on the abstract machine, and in every text
@@ -23,7 +25,7 @@ use Rattle.tasks.specs.declared.Task.{Task}
 use Rattle.tasks.specs.declared.Answer.{Answer}
 use Rattle.tasks.specs.declared.Answer.the-variants.{Accepted, Refused}
 use Rattle.tasks.specs.TaskSet.{plainTask as loop, hyperperiod, share, weight, surplus, counted, amount, cover, covers, needed, row, raise, same, settle, found, bound, late}
-use Rattle.tasks.specs.Content.{noTask}
+use Rattle.tasks.specs.Content.{noTask, countedOf}
 use Rattle.tasks.specs.Tests.{lowest, firstMet, outside, badLabel, test3, test4, test5, test6, test7, test8, test9, test10, test11, test12, test13, tests, unlessRefused}
 use Rattle.machine.specs.Machine.{opened, joined, admitted, waiting, point, before, chosen, runs, served, advanced, tick}
 use Rattle.machine.specs.Admission.{joinTests, admitTests}
@@ -36,32 +38,75 @@ use Rattle.logs.specs.LogBytes.{entryCount, entryIn, entriesIn, test14, test15,
 use Rattle.laws.specs.Member.{member}
 use Rattle.numbers.specs.Bytes.{byte, number, digits, entries}
 use Rattle.decimal.specs.Decimal.{words, digitsIn, decimal, said}
-use Rattle.text.specs.Printed.{pairLine, countsLine, taskLine, refusalLine, lineOf, planText, printed}
+use Rattle.text.specs.Printed.{pairLine, countsLine, taskLine, refusalLine, lineOf, countedLine, planLines, planText, printed}
 use Rattle.codec.specs.Table.{coreCount, taskCount, tasksAt, slackCount, slackAt, taskIn, taskSetIn, contentIn, test1, test2, verdict, taskBytes}
+use Rattle.table.specs.Judged.{countedIn}
 
 pub record Case : Type 0 where
-  -- document 01's number: 1 for P1
+  -- document 01's number: 1 for P1; 0 for a table of ours
   pub p : ℕ
+  -- how many cores, labelled from 0 on
+  pub cores : ℕ
   pub loops : List Task
   pub offered : List ℕ
   pub answer : Answer
   pub slack : List ℕ
   pub bounds : List ℕ
+  -- the counted loops, by name
+  pub names : List ℕ
   pub log : List Entry
   pub reports : List Report
 
--- a table that is accepted with this slack and these bounds
-abbrev accepted : ℕ → List Task → List ℕ → List ℕ → List ℕ → Case
-accepted p loops offered slack bounds =
-    record { p = p; loops = loops; offered = offered; answer = Accepted; slack = slack; bounds = bounds; log = []; reports = [] }
+-- a table on m cores that is accepted with this slack, these bounds and these names
+abbrev acceptedOn : ℕ → ℕ → List Task → List ℕ → List ℕ → List ℕ → List ℕ → Case
+acceptedOn m p loops offered slack bounds names =
+    record {
+      p = p;
+      cores = m;
+      loops = loops;
+      offered = offered;
+      answer = Accepted;
+      slack = slack;
+      bounds = bounds;
+      names = names;
+      log = [];
+      reports = [];
+    }
+
+-- "m = 2 throughout"
+abbrev accepted : ℕ → List Task → List ℕ → List ℕ → List ℕ → List ℕ → Case
+accepted = acceptedOn 2
 
 abbrev refused : ℕ → List Task → List ℕ → ℕ → ℕ → Case
 refused p loops offered k i =
-    record { p = p; loops = loops; offered = offered; answer = Refused k i; slack = []; bounds = []; log = []; reports = [] }
+    record {
+      p = p;
+      cores = 2;
+      loops = loops;
+      offered = offered;
+      answer = Refused k i;
+      slack = [];
+      bounds = [];
+      names = [];
+      log = [];
+      reports = [];
+    }
 
--- an accepted table that a log is run on, with what is written of its entries
-abbrev run : ℕ → List Task → List Entry → List Report → Case
-run p loops log reports = record { p = p; loops = loops; offered = []; answer = Accepted; slack = []; bounds = []; log = log; reports = reports }
+-- an accepted table with this loop counted, on which a log is run, with what is written of its entries
+abbrev run : ℕ → List Task → ℕ → List Entry → List Report → Case
+run p loops name log reports =
+    record {
+      p = p;
+      cores = 2;
+      loops = loops;
+      offered = [];
+      answer = Accepted;
+      slack = [];
+      bounds = [];
+      names = name ∷ [];
+      log = log;
+      reports = reports;
+    }
 
 -- an entry of loop i at tick t with demand c
 abbrev entry : ℕ → ℕ → ℕ → Entry
@@ -70,28 +115,41 @@ entry t i c = record { tick = t; loop = i; demand = c }
 abbrev p3 : ℕ → List Task
 p3 y = loop 2 1 2 ∷ loop 2 1 2 ∷ loop 3 3 y ∷ []
 
+-- behind two loops whose weights are equal, 6: one of weight 4 and one of 12
+abbrev others : List Task
+others = loop 6 1 1 ∷ loop 2 1 1 ∷ []
+
+-- at zeros the first weight is the largest, at the found slack the third, and at an offered one the first again
+abbrev rising : List Task
+rising = loop 6 1 4 ∷ loop 3 1 0 ∷ loop 2 1 1 ∷ []
+
 abbrev p1 : List Task
 p1 = loop 10 9 10 ∷ loop 10 9 10 ∷ loop 100 20 90 ∷ []
 
 pub cases : List Case
 cases =
-    accepted 1 p1 [] (6 ∷ 6 ∷ 0 ∷ []) (25 ∷ 25 ∷ 110 ∷ [])
-    ∷ accepted 2 (loop 10 9 5 ∷ loop 10 9 10 ∷ loop 100 20 90 ∷ []) [] (9 ∷ 9 ∷ 3 ∷ []) (23 ∷ 28 ∷ 113 ∷ [])
-    ∷ accepted 3 (p3 0) [] (2 ∷ 2 ∷ 1 ∷ []) (5 ∷ 5 ∷ 4 ∷ [])
+    accepted 1 p1 [] (6 ∷ 6 ∷ 0 ∷ []) (25 ∷ 25 ∷ 110 ∷ []) (2 ∷ [])
+    ∷ accepted 2 (loop 10 9 5 ∷ loop 10 9 10 ∷ loop 100 20 90 ∷ []) [] (9 ∷ 9 ∷ 3 ∷ []) (23 ∷ 28 ∷ 113 ∷ []) (2 ∷ [])
+    ∷ accepted 3 (p3 0) [] (2 ∷ 2 ∷ 1 ∷ []) (5 ∷ 5 ∷ 4 ∷ []) (0 ∷ [])
     ∷ refused 4 p1 (5 ∷ 6 ∷ 0 ∷ []) 12 0
-    ∷ accepted 5 p1 (6 ∷ 6 ∷ 1 ∷ []) (6 ∷ 6 ∷ 1 ∷ []) (25 ∷ 25 ∷ 111 ∷ [])
+    ∷ accepted 5 p1 (6 ∷ 6 ∷ 1 ∷ []) (6 ∷ 6 ∷ 1 ∷ []) (25 ∷ 25 ∷ 111 ∷ []) (2 ∷ [])
     ∷ refused 6 p1 (6 ∷ 6 ∷ 11 ∷ []) 12 0
     ∷ refused 7 (loop 10 9 10 ∷ loop 10 9 10 ∷ loop 100 21 90 ∷ []) [] 10 0
-    ∷ accepted 8 (loop 1 1 1 ∷ loop 100 29 100 ∷ loop 100 29 100 ∷ []) [] (14 ∷ 0 ∷ 0 ∷ []) (16 ∷ 129 ∷ 129 ∷ [])
+    ∷ accepted 8 (loop 1 1 1 ∷ loop 100 29 100 ∷ loop 100 29 100 ∷ []) [] (14 ∷ 0 ∷ 0 ∷ []) (16 ∷ 129 ∷ 129 ∷ []) (1 ∷ [])
     ∷ refused 8 (loop 1 1 1 ∷ loop 100 30 100 ∷ loop 100 30 100 ∷ []) [] 13 0
-    ∷ accepted 9 (loop 1000 1 0 ∷ loop 999 1 0 ∷ loop 1 1 1 ∷ []) [] (2 ∷ 2 ∷ 2 ∷ []) (3 ∷ 3 ∷ 4 ∷ [])
+    ∷ accepted 9 (loop 1000 1 0 ∷ loop 999 1 0 ∷ loop 1 1 1 ∷ []) [] (2 ∷ 2 ∷ 2 ∷ []) (3 ∷ 3 ∷ 4 ∷ []) (2 ∷ [])
     ∷ refused 9 (loop 1000 1 0 ∷ loop 1001 1 0 ∷ loop 1 1 1 ∷ []) [] 9 0
-    ∷ run 10 (p3 0) (entry 0 0 1 ∷ entry 0 1 1 ∷ entry 0 2 3 ∷ []) (finished 1 ∷ finished 2 ∷ finished 3 ∷ [])
-    ∷ run 10 (p3 3) (entry 0 0 1 ∷ entry 0 1 1 ∷ entry 0 2 3 ∷ []) (finished 1 ∷ finished 1 ∷ finished 4 ∷ [])
-    ∷ run 11 (p3 0) (entry 0 0 1 ∷ entry 1 0 1 ∷ entry 2 0 1 ∷ []) (finished 1 ∷ refusal 22 ∷ finished 3 ∷ [])
+    ∷ run 10 (p3 0) 0 (entry 0 0 1 ∷ entry 0 1 1 ∷ entry 0 2 3 ∷ []) (finished 1 ∷ finished 2 ∷ finished 3 ∷ [])
+    ∷ run 10 (p3 3) 2 (entry 0 0 1 ∷ entry 0 1 1 ∷ entry 0 2 3 ∷ []) (finished 1 ∷ finished 1 ∷ finished 4 ∷ [])
+    ∷ run 11 (p3 0) 0 (entry 0 0 1 ∷ entry 1 0 1 ∷ entry 2 0 1 ∷ []) (finished 1 ∷ refusal 22 ∷ finished 3 ∷ [])
+    ∷ acceptedOn 3 0 (loop 6 3 0 ∷ loop 3 1 0 ∷ others) [] (2 ∷ 3 ∷ 3 ∷ 3 ∷ []) (5 ∷ 4 ∷ 5 ∷ 5 ∷ []) (3 ∷ 0 ∷ [])
+    ∷ acceptedOn 3 0 (loop 3 1 0 ∷ loop 6 3 0 ∷ others) [] (3 ∷ 2 ∷ 3 ∷ 3 ∷ []) (4 ∷ 5 ∷ 5 ∷ 5 ∷ []) (3 ∷ 0 ∷ [])
+    ∷ acceptedOn 3 0 (loop 6 1 1 ∷ loop 2 1 1 ∷ loop 2 1 1 ∷ loop 6 3 0 ∷ []) [] (3 ∷ 3 ∷ 3 ∷ 2 ∷ []) (5 ∷ 5 ∷ 5 ∷ 5 ∷ []) (1 ∷ 2 ∷ [])
+    ∷ accepted 0 rising [] (1 ∷ 1 ∷ 1 ∷ []) (6 ∷ 2 ∷ 3 ∷ []) (2 ∷ [])
+    ∷ accepted 0 rising (3 ∷ 1 ∷ 1 ∷ []) (3 ∷ 1 ∷ 1 ∷ []) (8 ∷ 2 ∷ 3 ∷ []) (0 ∷ [])
     ∷ []
 
-pub rows : map (λ (c : Case). c .p) cases ≡ 1 ∷ 2 ∷ 3 ∷ 4 ∷ 5 ∷ 6 ∷ 7 ∷ 8 ∷ 8 ∷ 9 ∷ 9 ∷ 10 ∷ 10 ∷ 11 ∷ []
+pub rows : map (λ (c : Case). c .p) cases ≡ 1 ∷ 2 ∷ 3 ∷ 4 ∷ 5 ∷ 6 ∷ 7 ∷ 8 ∷ 8 ∷ 9 ∷ 9 ∷ 10 ∷ 10 ∷ 11 ∷ 0 ∷ 0 ∷ 0 ∷ 0 ∷ 0 ∷ []
 unfolding cases
 rows = refl
 
@@ -99,14 +157,15 @@ pub concat : List (List ℕ) → List ℕ
 concat [] = []
 concat (a ∷ l) = a ++ concat l
 
--- a table on the cores labelled 0 and 1
-pub tableWith : List Task → List ℕ → List ℕ
-tableWith loops offered =
-    (1 ∷ 2 ∷ 0 ∷ 1 ∷ length loops ∷ concat (map taskBytes loops))
+-- a table on so many cores, labelled from 0 on
+pub tableWith : ℕ → List Task → List ℕ → List ℕ
+tableWith m loops offered =
+    (1 ∷ m ∷ tab (λ i. i) m)
+    ++ (length loops ∷ concat (map taskBytes loops))
     ++ (length offered ∷ concat (map (digits 4) offered))
 
 abbrev tableOf : Case → List ℕ
-tableOf c = tableWith (c .loops) (c .offered)
+tableOf c = tableWith (c .cores) (c .loops) (c .offered)
 
 abbrev entryBytes : Entry → List ℕ
 entryBytes e = digits 4 (e .tick) ++ e .loop ∷ digits 4 (e .demand)
@@ -145,6 +204,7 @@ agrees c =
     sameAnswer (verdict (tableOf c)) (c .answer)
     && sameList (tab (contentIn (tableOf c) .slack) (length (c .slack))) (c .slack)
     && sameList (tab (bound (contentIn (tableOf c) .tasks) (contentIn (tableOf c) .slack)) (length (c .bounds))) (c .bounds)
+    && sameList (countedIn (tableOf c)) (c .names)
     && sameAnswer (logTest (logOf c)) Accepted
     && sameReports (machineEngine (contentIn (tableOf c) .tasks)) (entriesIn (logOf c)) 0 (c .reports)
 
@@ -156,25 +216,25 @@ pub record Shown : Type 0 where
   pub loops : List Task
   pub text : String
 
--- "For P1 with labels 0 and 1 it prints, whole"; "A refusal prints one line: `refused 7 at 1`", here of P1 with the second budget 11
+-- "For P1 with labels 0 and 1 it prints, whole", and "for P1 `counted 2`"; "A refusal prints one line: `refused 7 at 1`", here of P1 with the second budget 11
 pub texts : List Shown
 texts =
     record {
       loops = p1;
-      text = "cores 2 loops 3\nloop 0 slack 6 bound 25 late 15\nloop 1 slack 6 bound 25 late 15\nloop 2 slack 0 bound 110 late 20\n";
+      text = "cores 2 loops 3\nloop 0 slack 6 bound 25 late 15\nloop 1 slack 6 bound 25 late 15\nloop 2 slack 0 bound 110 late 20\ncounted 2\n";
     }
     ∷ record { loops = loop 10 9 10 ∷ loop 10 11 10 ∷ loop 100 20 90 ∷ []; text = "refused 7 at 1\n" }
     ∷ []
 
 pub prints : Shown → Bool
-prints s = sameList (printed (tableWith (s .loops) [])) (words (s .text))
+prints s = sameList (printed (tableWith 2 (s .loops) [])) (words (s .text))
 
 pub printAll : List Shown → Bool
 printAll [] = true
 printAll (s ∷ l) = prints s && printAll l
 
 pub worked : T (agreeAll cases && printAll texts)
-unfolding cases concat tableWith sameAnswer sameList agrees agreeAll first sum sumOver tab cut place ranked largest lcm lcmBelow hyperperiod share weight surplus counted amount cover covers needed row raise same settle found bound noTask lowest firstMet outside badLabel test3 test4 test5 test6 test7 test8 test9 test10 test11 test12 test13 tests byte number digits coreCount taskCount tasksAt slackCount slackAt taskIn taskSetIn contentIn test1 test2 verdict taskBytes logOf sameReport sameBy entryCount entryIn entriesIn test14 test15 logTest opened joinTests admitTests joined admitted waiting point before chosen runs served advanced tick asked demanded namedTicks largestTick back until calls outcome owed allOwed rest whole answerOf handedOf quietOf finishTick report member texts prints printAll late printed planText countsLine taskLine refusalLine pairLine lineOf words said decimal digitsIn entries
+unfolding cases concat tableWith sameAnswer sameList agrees agreeAll first sum sumOver tab cut place ranked largest lcm lcmBelow hyperperiod share weight surplus counted amount cover covers needed row raise same settle found bound noTask lowest firstMet outside badLabel test3 test4 test5 test6 test7 test8 test9 test10 test11 test12 test13 tests byte number digits coreCount taskCount tasksAt slackCount slackAt taskIn taskSetIn contentIn test1 test2 verdict taskBytes logOf sameReport sameBy entryCount entryIn entriesIn test14 test15 logTest opened joinTests admitTests joined admitted waiting point before chosen runs served advanced tick asked demanded namedTicks largestTick back until calls outcome owed allOwed rest whole answerOf handedOf quietOf finishTick report member texts prints printAll late countedOf countedIn printed planText planLines countedLine countsLine taskLine refusalLine pairLine lineOf words said decimal digitsIn entries
 worked = tt
 
 -- ---- the same of the delivered engine
@@ -200,13 +260,14 @@ unfolding sameAnswer
 accepts Accepted t = refl
 accepts (Refused k i) t = absurd t
 
--- the first, the fourth and the last of five
-three : (a b c d e : Bool) → T (a && b && c && d && e) → T a × T d × T e
-three true true true true e t = (tt, tt, t)
-three true true true false e t = absurd t
-three true true false d e t = absurd t
-three true false c d e t = absurd t
-three false b c d e t = absurd t
+-- the first, the fifth and the last of six
+three : (a b c d e f : Bool) → T (a && b && c && d && e && f) → T a × T e × T f
+three true true true true true f t = (tt, tt, t)
+three true true true true false f t = absurd t
+three true true true false e f t = absurd t
+three true true false d e f t = absurd t
+three true false c d e f t = absurd t
+three false b c d e f t = absurd t
 
 delivered : (c : Case) → T (agrees c) → T (runAgrees c)
 unfolding agrees runAgrees
@@ -220,6 +281,7 @@ delivered c t = go (c .answer) (all .0)
         (sameAnswer (verdict (tableOf c)) (c .answer))
         (sameList (tab (contentIn (tableOf c) .slack) (length (c .slack))) (c .slack))
         (sameList (tab (bound (contentIn (tableOf c) .tasks) (contentIn (tableOf c) .slack)) (length (c .bounds))) (c .bounds))
+        (sameList (countedIn (tableOf c)) (c .names))
         (sameAnswer (logTest (logOf c)) Accepted)
         (sameReports (machineEngine (contentIn (tableOf c) .tasks)) (entriesIn (logOf c)) 0 (c .reports))
         t

@@ -1,6 +1,6 @@
 //! Times the proved judgement against the plain one written for speed, on tight tables without
-//! slack, and prints tables per second and the ratio of their times. Both judge the same tables,
-//! each into one buffer that is not cleared between calls.
+//! slack, and prints tables per second and the ratio of their times. Both name the counted tasks.
+//! Both judge the same tables, each into one buffer that is not cleared between calls.
 
 use std::hint::black_box;
 

@@ -2,7 +2,7 @@
 
 use crate::counts::Counts;
 use crate::tables::Answer;
-use reference::{Analysis, Refusal, Table};
+use reference::{Analysis, Refusal, Table, judge};
 
 /// How many tables met each refusal number, how many were accepted, and how many of either lay at
 /// an edge, by a name that says which.
@@ -57,6 +57,36 @@ impl TableTally {
         self.count_load(&analysis, answer);
         self.count_buffer(&table, answer, buffer);
         self.count_slack(&table, &analysis, answer);
+    }
+
+    /// Counts a table's bytes by the answer of the call that names, and the buffer after it.
+    pub(crate) fn count_names(&mut self, bytes: &[u8], answer: Answer, buffer: &[u8]) {
+        let count = match answer {
+            Ok(count) => count,
+            Err(Refusal { number, .. }) => {
+                let table = Table::read(bytes);
+                let short = table.is_ok_and(|t| number == 24 && buffer.len() + 2 == t.labels.len());
+                self.named.count_if(short, "names refused 24, buffer one byte short");
+                return;
+            }
+        };
+        self.named.count("named");
+        self.named.count_if(buffer.len() == count, "named, buffer exactly long enough");
+        self.named.count_if(buffer.len() > count, "named, buffer longer");
+        let plan = judge(bytes).expect("the table is accepted");
+        let analysis = Analysis::new(plan.labels.len(), &plan.tasks).expect("9 is passed");
+        let slack: Vec<u128> = plan.slack.iter().map(|&x| u128::from(x)).collect();
+        let names: Vec<usize> = buffer[..count].iter().map(|&k| usize::from(k)).collect();
+        let weight = |k: usize| analysis.weight(k, &slack);
+        let left_out = |k: &usize| !names.contains(k);
+        let tie = (0..slack.len()).filter(left_out).any(|k| weight(k) == weight(names[count - 1]));
+        self.named.count_if(tie, "named, equal weights at the edge");
+        let equal = names.windows(2).any(|pair| weight(pair[0]) == weight(pair[1]));
+        self.named.count_if(equal, "named, equal weights among the names");
+        let zeros = vec![0; slack.len()];
+        self.named.count_if(analysis.counted(&zeros) != names, "named, others than at zeros");
+        let others = plan.offered && analysis.counted(&analysis.found()) != names;
+        self.named.count_if(others, "named, offered, others than at the found slack");
     }
 
     fn count_load(&mut self, analysis: &Analysis, answer: Answer) {

@@ -1,5 +1,5 @@
-//! The proved judgement against the reference on hundreds of thousands of tables, the same ones on
-//! every run.
+//! The proved judgement and its names against the reference on hundreds of thousands of tables, the
+//! same ones on every run.
 
 use comparison::{TableTally, compare_table};
 use samples::{
@@ -26,7 +26,7 @@ const FAMILIES: [Family; 9] = [
 const REFUSED_AT_LEAST: u64 = 2_000;
 
 /// How often each of these is met, at least.
-const AT_LEAST: [(u64, &str); 21] = [
+const AT_LEAST: [(u64, &str); 29] = [
     (50_000, "accepted, found"),
     (10_000, "accepted, offered"),
     (5_000, "accepted, H from 990,000"),
@@ -48,6 +48,14 @@ const AT_LEAST: [(u64, &str); 21] = [
     (20_000, "accepted, buffer longer"),
     (2_000, "refused 24, buffer empty"),
     (5_000, "refused 24, buffer one byte short"),
+    (100_000, "named"),
+    (20_000, "named, buffer exactly long enough"),
+    (20_000, "named, buffer longer"),
+    (5_000, "names refused 24, buffer one byte short"),
+    (2_000, "named, equal weights at the edge"),
+    (2_000, "named, equal weights among the names"),
+    (5_000, "named, others than at zeros"),
+    (1_000, "named, offered, others than at the found slack"),
 ];
 
 fn any_overfull(random: &mut Random) -> Vec<u8> {

@@ -57,11 +57,12 @@ fn p1(second_budget: u32) -> Vec<u8> {
 }
 
 #[test]
-fn the_texts_of_document_01() {
+fn the_texts_of_the_documents() {
     let p1_text = "cores 2 loops 3\n\
         loop 0 slack 6 bound 25 late 15\n\
         loop 1 slack 6 bound 25 late 15\n\
-        loop 2 slack 0 bound 110 late 20\n";
+        loop 2 slack 0 bound 110 late 20\n\
+        counted 2\n";
     assert_eq!(printed(&p1(9)), p1_text);
     assert_eq!(printed(&p1(11)), "refused 7 at 1\n");
 }

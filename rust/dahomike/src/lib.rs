@@ -16,6 +16,13 @@ mod ffi {
             out_len: usize,
         ) -> u64;
 
+        pub fn dahomike_counted(
+            table: *const u8,
+            table_len: usize,
+            out: *mut u8,
+            out_len: usize,
+        ) -> u64;
+
         pub fn dahomike_run_log(
             table: *const u8,
             table_len: usize,
@@ -36,6 +43,17 @@ pub fn judge(table: &[u8], out: &mut [u8]) -> Result<usize, Refusal> {
     // mutably, overlaps no other borrow.
     let answer =
         unsafe { ffi::dahomike_judge(table.as_ptr(), table.len(), out.as_mut_ptr(), out.len()) };
+    decode(answer).map(|tasks| tasks as usize)
+}
+
+/// Names the tasks that a judgement counted: those of the m − 1 largest weights at its slack. Where
+/// the table is accepted, they stand in `out`, largest weight first, equal weights by lower task, a
+/// byte each, later bytes of `out` stay, and their number m − 1 comes back. Where it is refused,
+/// `out` stays as it is.
+pub fn counted(table: &[u8], out: &mut [u8]) -> Result<usize, Refusal> {
+    // SAFETY: as in `judge`.
+    let answer =
+        unsafe { ffi::dahomike_counted(table.as_ptr(), table.len(), out.as_mut_ptr(), out.len()) };
     decode(answer).map(|tasks| tasks as usize)
 }
 

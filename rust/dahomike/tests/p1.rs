@@ -1,6 +1,6 @@
 //! The wrapper on P1 of document 01.
 
-use dahomike::{Refusal, judge};
+use dahomike::{Refusal, counted, judge};
 
 /// P1 with labels 0 and 1: (T, C, Y) = (10, 9, 10), (10, 9, 10), (100, 20, 90), no slack.
 const P1: [u8; 42] = [
@@ -33,4 +33,23 @@ fn a_refusal_gives_number_and_index_and_writes_nothing() {
     assert_eq!(judge(&[], &mut out), Err(Refusal { number: 1, index: 0 }));
     assert_eq!(judge(&P1, &mut []), Err(Refusal { number: 24, index: 0 }));
     assert_eq!(out, [0xee; 24]);
+}
+
+#[test]
+fn the_counted_task_is_named_and_later_bytes_stay() {
+    let mut out = [0xee; 3];
+    assert_eq!(counted(&P1, &mut out), Ok(1));
+    assert_eq!(out, [2, 0xee, 0xee]);
+}
+
+#[test]
+fn a_refusal_names_nobody() {
+    let mut out = [0xee; 3];
+    let mut table = P1;
+    table[9 + 12] = 11; // the second budget is above its separation
+    assert_eq!(counted(&table, &mut out), Err(Refusal { number: 7, index: 1 }));
+    assert_eq!(counted(&table, &mut []), Err(Refusal { number: 7, index: 1 }));
+    assert_eq!(counted(&P1, &mut []), Err(Refusal { number: 24, index: 0 }));
+    assert_eq!(counted(&[], &mut out), Err(Refusal { number: 1, index: 0 }));
+    assert_eq!(out, [0xee; 3]);
 }

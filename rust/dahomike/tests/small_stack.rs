@@ -1,9 +1,9 @@
-//! Both C calls on the largest table and the longest log in a thread with a stack of 64 KiB. A call
+//! The C calls on the largest table and the longest log in a thread with a stack of 64 KiB. A call
 //! that needs more ends the whole test program.
 
 use std::thread::Builder;
 
-use dahomike::{judge, run_log};
+use dahomike::{counted, judge, run_log};
 
 const STACK: usize = 64 * 1024;
 
@@ -33,18 +33,23 @@ fn log() -> Vec<u8> {
 }
 
 #[test]
-fn both_calls_on_a_stack_of_64_kib() {
+fn every_call_on_a_stack_of_64_kib() {
     let (table, log) = (table(), log());
     let mut plan = vec![0xee; 8 * 16];
+    let mut names = vec![0xee; 8];
     let mut answer = vec![0xee; 8 * ENTRIES as usize];
     let calls = move || {
         let judged = judge(&table, &mut plan);
+        let named = counted(&table, &mut names);
         let run = run_log(&table, &log, &mut answer);
-        (judged, run, plan, answer)
+        (judged, named, run, plan, names, answer)
     };
     let thread = Builder::new().stack_size(STACK).spawn(calls).expect("the thread starts");
-    let (judged, run, plan, answer) = thread.join().expect("the calls come back");
+    let (judged, named, run, plan, names, answer) = thread.join().expect("the calls come back");
     assert_eq!(judged, Ok(16));
+    // All weights are equal: the lowest seven of the sixteen are counted.
+    assert_eq!(named, Ok(7));
+    assert_eq!(names, [0, 1, 2, 3, 4, 5, 6, 0xee]);
     assert_eq!(run, Ok((ENTRIES as usize, 0)));
     assert_eq!(plan[..8], [11, 0, 0, 0, 35, 0, 0, 0]);
     // No task ever waits: the eight released last run.

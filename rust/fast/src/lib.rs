@@ -15,21 +15,37 @@ mod table;
 pub use engine::{release, step, tick};
 pub use log::{run_log, run_log_by_ticks};
 
+use std::hint::black_box;
+
 use records::{Refusal, Tasks};
-use slack::Rates;
+use slack::{Names, Rates};
 use table::{Sections, TASKS, read_tasks};
 
-/// Judges a table and writes slack and bound of each task to `out`, as the C judgement does.
+/// Judges a table and writes slack and bound of each task to `out`, as the C judgement does. The
+/// judgement names the counted tasks too, and they are not worked out in vain: it is timed.
 pub fn judge(table: &[u8], out: &mut [u8]) -> Result<usize, Refusal> {
     let judged = Judged::of(table)?;
+    black_box(&judged.names);
     write(&judged, out)
 }
 
-/// An accepted table, with its slack and bounds worked out.
+/// Judges a table and writes the names of the counted tasks to `out`, as the C function does.
+pub fn counted(table: &[u8], out: &mut [u8]) -> Result<usize, Refusal> {
+    let judged = Judged::of(table)?;
+    let count = judged.cores - 1;
+    let Some(out) = out.get_mut(..count) else {
+        return refuse(24, 0);
+    };
+    out.copy_from_slice(&judged.names[..count]);
+    Ok(count)
+}
+
+/// An accepted table, with its slack and bounds worked out and its tasks named.
 struct Judged {
     cores: usize,
     tasks: Tasks,
     slack: [u32; TASKS],
+    names: Names,
     bound: [u64; TASKS],
 }
 
@@ -40,14 +56,18 @@ impl Judged {
         let cores = sections.cores()?;
         let tasks = read_tasks(sections.tasks, cores)?;
         let rates = Rates::of(&tasks, cores)?;
-        let slack = slack(&rates, &tasks, sections.slack)?;
+        let (slack, names) = slack(&rates, &tasks, sections.slack)?;
         let bound = bounds(&tasks, &slack)?;
-        Ok(Judged { cores, tasks, slack, bound })
+        Ok(Judged { cores, tasks, slack, names, bound })
     }
 }
 
-/// The slack, found or offered: 11 and 12.
-fn slack(rates: &Rates, tasks: &Tasks, offer: &[[u8; 4]]) -> Result<[u32; TASKS], Refusal> {
+/// The slack, found or offered, and the tasks counted at it: 11 and 12.
+fn slack(
+    rates: &Rates,
+    tasks: &Tasks,
+    offer: &[[u8; 4]],
+) -> Result<([u32; TASKS], Names), Refusal> {
     if offer.is_empty() {
         return Ok(rates.search());
     }
@@ -58,9 +78,9 @@ fn slack(rates: &Rates, tasks: &Tasks, offer: &[[u8; 4]]) -> Result<[u32; TASKS]
     for (x, entry) in slack.iter_mut().zip(offer) {
         *x = u32::from_le_bytes(*entry);
     }
-    match rates.lowest_failing(&slack) {
-        Some(k) => refuse(12, k),
-        None => Ok(slack),
+    match rates.test(&slack) {
+        Err(k) => refuse(12, k),
+        Ok(names) => Ok((slack, names)),
     }
 }
 

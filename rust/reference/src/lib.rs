@@ -1,8 +1,8 @@
 //! The judgement of a show table, the engine's release and step, and the log run, written from
-//! document 01 alone, in its order and with its words beside each step. They are what the proved
-//! code is compared with, so they are plain before they are quick: the judgement's numbers are 128
-//! bits wide, the log run goes tick by tick on a machine of its own, and nothing is worked out in a
-//! shorter way than the document says it.
+//! documents 01 and 02 alone, in their order and with their words beside each step. They are what
+//! the proved code is compared with, so they are plain before they are quick: the judgement's
+//! numbers are 128 bits wide, the log run goes tick by tick on a machine of its own, and nothing is
+//! worked out in a shorter way than the documents say it.
 
 #![forbid(unsafe_code)]
 
@@ -20,7 +20,7 @@ pub use records::{IDLE, Refusal, Report, State, Task, Tasks};
 pub use engine::{Released, Stepped, chosen, points, release, step};
 pub use log::{Entry, Log};
 pub use log_run::{Outcome, outcomes, run_log};
-pub use plan::{Plan, judge, judge_into, write};
+pub use plan::{Plan, counted_into, judge, judge_into, write};
 pub use slack::Analysis;
 pub use state::{Clause, Job, LAST_TICK, MOST_JOBS, broken, known, open, queue, set_queue};
 pub use table::Table;

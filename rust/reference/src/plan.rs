@@ -1,5 +1,6 @@
 //! Refusals 3 to 13 and 24, each tested over all entries before the next, and what an accepted
-//! table gives: a plan, its bytes, and the slack and bound that the C judgement writes.
+//! table gives: a plan, its bytes, the slack and bound that the C judgement writes, and the loops
+//! that were counted.
 
 use crate::slack::wide;
 use crate::{Analysis, Table};
@@ -19,6 +20,14 @@ impl Plan {
     /// "The *bound* of a loop is Y + x + C, counted from release."
     pub fn bound(&self, k: usize) -> u128 {
         wide(self.tasks[k].offset) + self.late(k)
+    }
+
+    /// "A judgement hands the names back beside the plan, by the weights at its slack, offered or
+    /// found alike".
+    pub fn counted(&self) -> Vec<usize> {
+        let slack: Vec<u128> = self.slack.iter().map(|&x| wide(x)).collect();
+        let analysis = Analysis::new(self.labels.len(), &self.tasks);
+        analysis.expect("9 is passed").counted(&slack)
     }
 
     /// "*Late* is x + C, counted from the priority point".
@@ -53,6 +62,19 @@ pub fn judge_into(bytes: &[u8], out: &mut [u8]) -> Result<usize, Refusal> {
         out[8 * k + 4..8 * k + 8].copy_from_slice(&bound.to_le_bytes());
     }
     Ok(tasks)
+}
+
+/// The names of the loops that a judgement counted, one byte each, in a lent buffer; bytes beyond
+/// stay. It answers how many, and on a refusal "nothing lent is written".
+pub fn counted_into(bytes: &[u8], out: &mut [u8]) -> Result<usize, Refusal> {
+    let counted = judge(bytes)?.counted();
+    if out.len() < counted.len() {
+        return Err(Refusal::whole(24));
+    }
+    for (place, &k) in out.iter_mut().zip(&counted) {
+        *place = u8::try_from(k).expect("there are at most 16 loops");
+    }
+    Ok(counted.len())
 }
 
 /// The bytes of a plan: "The writer writes found slack as count 0".

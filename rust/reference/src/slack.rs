@@ -1,4 +1,6 @@
-//! Document 01's part "Compliant slack".
+//! Document 01's part "Compliant slack", and the names of document 02, §1.
+
+use std::cmp::Reverse;
 
 use records::Task;
 
@@ -33,7 +35,7 @@ impl<'a> Analysis<'a> {
     }
 
     /// "weight of loop i = share × (x + Y)".
-    fn weight(&self, i: usize, slack: &[u128]) -> u128 {
+    pub fn weight(&self, i: usize, slack: &[u128]) -> u128 {
         self.shares[i] * (slack[i] + wide(self.tasks[i].offset))
     }
 
@@ -41,6 +43,14 @@ impl<'a> Analysis<'a> {
     fn surplus(&self, i: usize) -> u128 {
         let task = &self.tasks[i];
         self.shares[i] * (wide(task.separation) - wide(task.offset))
+    }
+
+    /// The loops of the m − 1 largest weights, "largest first, equal weights by lower loop".
+    pub fn counted(&self, slack: &[u128]) -> Vec<usize> {
+        let mut loops: Vec<usize> = self.every_task().collect();
+        loops.sort_by_key(|&i| (Reverse(self.weight(i, slack)), i));
+        loops.truncate(self.cores as usize - 1);
+        loops
     }
 
     /// "A = the sum of the m − 1 largest weights, plus all n surpluses".

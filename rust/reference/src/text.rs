@@ -1,10 +1,12 @@
-//! What the program `plan` prints for a table's bytes: document 01, the end of "Worked tables".
+//! What the program `plan` prints for a table's bytes: document 01, the end of "Worked tables",
+//! and document 02, §1.
 
 use crate::judge;
 use std::fmt::Write;
 
 /// "The first line has m and n, the others index, x, bound and late. A refusal prints one line:
-/// `refused 7 at 1`, number and index."
+/// `refused 7 at 1`, number and index." "For an accepted table `plan` prints one more last line,
+/// `counted` and the loops, a space before each".
 pub fn text(bytes: &[u8]) -> String {
     let plan = match judge(bytes) {
         Err(refusal) => return format!("refused {} at {}\n", refusal.number, refusal.index),
@@ -16,5 +18,6 @@ pub fn text(bytes: &[u8]) -> String {
         writeln!(text, "loop {k} slack {slack} bound {bound} late {late}")
             .expect("a String takes every line");
     }
-    text
+    let counted: String = plan.counted().iter().map(|k| format!(" {k}")).collect();
+    text + "counted" + &counted + "\n"
 }

@@ -1,6 +1,6 @@
-//! The worked tables P1 to P9 of document 01.
+//! The worked tables P1 to P9 of document 01, with the loops that document 02, §1, has them count.
 
-use reference::{Plan, Refusal, Table, Task, judge, judge_into, write};
+use reference::{Plan, Refusal, Table, Task, counted_into, judge, judge_into, write};
 
 /// A table of two cores, labels 0 and 1, with tasks as (T, C, Y); an empty offer is count 0.
 fn table(tasks: &[(u32, u32, u32)], slack: &[u32]) -> Vec<u8> {
@@ -90,4 +90,33 @@ fn p9_on_both_sides_of_the_largest_hyperperiod() {
     let tasks = |second| [(1000, 1, 0), (second, 1, 0), (1, 1, 0)];
     assert_eq!(refused(&table(&tasks(1001), &[])), Refusal { number: 9, index: 0 });
     accepted(&table(&tasks(999), &[]));
+}
+
+/// The counted loops of an accepted table.
+fn counted(bytes: &[u8]) -> Vec<usize> {
+    judge(bytes).expect("the table is accepted").counted()
+}
+
+#[test]
+fn the_counted_loops() {
+    assert_eq!(counted(&table(&P1, &[])), [2]);
+    assert_eq!(counted(&table(&[(10, 9, 5), P1[1], P1[2]], &[])), [2]);
+    assert_eq!(counted(&table(&P1, &[6, 6, 1])), [2]);
+    assert_eq!(counted(&table(&[(1000, 1, 0), (999, 1, 0), (1, 1, 1)], &[])), [2]);
+    // Equal weights: 3 × 4 of the first two loops of P3, 29 × 100 of the last two of P8.
+    assert_eq!(counted(&table(&P3, &[])), [0]);
+    assert_eq!(counted(&table(&[(1, 1, 1), (100, 29, 100), (100, 29, 100)], &[])), [1]);
+    // At zeros the first loop has the largest weight, at the found slack (1, 1, 1) the third.
+    let rising = [(6, 1, 4), (3, 1, 0), (2, 1, 1)];
+    assert_eq!(counted(&table(&rising, &[])), [2]);
+    assert_eq!(counted(&table(&rising, &[3, 1, 1])), [0]);
+}
+
+#[test]
+fn the_names_of_p1_in_a_lent_buffer() {
+    let mut out = [0xaa; 3];
+    assert_eq!(counted_into(&table(&P1, &[]), &mut out), Ok(1));
+    assert_eq!(out, [2, 0xaa, 0xaa]);
+    assert_eq!(counted_into(&table(&P1, &[]), &mut []), Err(Refusal::whole(24)));
+    assert_eq!(counted_into(&table(&P1, &[5, 6, 0]), &mut []), Err(Refusal::at(12, 0)));
 }

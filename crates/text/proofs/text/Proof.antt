@@ -1,6 +1,5 @@
 -- `text::text` meets its contract: by the judgement's answer, the plan's lines with the last one behind them, or the refusal's.
-use mathlib.Core.Path.{_≡_, _∙_}
-use native.Mathlib.Nat.{zero-add}
+use mathlib.Core.Path.{_≡_}
 use native.Mathlib.Omega.{arith}
 use lib.ListN.{length}
 use borrow.Author.Needs.{needs}

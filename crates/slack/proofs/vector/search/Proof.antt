@@ -134,7 +134,7 @@ returns c =
     let done = sym (not-true _ (c .if1 .taken)) ∙ v .1 in
     record {
       places = turn-over k (l .slack) _ _ e refl (l .inv .3 t k) _ _ q r _ (v .0) done (l .inv .1);
-      named =
+      counts =
           rw (k .cores) at (a .names ∙ counted-row k (l .slack)) ∙ turn-counted k (l .slack) _ _ e refl (l .inv .3 t k) _ _ q r _ (v .0) done;
     }
 

@@ -1,5 +1,5 @@
 -- `table::verdict::judge_plan` meets its contract.
-use Prim.Native.Nat.{ℕ, _-_, _≤_, _<_}
+use Prim.Native.Nat.{ℕ, _-_, _≤_}
 use mathlib.Core.Path.{_≡_, sym, _∙_, ap}
 use mathlib.Core.List.{List}
 use native.Mathlib.Omega.{arith}
@@ -55,7 +55,7 @@ module _ (p : Plan) (k : ℕ) (t : Tested) (g : PlanTested p k t) where
 
     names-are : (i : ℕ) → cut (p .cores - 1) (row (t .names)) 0 i ≡ row (judgedNames p k) i
     unfolding row judgedNames offering contentOf
-    names-are i = sym (getD-first (p .cores - 1) (t .names) i 0) ∙ ap (λ (l : List ℕ). getD l i 0) (g .had e .named)
+    names-are i = sym (getD-first (p .cores - 1) (t .names) i 0) ∙ ap (λ (l : List ℕ). getD l i 0) (g .had e .counts)
 
     accepted :
         (b : Answer) → b ≡ boundsOf p (t .slack) → b ≡ Accepted → (l : List ℕ) → l ≡ tab (cut (p .cores - 1) (row (t .names)) 0) 8
