@@ -1,5 +1,5 @@
 -- Laws of the names that a judgement hands back.
---     names-are       the loops that it names are m − 1 where the table is accepted; names-few: never more than seven
+--     names-are       where the table is accepted, they are the loops counted at its slack; names-length: m − 1; names-few: never more than seven
 --     names-count     how many it says
 --     names-first     the first so many of its places have them; names-low: each is below 16
 use Prim.Native.Nat.{ℕ, _-_, _≤_, _<_}

@@ -23,7 +23,7 @@ use Rattle.laws.specs.SumLaws.{sumIn}
 use Rattle.laws.specs.Member.{member, Distinct}
 use Rattle.laws.specs.RankLaws.{sorted-at}
 use Rattle.laws.specs.SortedLaws.{Leading, sorted-by-places}
-use Rattle.laws.specs.LargestLaws.{heavier, ahead-heavier, heavier-ahead, largest-sorted, largest-ahead, largest-only, largest-below, largest-distinct, largest-length, largest-count-le, largest-ext, largest-is-sumIn, largest-best, largest-mono, largest-le-mul}
+use Rattle.laws.specs.LargestLaws.{heavier, Precedes, ahead-precedes, precedes-ahead, largest-sorted, largest-ahead, largest-only, largest-below, largest-distinct, largest-length, largest-count-le, largest-ext, largest-is-sumIn, largest-best, largest-mono, largest-le-mul}
 use Rattle.tasks.specs.TaskSet.{TaskSet, weight, surplus, counted, amount, row}
 use Rattle.tasks.specs.Limits.{Limits}
 use Rattle.tasks.specs.ShareLaws.{weight-mono, weight-high, surpluses-high}
@@ -50,31 +50,28 @@ module _ (s : TaskSet) where
   counted-ext x y same = largest-ext _ (weight s x) (weight s y) (s .count) (λ i h. rw (same i h))
 
   pub counted-ahead :
-      (x : ℕ → ℕ) (i j : ℕ) → member i (counted s x) ≡ true → j < s .count → member j (counted s x) ≡ false
-      → (weight s x j ≤ weight s x i) × (weight s x j ≡ weight s x i → i < j)
+      (x : ℕ → ℕ) (i j : ℕ) → member i (counted s x) ≡ true → j < s .count → member j (counted s x) ≡ false → Precedes (weight s x) i j
   unfolding counted Leading
   counted-ahead x i j m h f =
-      ahead-heavier (weight s x) i j (largest-ahead (s .cores - 1) (weight s x) (s .count) i j (largest-below _ (weight s x) (s .count) i m) h m f)
+      ahead-precedes (weight s x) i j (largest-ahead (s .cores - 1) (weight s x) (s .count) i j (largest-below _ (weight s x) (s .count) i m) h m f)
 
   pub counted-order :
-      (x : ℕ → ℕ) (a b : ℕ) → a < b → b < length (counted s x)
-      → (weight s x (row (counted s x) b) ≤ weight s x (row (counted s x) a))
-      × (weight s x (row (counted s x) b) ≡ weight s x (row (counted s x) a) → row (counted s x) a < row (counted s x) b)
+      (x : ℕ → ℕ) (a b : ℕ) → a < b → b < length (counted s x) → Precedes (weight s x) (row (counted s x) a) (row (counted s x) b)
   unfolding counted row
   counted-order x a b l h =
-      ahead-heavier (weight s x) _ _
+      ahead-precedes (weight s x) _ _
       (sorted-at (heavier (weight s x)) _ (largest-sorted (s .cores - 1) (weight s x) (s .count)) a b 0 l h)
 
   pub counted-only :
       (x : ℕ → ℕ) (l : List ℕ) → s .cores < s .count → length l ≡ s .cores - 1 → ((i : ℕ) → member i l ≡ true → i < s .count)
-      → ((a b : ℕ) → a < b → b < length l → (weight s x (row l b) ≤ weight s x (row l a)) × (weight s x (row l b) ≡ weight s x (row l a) → row l a < row l b))
-      → ((i j : ℕ) → member i l ≡ true → j < s .count → member j l ≡ false → (weight s x j ≤ weight s x i) × (weight s x j ≡ weight s x i → i < j))
+      → ((a b : ℕ) → a < b → b < length l → Precedes (weight s x) (row l a) (row l b))
+      → ((i j : ℕ) → member i l ≡ true → j < s .count → member j l ≡ false → Precedes (weight s x) i j)
       → l ≡ counted s x
   unfolding counted row Leading
   counted-only x l more many below order left =
       largest-only (s .cores - 1) (weight s x) (s .count) l (omega arith) below
-      (sorted-by-places (heavier (weight s x)) l (λ a b p q. let o = order a b p q in heavier-ahead (weight s x) _ _ (o .0) (o .1)))
-      (λ i j hi hj m f. let o = left i j m hj f in heavier-ahead (weight s x) i j (o .0) (o .1))
+      (sorted-by-places (heavier (weight s x)) l (λ a b p q. precedes-ahead (weight s x) _ _ (order a b p q)))
+      (λ i j hi hj m f. precedes-ahead (weight s x) i j (left i j m hj f))
 
   pub counted-best :
       (x : ℕ → ℕ) (p : ℕ → Bool) → count p (s .count) ≤ s .cores - 1
