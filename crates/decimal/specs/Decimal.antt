@@ -2,17 +2,18 @@
 --     words       the ASCII bytes of a quoted text
 --     decimal v   the ASCII digits of v, the highest first, without leading zeros; 0 is the one digit 0
 --     said w v    words and the number after them
+--     digit b     whether a byte is a digit
 --     value l     the number that a row of digits stands for
 --     Stored      what a call leaves that stores text in a lent buffer
 use Prim.Native.Nat.{ℕ, zero, suc, _+_, _-_, _*_, _/_, _%_}
 use Prim.Native.Char.{code}
 use Prim.Native.String.{String, [] as empty, _∷_ as _then_}
 use mathlib.Core.Path.{_≡_}
-use mathlib.Core.Bool.{Bool, true, false}
+use mathlib.Core.Bool.{Bool, true, false, _&&_}
 use mathlib.Core.List.{List, [], _∷_, _++_}
 use lib.ListN.{length}
 use lib.Seq.{sets}
-use lib.Dec.{ltb}
+use lib.Dec.{ltb, leb}
 
 unfoldable pub words : String → List ℕ
 words empty = []
@@ -34,6 +35,9 @@ decimal v = digitsIn (suc v) v
 
 unfoldable pub said : List ℕ → ℕ → List ℕ
 said w v = w ++ decimal v
+
+unfoldable pub digit : ℕ → Bool
+digit b = leb 48 b && leb b 57
 
 -- the number that begins as a, read on
 unfoldable pub readOn : ℕ → List ℕ → ℕ

@@ -13,3 +13,5 @@ pub mod RankLaws
 pub mod SortedLaws
 pub mod LargestLaws
 pub mod SetsLaws
+pub mod Every
+pub mod EveryLaws

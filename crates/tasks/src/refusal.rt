@@ -1,4 +1,4 @@
-// Document 01's refusal numbers, by what is wrong.
+// The refusal numbers of documents 01 and 02, by what is wrong.
 pub const EDITION_UNKNOWN: u8 = 1;
 
 pub const LENGTH_WRONG: u8 = 2;
@@ -46,3 +46,5 @@ pub const RELEASE_TOO_SOON: u8 = 22;
 pub const NO_PLACE_FREE: u8 = 23;
 
 pub const BUFFER_TOO_SHORT: u8 = 24;
+
+pub const SENTENCE_BUFFER_TOO_SHORT: u8 = 25;

@@ -1,6 +1,7 @@
 //! Memory around what a call is lent, so that a byte read or written out of place shows.
 
 use samples::Random;
+use std::fmt::Debug;
 
 /// The bytes kept before and after a lent part.
 const MARGIN: usize = 16;
@@ -41,7 +42,7 @@ impl Lent {
 }
 
 /// The same length of buffer, and the same bytes in it and around it.
-pub fn same_bytes(name: &str, lent: &Lent, expected: &Lent, input: &[&[u8]]) {
+pub fn same_bytes(name: &str, lent: &Lent, expected: &Lent, input: &dyn Debug) {
     if lent != expected {
         let differs = |&at: &usize| lent.bytes[at] != expected.bytes[at];
         let at = (0..lent.bytes.len()).find(differs).expect("some byte differs");

@@ -1,6 +1,7 @@
 //! Compares the proved code, and the plain code written for speed, with the reference: of a
-//! judgement and a log run the answer and every byte of the lent buffer and around it, of a release
-//! or a step the answer and every field that it hands back. A log run is held to demand 3 as well.
+//! judgement, a log run and a sentence the answer and every byte of the lent buffer and around it,
+//! of a release or a step the answer and every field that it hands back. A log run is held to
+//! demand 3 as well, and a sentence to what document 02 says of it.
 
 #![forbid(unsafe_code)]
 
@@ -12,6 +13,8 @@ mod lent;
 mod log_families;
 mod log_tally;
 mod logs;
+mod sentence_tally;
+mod sentences;
 mod table_tally;
 mod tables;
 
@@ -20,5 +23,7 @@ pub use engine_tally::EngineTally;
 pub use log_families::{FAR, Family, NEAR, compare_logs};
 pub use log_tally::LogTally;
 pub use logs::{LogAnswer, LogForm, Logs};
+pub use sentence_tally::SentenceTally;
+pub use sentences::{compare_lent, compare_lent_at, compare_sentences};
 pub use table_tally::TableTally;
 pub use tables::compare_table;

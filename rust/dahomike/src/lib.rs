@@ -1,5 +1,5 @@
 //! The safe Rust side of the proved library: each C function that the desktop planner calls, as a
-//! function over slices that answers a `Result`.
+//! function over slices that answers a `Result`; and the sentence of a refusal as a `String` too.
 
 pub use records::Refusal;
 
@@ -28,6 +28,14 @@ mod ffi {
             table_len: usize,
             log: *const u8,
             log_len: usize,
+            out: *mut u8,
+            out_len: usize,
+        ) -> u64;
+
+        pub fn dahomike_sentence(
+            number: u32,
+            index: u32,
+            value: u64,
             out: *mut u8,
             out_len: usize,
         ) -> u64;
@@ -75,6 +83,32 @@ pub fn run_log(table: &[u8], log: &[u8], out: &mut [u8]) -> Result<(usize, usize
         )
     };
     decode(answer).map(counts)
+}
+
+/// No sentence is longer, in bytes: a caller who lends so many is never refused.
+pub const LONGEST_SENTENCE: usize = 256;
+
+/// Tells a refusal as one English sentence, with its number, its index and the value found there, 0
+/// where none is meant. The sentence stands in `out`, in ASCII, later bytes of `out` stay, and its
+/// length comes back. Where `out` is too short, 25 comes back and `out` stays as it is.
+pub fn sentence_into(
+    number: u32,
+    index: u32,
+    value: u64,
+    out: &mut [u8],
+) -> Result<usize, Refusal> {
+    // SAFETY: as in `judge`, with one slice: it is not null.
+    let answer =
+        unsafe { ffi::dahomike_sentence(number, index, value, out.as_mut_ptr(), out.len()) };
+    decode(answer).map(|length| length as usize)
+}
+
+/// The same sentence as a text of its own.
+pub fn sentence(number: u32, index: u32, value: u64) -> String {
+    let mut text = vec![0; LONGEST_SENTENCE];
+    let length = sentence_into(number, index, value, &mut text).expect("no sentence is longer");
+    text.truncate(length);
+    String::from_utf8(text).expect("a sentence is ASCII")
 }
 
 /// How many entries were taken and how many refused, of taken + 65,536 × refused.

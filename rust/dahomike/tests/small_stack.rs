@@ -1,13 +1,18 @@
-//! The C calls on the largest table and the longest log in a thread with a stack of 64 KiB. A call
-//! that needs more ends the whole test program.
+//! The C calls on the largest table, the longest log and the longest sentence in a thread with a
+//! stack of 64 KiB. A call that needs more ends the whole test program.
 
 use std::thread::Builder;
 
-use dahomike::{counted, judge, run_log};
+use dahomike::{counted, judge, run_log, sentence_into};
 
 const STACK: usize = 64 * 1024;
 
 const ENTRIES: u32 = 65_535;
+
+/// The longest sentence, of the largest index and value.
+const LONGEST: &[u8] = b"Refusal 10 for loop 4294967295 onwards: the shares must add up to \
+    at least 1 and at most the number of cores times the least common multiple of all separations, \
+    not 18446744073709551615.";
 
 /// Eight cores and sixteen tasks (16, 8, 16), which fill the cores; no slack.
 fn table() -> Vec<u8> {
@@ -38,14 +43,17 @@ fn every_call_on_a_stack_of_64_kib() {
     let mut plan = vec![0xee; 8 * 16];
     let mut names = vec![0xee; 8];
     let mut answer = vec![0xee; 8 * ENTRIES as usize];
+    let mut text = vec![0xee; LONGEST.len()];
     let calls = move || {
         let judged = judge(&table, &mut plan);
         let named = counted(&table, &mut names);
         let run = run_log(&table, &log, &mut answer);
-        (judged, named, run, plan, names, answer)
+        let told = sentence_into(10, u32::MAX, u64::MAX, &mut text);
+        (judged, named, run, told, plan, names, answer, text)
     };
     let thread = Builder::new().stack_size(STACK).spawn(calls).expect("the thread starts");
-    let (judged, named, run, plan, names, answer) = thread.join().expect("the calls come back");
+    let (judged, named, run, told, plan, names, answer, text) =
+        thread.join().expect("the calls come back");
     assert_eq!(judged, Ok(16));
     // All weights are equal: the lowest seven of the sixteen are counted.
     assert_eq!(named, Ok(7));
@@ -57,4 +65,6 @@ fn every_call_on_a_stack_of_64_kib() {
         assert_eq!(entry[..4], [1, 0, 0, 0]);
         assert_eq!(entry[4..], (tick + 8).to_le_bytes());
     }
+    assert_eq!(told, Ok(LONGEST.len()));
+    assert_eq!(text, LONGEST);
 }

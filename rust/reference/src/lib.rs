@@ -1,8 +1,9 @@
-//! The judgement of a show table, the engine's release and step, and the log run, written from
-//! documents 01 and 02 alone, in their order and with their words beside each step. They are what
-//! the proved code is compared with, so they are plain before they are quick: the judgement's
-//! numbers are 128 bits wide, the log run goes tick by tick on a machine of its own, and nothing is
-//! worked out in a shorter way than the documents say it.
+//! The judgement of a show table, the engine's release and step, the log run and the sentences of
+//! refusals, written from documents 01 and 02 alone, in their order and with their words beside
+//! each step. They are what the proved code is compared with, so they are plain before they are
+//! quick: the judgement's numbers are 128 bits wide, the log run goes tick by tick on a machine of
+//! its own, and nothing is worked out in a shorter way than the documents say it. The wording of
+//! the sentences, which they leave free, is written out a second time.
 
 #![forbid(unsafe_code)]
 
@@ -10,6 +11,7 @@ mod engine;
 mod log;
 mod log_run;
 mod plan;
+mod sentence;
 mod slack;
 mod state;
 mod table;
@@ -21,6 +23,7 @@ pub use engine::{Released, Stepped, chosen, points, release, step};
 pub use log::{Entry, Log};
 pub use log_run::{Outcome, outcomes, run_log};
 pub use plan::{Plan, counted_into, judge, judge_into, write};
+pub use sentence::{sentence, sentence_into};
 pub use slack::Analysis;
 pub use state::{Clause, Job, LAST_TICK, MOST_JOBS, broken, known, open, queue, set_queue};
 pub use table::Table;

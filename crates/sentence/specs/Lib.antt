@@ -1,0 +1,5 @@
+pub mod Sentence
+pub mod WordingLaws
+pub mod LetterLaws
+pub mod SentenceTheorems
+pub mod ComposeLaws

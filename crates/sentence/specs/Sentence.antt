@@ -1,0 +1,100 @@
+-- Document 02, §2: the sentence that tells a refusal. "A new part composes each refusal of 01 into one English sentence with the loop, core or
+-- entry and the offending number in it. It is handed the refusal number, the index and the value found there (0 where none is meant)."
+--     Wording, fixed      the fixed words of a sentence: those before the index, and those between index and value
+--     wordings            those of 1, 2, 3 and so on, in this order
+--     otherWording        those of every other number
+--     Known k             k is in the table of refusal numbers
+--     wording k           the words of k
+--     sentenceOf k i v    the sentence of number k, index i and value v
+--     longest             no sentence of a number and an index of 32 bits and a value of 64 bits is longer
+--     sentenceTest        25 where the room is too short
+--     answerOfComposed, lengthOfComposed    document 01's number and index, and the length, for each case of the answer
+--     sentenceLength      the length that comes back, sentenceLeaves the bytes that are left behind
+use Prim.Native.Nat.{ℕ, zero, suc, _≤_}
+use Prim.Native.String.{String}
+use mathlib.Core.List.{List, [], _∷_, _++_}
+use lib.ListN.{length, getD, drop}
+use lib.Dec.{ltb}
+use Rattle.tasks.specs.declared.Answer.{Answer}
+use Rattle.tasks.specs.declared.Answer.the-variants.{Accepted, Refused}
+use Rattle.tasks.specs.Tests.{refuse, unlessRefused}
+use Rattle.decimal.specs.Decimal.{words, said}
+use Rattle.sentence.specs.declared.Composed.{Composed}
+use Rattle.sentence.specs.declared.Composed.the-variants.{Length, Refused as NotComposed}
+
+pub record Wording : Type 0 where
+  pub place : List ℕ
+  pub rule : List ℕ
+
+abbrev pub fixed : String → String → Wording
+fixed place rule = record { place = words place; rule = words rule }
+
+-- document 01's numbers, and 25. Where document 01 gives no index, 0 is where the count begins
+unfoldable pub wordings : List Wording
+wordings =
+    fixed " for byte " ": the edition must be 1, not "
+    ∷ fixed " for byte " " onwards: the table must have 4 bytes and 1 more for each core, 12 for each loop and 4 for each entry of slack, not "
+    ∷ fixed " for core " " onwards: the number of cores must be 2 to 8, not "
+    ∷ fixed " for core " ": its label must be 0 to 63 and above the label of the core before, not "
+    ∷ fixed " for loop " " onwards: the number of loops must be above the number of cores and at most 16, not "
+    ∷ fixed " for loop " ": its separation must be 1 to 100,000 ticks, not "
+    ∷ fixed " for loop " ": its budget must be at least 1 tick and at most its separation, not "
+    ∷ fixed " for loop " ": its offset must be at most its separation, not "
+    ∷ fixed " for loop " " onwards: the least common multiple of all separations must be 1 to 1,000,000, not "
+    ∷ fixed " for loop " " onwards: the shares must add up to at least 1 and at most the number of cores times the least common multiple of all separations, not "
+    ∷ fixed " for loop " " onwards: the slack count must be 0 or the number of loops, not "
+    ∷ fixed " for loop " ": its slack must be compliant if it is offered and the smallest that is compliant if it is found, not "
+    ∷ fixed " for loop " ": its bound must be at most 16 times its separation, not "
+    ∷ fixed " for entry " " onwards: the log must have 2 bytes and 9 more for each entry that it counts, not "
+    ∷ fixed " for entry " ": its tick must be at most 1,000,000,000, not "
+    ∷ fixed " for entry " " onwards: the lent answer must have at least 8 bytes for each entry, not "
+    ∷ fixed " for entry " ": its tick must be at least the largest tick before it, not "
+    ∷ fixed " for loop " " onwards: the engine's state must be sound, which it is not at tick "
+    ∷ fixed " for loop " " onwards: the clock must be below 4,000,000,000 for a release or a step, not "
+    ∷ fixed " for release " ": it must be of a loop in the table, not of loop "
+    ∷ fixed " for release " ": its demand must be at least 1 tick and at most its loop's budget, not "
+    ∷ fixed " for release " ": the ticks since its loop's last taken release must be at least the loop's separation, not "
+    ∷ fixed " for release " ": its loop must hold fewer than 16 unfinished jobs, not "
+    ∷ fixed " for byte " " onwards: the lent buffer must be at least as long as what is to be written, not "
+    ∷ fixed " for byte " " onwards: the buffer lent for a sentence must be at least as long as the sentence, for which 256 bytes are always enough, not "
+    ∷ []
+
+-- "A number outside the table, which 25 and each later number joins, gets a sentence with the word `unknown`"
+abbrev pub otherWording : Wording
+otherWording = fixed " for place " ": the meaning of this number is unknown here, and the value found is "
+
+abbrev pub Known : ℕ → Type 0
+Known k = (1 ≤ k) × (k ≤ 25)
+
+unfoldable pub wording : ℕ → Wording
+wording zero = otherWording
+wording (suc j) = getD wordings j otherWording
+
+unfoldable pub sentenceOf : ℕ → ℕ → ℕ → List ℕ
+sentenceOf k i v = said (words "Refusal ") k ++ said (wording k .place) i ++ said (wording k .rule) v ++ words "."
+
+abbrev pub longest : ℕ
+longest = 256
+
+-- ---- what the call answers and leaves behind
+
+-- "25 the buffer is too short"
+unfoldable pub sentenceTest : ℕ → ℕ → ℕ → ℕ → Answer
+sentenceTest k i v room = refuse 25 (ltb room (length (sentenceOf k i v)))
+
+abbrev pub answerOfComposed : Composed → Answer
+answerOfComposed (Length n) = Accepted
+answerOfComposed (NotComposed k i) = Refused k i
+
+abbrev pub lengthOfComposed : Composed → ℕ
+lengthOfComposed (Length n) = n
+lengthOfComposed (NotComposed k i) = 0
+
+-- "its length comes back"; "lengths and counts are 0" on a refusal
+unfoldable pub sentenceLength : ℕ → ℕ → ℕ → ℕ → ℕ
+sentenceLength k i v room = unlessRefused (sentenceTest k i v room) (length (sentenceOf k i v)) 0
+
+-- "The sentence goes to a lent buffer, its length comes back, and later bytes stay. Errors: 25 …, and nothing is written."
+unfoldable pub sentenceLeaves : ℕ → ℕ → ℕ → List ℕ → List ℕ
+sentenceLeaves k i v out =
+    unlessRefused (sentenceTest k i v (length out)) (sentenceOf k i v ++ drop (length (sentenceOf k i v)) out) out
