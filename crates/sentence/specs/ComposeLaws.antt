@@ -2,6 +2,7 @@
 --     text-length     it ends within the array
 --     text-is         it is what stands before its end
 --     sentence-refused, sentence-done    25 where the lent buffer is shorter, else the length and the sentence
+--     room-enough     a buffer as long as the longest sentence is never refused
 use Prim.Native.Nat.{ℕ, _≤_, _<_}
 use mathlib.Core.Path.{_≡_, sym, _∙_}
 use mathlib.Core.List.{List, _++_}
@@ -13,7 +14,9 @@ use borrow.Author.Tests.{lt-ltb, le-ltb}
 use Rattle.laws.specs.SetsLaws.{sets-whole}
 use Rattle.tasks.specs.declared.Answer.the-variants.{Accepted, Refused}
 use Rattle.decimal.specs.Decimal.{Stored}
-use Rattle.sentence.specs.Sentence.{sentenceOf, sentenceTest, sentenceLength, sentenceLeaves}
+use Rattle.wording.specs.Sentence.{sentenceOf, longest}
+use Rattle.wording.specs.SentenceTheorems.{sentence-short}
+use Rattle.sentence.specs.Told.{sentenceTest, sentenceLength, sentenceLeaves}
 
 module _ (k i v : ℕ) {l text : List ℕ} {n : ℕ} (fits : length (sentenceOf k i v) ≤ length l) (s : Stored l 0 (sentenceOf k i v) n text) where
   length-is : n ≡ length (sentenceOf k i v)
@@ -41,3 +44,8 @@ module _ (k i v : ℕ) {l text : List ℕ} {n : ℕ} (fits : length (sentenceOf 
   sentence-done out h =
       let e = le-ltb (length out) (length (sentenceOf k i v)) (omega (arith, length-is)) in
       (rw e, rw e length-is, rw (e, text-is) (sets-whole out (sentenceOf k i v) (omega (arith, length-is))))
+
+pub room-enough :
+    (k i v room : ℕ) → k < 4294967296 → i < 4294967296 → v < 18446744073709551616 → longest ≤ room → sentenceTest k i v room ≡ Accepted
+unfolding sentenceTest
+room-enough k i v room h l m r = rw (le-ltb room (length (sentenceOf k i v)) (omega (arith, sentence-short k i v h l m)))

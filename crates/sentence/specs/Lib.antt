@@ -1,5 +1,2 @@
-pub mod Sentence
-pub mod WordingLaws
-pub mod LetterLaws
-pub mod SentenceTheorems
+pub mod Told
 pub mod ComposeLaws

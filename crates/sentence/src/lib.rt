@@ -11,7 +11,8 @@ use tasks::refusal;
 ghost use mathlib.Core.Path.{_≡_};
 ghost use lib.ListN.{length};
 ghost use Rattle.decimal.specs.Decimal.{Stored};
-ghost use Rattle.sentence.specs.Sentence.{sentenceOf, answerOfComposed, lengthOfComposed, sentenceTest, sentenceLength, sentenceLeaves};
+ghost use Rattle.wording.specs.Sentence.{sentenceOf};
+ghost use Rattle.sentence.specs.Told.{answerOfComposed, lengthOfComposed, sentenceTest, sentenceLength, sentenceLeaves};
 
 // A caller who lends so many bytes is never refused.
 pub const LONGEST: usize = 256;

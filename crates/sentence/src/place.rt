@@ -3,7 +3,7 @@ use decimal::put_words;
 ghost use Prim.Native.Nat.{_+_, _≤_};
 ghost use lib.ListN.{length};
 ghost use Rattle.decimal.specs.Decimal.{Stored};
-ghost use Rattle.sentence.specs.Sentence.{wording};
+ghost use Rattle.wording.specs.Sentence.{wording};
 
 pub fn put_place(out: &mut [u8], at: usize, number: u32) -> usize
     requires { ⌜ at + 16 ≤ length (now out) ⌝ }

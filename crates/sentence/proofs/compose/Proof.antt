@@ -5,8 +5,8 @@ use borrow.Author.Needs.{needs}
 use Rattle.decimal.specs.Decimal.{words, said}
 use Rattle.decimal.specs.DecimalLaws.{length-said}
 use Rattle.decimal.specs.PutLaws.{put-behind}
-use Rattle.sentence.specs.Sentence.{sentenceOf}
-use Rattle.sentence.specs.SentenceTheorems.{Pieces, pieces-short}
+use Rattle.wording.specs.Sentence.{sentenceOf}
+use Rattle.wording.specs.SentenceTheorems.{Pieces, pieces-short}
 use Rattle.sentence.proofs.compose.Statement.{statement}
 use Rattle.sentence.proofs.compose.Tie as tie
 

@@ -5,8 +5,8 @@ use native.Mathlib.Omega.{arith}
 use lib.ListN.{length, length-replicate}
 use lib.Seq.{length-take-le}
 use borrow.Author.Needs.{needs}
-use Rattle.sentence.specs.Sentence.{sentenceOf}
-use Rattle.sentence.specs.SentenceTheorems.{sentence-short}
+use Rattle.wording.specs.Sentence.{sentenceOf}
+use Rattle.wording.specs.SentenceTheorems.{sentence-short}
 use Rattle.sentence.specs.ComposeLaws.{text-length, sentence-refused, sentence-done}
 use Rattle.sentence.proofs.sentence.Statement.{statement}
 use Rattle.sentence.proofs.sentence.Tie as tie

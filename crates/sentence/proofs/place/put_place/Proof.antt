@@ -7,8 +7,8 @@ use borrow.Author.Needs.{needs}
 use Rattle.laws.specs.First.{first}
 use Rattle.laws.specs.Every.{sameList}
 use Rattle.decimal.specs.Decimal.{words}
-use Rattle.sentence.specs.Sentence.{wordings, Known, wording}
-use Rattle.sentence.specs.WordingLaws.{others, places}
+use Rattle.wording.specs.Sentence.{wordings, Known, wording}
+use Rattle.wording.specs.WordingLaws.{others, places}
 use Rattle.sentence.proofs.place.put_place.Statement.{statement}
 use Rattle.sentence.proofs.place.put_place.Tie as tie
 

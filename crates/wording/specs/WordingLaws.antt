@@ -9,6 +9,7 @@
 --     place-plain, rule-plain    none has a full stop or a byte that is not printed
 --     place-short, rule-short    none is longer than 16 and 160 bytes
 --     places          the words before the index that a row of numbers shares
+--     ruled           words stored for a number are stored for one that is equal to it
 --     rule-own        each number of the table has a rule that no other number has
 use Prim.Native.Nat.{ℕ, zero, suc, _+_, _-_, _≤_, _<_}
 use mathlib.Core.Bool.{Bool, true, false, not, _&&_}
@@ -23,8 +24,8 @@ use Rattle.laws.specs.First.{first}
 use Rattle.laws.specs.FirstLaws.{first-none}
 use Rattle.laws.specs.Every.{every, sameList}
 use Rattle.laws.specs.EveryLaws.{below-or-not, same-list}
-use Rattle.decimal.specs.Decimal.{words, digit}
-use Rattle.sentence.specs.Sentence.{Wording, wordings, otherWording, Known, wording}
+use Rattle.decimal.specs.Decimal.{words, digit, Stored}
+use Rattle.wording.specs.Sentence.{Wording, wordings, otherWording, Known, wording}
 
 pub beyond : (k : ℕ) → 25 < k → wording k ≡ wording 0
 unfolding wording wordings
@@ -107,3 +108,6 @@ rule-own k l h e =
     let zero-is : k ≡ 0 = sym (seek-own k (omega arith)) ∙ ap seek e ∙ ap (λ (w : Wording). seek (w .rule)) (beyond l m) ∙ seek-own 0 (omega arith) in
     absurd (omega arith))
     (below-or-not l 26)
+
+pub ruled : (k : ℕ) {n at end : ℕ} {l u : List ℕ} → n ≡ k → Stored l at (wording k .rule) end u → Stored l at (wording n .rule) end u
+ruled k e s = rw e s

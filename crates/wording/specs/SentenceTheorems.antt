@@ -6,7 +6,6 @@
 --     sentence-stop, one-stop    the last byte is a full stop, and no other is
 --     Pieces, pieces-short    how long its pieces are at most
 --     sentence-short       how long a sentence is at most
---     room-enough          so that many bytes are never refused
 use Prim.Native.Nat.{ℕ, zero, suc, _+_, _≤_, _<_}
 use mathlib.Core.Bool.{true, not, _&&_, false≢true}
 use mathlib.Core.Path.{_≡_, refl, sym, ap, _∙_}
@@ -16,16 +15,15 @@ use native.Mathlib.Omega.{arith}
 use lib.ListN.{length, getD, drop, length-append, List·getD-append}
 use lib.Seq.{getD-append-seam}
 use lib.Dec.{T, eqb, leb}
-use borrow.Author.Tests.{le-leb, leb-true, le-ltb, not-true, eqb-false, ne-eqb}
-use Rattle.tasks.specs.declared.Answer.the-variants.{Accepted}
+use borrow.Author.Tests.{le-leb, leb-true, not-true, eqb-false, ne-eqb}
 use Rattle.laws.specs.First.{first}
 use Rattle.laws.specs.Every.{every}
 use Rattle.laws.specs.EveryLaws.{below-or-not, both, and-both, every-append, every-at}
 use Rattle.decimal.specs.Decimal.{words, decimal, said, digit}
 use Rattle.decimal.specs.DecimalLaws.{NoDigit, decimal-ends, every-decimal, decimal-length, decimal-64, length-said}
-use Rattle.sentence.specs.Sentence.{Wording, wordings, otherWording, Known, wording, sentenceOf, longest, sentenceTest}
-use Rattle.sentence.specs.WordingLaws.{others, between, apart, plain, place-apart, rule-apart, place-plain, rule-plain, place-short, rule-short}
-use Rattle.sentence.specs.LetterLaws.{StandsIn, letters, letters-append, letters-decimal, letters-stand, starts, has, stands-has, has-stands, stands-within}
+use Rattle.wording.specs.Sentence.{Wording, wordings, otherWording, Known, wording, sentenceOf, longest}
+use Rattle.wording.specs.WordingLaws.{others, between, apart, plain, place-apart, rule-apart, place-plain, rule-plain, place-short, rule-short}
+use Rattle.wording.specs.LetterLaws.{StandsIn, letters, letters-append, letters-decimal, letters-stand, starts, has, stands-has, has-stands, stands-within}
 
 -- ---- no two alike
 
@@ -170,8 +168,3 @@ pub sentence-short : (k i v : ℕ) → k < 4294967296 → i < 4294967296 → v <
 unfolding words
 sentence-short k i v h l m =
     rw (length-body, length-append, length-append, length-said, length-said, length-said) (omega (arith, pieces-short k i v h l m))
-
-pub room-enough :
-    (k i v room : ℕ) → k < 4294967296 → i < 4294967296 → v < 18446744073709551616 → longest ≤ room → sentenceTest k i v room ≡ Accepted
-unfolding sentenceTest
-room-enough k i v room h l m r = rw (le-ltb room (length (sentenceOf k i v)) (omega (arith, sentence-short k i v h l m)))

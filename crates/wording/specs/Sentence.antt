@@ -7,20 +7,11 @@
 --     wording k           the words of k
 --     sentenceOf k i v    the sentence of number k, index i and value v
 --     longest             no sentence of a number and an index of 32 bits and a value of 64 bits is longer
---     sentenceTest        25 where the room is too short
---     answerOfComposed, lengthOfComposed    document 01's number and index, and the length, for each case of the answer
---     sentenceLength      the length that comes back, sentenceLeaves the bytes that are left behind
 use Prim.Native.Nat.{ℕ, zero, suc, _≤_}
 use Prim.Native.String.{String}
 use mathlib.Core.List.{List, [], _∷_, _++_}
-use lib.ListN.{length, getD, drop}
-use lib.Dec.{ltb}
-use Rattle.tasks.specs.declared.Answer.{Answer}
-use Rattle.tasks.specs.declared.Answer.the-variants.{Accepted, Refused}
-use Rattle.tasks.specs.Tests.{refuse, unlessRefused}
+use lib.ListN.{getD}
 use Rattle.decimal.specs.Decimal.{words, said}
-use Rattle.sentence.specs.declared.Composed.{Composed}
-use Rattle.sentence.specs.declared.Composed.the-variants.{Length, Refused as NotComposed}
 
 pub record Wording : Type 0 where
   pub place : List ℕ
@@ -75,26 +66,3 @@ sentenceOf k i v = said (words "Refusal ") k ++ said (wording k .place) i ++ sai
 
 abbrev pub longest : ℕ
 longest = 256
-
--- ---- what the call answers and leaves behind
-
--- "25 the buffer is too short"
-unfoldable pub sentenceTest : ℕ → ℕ → ℕ → ℕ → Answer
-sentenceTest k i v room = refuse 25 (ltb room (length (sentenceOf k i v)))
-
-abbrev pub answerOfComposed : Composed → Answer
-answerOfComposed (Length n) = Accepted
-answerOfComposed (NotComposed k i) = Refused k i
-
-abbrev pub lengthOfComposed : Composed → ℕ
-lengthOfComposed (Length n) = n
-lengthOfComposed (NotComposed k i) = 0
-
--- "its length comes back"; "lengths and counts are 0" on a refusal
-unfoldable pub sentenceLength : ℕ → ℕ → ℕ → ℕ → ℕ
-sentenceLength k i v room = unlessRefused (sentenceTest k i v room) (length (sentenceOf k i v)) 0
-
--- "The sentence goes to a lent buffer, its length comes back, and later bytes stay. Errors: 25 …, and nothing is written."
-unfoldable pub sentenceLeaves : ℕ → ℕ → ℕ → List ℕ → List ℕ
-sentenceLeaves k i v out =
-    unlessRefused (sentenceTest k i v (length out)) (sentenceOf k i v ++ drop (length (sentenceOf k i v)) out) out

@@ -1,0 +1,4 @@
+pub mod Sentence
+pub mod WordingLaws
+pub mod LetterLaws
+pub mod SentenceTheorems

@@ -1,0 +1,1 @@
+// Definitions and laws alone, in specs/: the sentence that tells a refusal.
