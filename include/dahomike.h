@@ -1,5 +1,5 @@
 /*
- * Judgement, its counted loops and the log run of Dahomike as C functions. `rt staticlib dahomike` writes the library that has them,
+ * Judgement, its counted loops, the log run and the sentences of refusals of Dahomike as C functions. `rt staticlib dahomike` writes the library that has them,
  * target/staticlib/libdahomike.a. The proved source is crates/dahomike/src/lib.rt; .ci/documents holds the declarations here to it.
  *
  * Numbers in tables, logs and answers are unsigned, low byte first. Loops and entries are counted from 0.
@@ -29,9 +29,10 @@
  *     15  A log tick is above 1,000,000,000.
  *     16  The lent answer is shorter than 8 x count.
  *     24  The buffer lent for the judgement or for its names is too short.
+ *     25  The buffer lent for a sentence is too short.
  *
  * Each number is tested over all entries before the next, and the first that is met is answered: 1 to 13 of the table, then 24 for
- * dahomike_judge and dahomike_counted; 1 to 13 of the table, then 14 to 16 for dahomike_run_log.
+ * dahomike_judge and dahomike_counted; 1 to 13 of the table, then 14 to 16 for dahomike_run_log. dahomike_sentence tests 25 alone.
  */
 #ifndef DAHOMIKE_H
 #define DAHOMIKE_H
@@ -85,6 +86,21 @@ uint64_t dahomike_counted(const uint8_t *table, size_t table_len, uint8_t *out, 
  * An entry of kind 1 finishes at most Y + x + C ticks after its tick.
  */
 uint64_t dahomike_run_log(const uint8_t *table, size_t table_len, const uint8_t *log, size_t log_len, uint8_t *out, size_t out_len);
+
+/* No sentence is longer: a caller who lends so many bytes is never refused 25. */
+#define DAHOMIKE_LONGEST_SENTENCE 256
+
+/*
+ * Tells a refusal in one English sentence, which names the loop, core, log entry or release and says what would be right.
+ *
+ *     number  the refusal number; a number that is not in the list above gets a sentence with the word `unknown`, and no other has it
+ *     index   the index that came with it
+ *     value   what was found there, as the separation for 6 or the tick for 15; docs/REFUSALS.md says which. 0 where none is meant
+ *     out     the sentence: ASCII, no line break, no 0 at its end; it ends with its one full stop. Bytes beyond it stay
+ *
+ * Answers the sentence's length in bytes, or the refusal 25. No two calls that differ in number, index or value give the same sentence.
+ */
+uint64_t dahomike_sentence(uint32_t number, uint32_t index, uint64_t value, uint8_t *out, size_t out_len);
 
 #ifdef __cplusplus
 }

@@ -1,4 +1,5 @@
-"""The C functions are declared alike in Rattle, in Rust and in the C header: names, order and types of parameters, and the result.
+"""The C functions are declared alike in Rattle, in Rust and in the C header: names, order and types of parameters, and the result. So is the length
+of the longest sentence, which callers lend.
 
 A parameter becomes a pair of name and type: `u8*` for a pointer to one or more of a type, with `const ` where it is only read, and `u8*8` for a
 pointer to an array of 8. A slice of Rattle is a pointer and a length."""
@@ -8,6 +9,12 @@ import re
 BORDERS = (
     ("dahomike", "rust/dahomike/src/lib.rs", "include/dahomike.h"),
     ("trial", "rust/trial/src/lib.rs", None),
+)
+LONGEST = (
+    ("crates/wording/specs/Sentence.antt", r"^longest = (\d+)$"),
+    ("crates/sentence/src/lib.rt", r"^pub const LONGEST: usize = (\d+);$"),
+    ("rust/dahomike/src/lib.rs", r"^pub const LONGEST_SENTENCE: usize = (\d+);$"),
+    ("include/dahomike.h", r"^#define DAHOMIKE_LONGEST_SENTENCE (\d+)$"),
 )
 C_TYPES = {"uint8_t": "u8", "uint16_t": "u16", "uint32_t": "u32", "uint64_t": "u64", "size_t": "usize", "bool": "bool"}
 
@@ -26,6 +33,21 @@ def check(tree):
                 faults.append((path, 1, f"is missing: it declares the C functions of {crate}"))
                 continue
             faults += compare(proved, path, read(tree.text[path]))
+    return faults + longest(tree)
+
+
+def longest(tree):
+    """The faults of the places that give the longest sentence's length: each gives it, and the same as the definition."""
+    faults, first = [], None
+    for path, form in LONGEST:
+        found = re.search(form, tree.text.get(path, ""), re.M)
+        if not found:
+            faults.append((path, 1, "the length of the longest sentence is not given"))
+            continue
+        first = first or found.group(1)
+        if found.group(1) != first:
+            line = tree.text[path][: found.start()].count("\n") + 1
+            faults.append((path, line, f"the longest sentence has {found.group(1)} bytes here, and {first} in {LONGEST[0][0]}"))
     return faults
 
 

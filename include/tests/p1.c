@@ -1,5 +1,5 @@
 /*
- * The header and the static library from C: P1 and P4 judged, P1's and P3's counted loops named, P11 run. .ci/run compiles and runs it where there is a C compiler.
+ * The header and the static library from C: P1 and P4 judged, P1's and P3's counted loops named, P11 run, two refusals told. .ci/run compiles and runs it where there is a C compiler.
  */
 #include "../dahomike.h"
 
@@ -95,10 +95,25 @@ static void run_p11(void) {
     expect_bytes("P11", out, sizeof out, entries, sizeof entries);
 }
 
+static void tell_refusals(void) {
+    static const char budget[] = "Refusal 7 for loop 1: its budget must be at least 1 tick and at most its separation, not 11.";
+    static const char unknown[] = "Refusal 26 for place 0: the meaning of this number is unknown here, and the value found is 0.";
+    uint8_t out[DAHOMIKE_LONGEST_SENTENCE];
+    memset(out, 0xee, sizeof out);
+    expect_answer("7 told, a short buffer", dahomike_sentence(7, 1, 11, out, sizeof budget - 2), REFUSED(25, 0));
+    expect_bytes("7 told, a short buffer", out, sizeof out, out, 0);
+    expect_answer("7 told", dahomike_sentence(7, 1, 11, out, sizeof out), sizeof budget - 1);
+    expect_bytes("7 told", out, sizeof out, (const uint8_t *)budget, sizeof budget - 1);
+    memset(out, 0xee, sizeof out);
+    expect_answer("26 told", dahomike_sentence(26, 0, 0, out, sizeof unknown - 1), sizeof unknown - 1);
+    expect_bytes("26 told", out, sizeof out, (const uint8_t *)unknown, sizeof unknown - 1);
+}
+
 int main(void) {
     judge_p1();
     name_counted();
     run_p11();
+    tell_refusals();
     if (failures == 0) {
         puts("the C functions from C: ok");
     }

@@ -2,6 +2,7 @@
 --     judge-refused    1 to 13, judge-short 24, judge-done the report
 --     counted-refused, counted-short, counted-done    the same of the names
 --     run-refused, run-done      the log run's answer
+--     told-length, told-refused  the sentence's, by the cases of what came back
 --     reportable       an accepted plan's slack and bounds fit 4 bytes each
 use Prim.Native.Nat.{ℕ, _+_, _*_, _≤_, _<_}
 use mathlib.Core.Path.{_≡_, sym, _∙_, ap}
@@ -25,9 +26,12 @@ use Rattle.laws.specs.SetsLaws.{sets-whole}
 use Rattle.codec.specs.Table.{taskCount, taskSetIn, contentIn, verdict}
 use Rattle.table.specs.Judged.{countedIn, judged}
 use Rattle.table.specs.NamesLaws.{names-count, names-first}
+use Rattle.sentence.specs.declared.Composed.{Composed}
+use Rattle.sentence.specs.declared.Composed.the-variants.{Length, Refused as NotComposed}
+use Rattle.sentence.specs.Told.{answerOfComposed, lengthOfComposed, sentenceTest, sentenceLength}
 use Rattle.replay.specs.declared.run.Ran.{Ran}
 use Rattle.replay.specs.Ran.{runTest, ranOf}
-use Rattle.dahomike.specs.Answers.{answerNumber, judgeTest, judgeNumber, reportBytes, judgeLeaves, countedTest, countedNumber, countedLeaves, runNumber, boundIn, pairOf, Reportable}
+use Rattle.dahomike.specs.Answers.{answerNumber, judgeTest, judgeNumber, reportBytes, judgeLeaves, countedTest, countedNumber, countedLeaves, runNumber, sentenceNumber, boundIn, pairOf, Reportable}
 
 size : (a b : ℕ) → length (digits 4 a ++ digits 4 b) ≡ 8
 size a b = length-append (digits 4 a) (digits 4 b) ∙ rw (length-digits 4 a, length-digits 4 b)
@@ -167,3 +171,16 @@ module _ (t l : List ℕ) (room : ℕ) (r : Ran) (e : r ≡ ranOf t l room) wher
   run-done a =
       let v : runTest t l room ≡ Accepted = sym (ap (λ (x : Ran). x .answer) e) ∙ a in
       rw v (ap (λ (x : Ran). x .taken + 65536 * x .refused) e ∙ rw v)
+
+-- ---- the sentence
+
+module _ (k i v room : ℕ) (r : Composed) (e : answerOfComposed r ≡ sentenceTest k i v room) where
+  pub told-length : (n : ℕ) → r ≡ Length n → lengthOfComposed r ≡ sentenceLength k i v room → n ≡ sentenceNumber k i v room
+  unfolding sentenceNumber sentenceLength answerNumber
+  told-length n c l =
+      let accepted : sentenceTest k i v room ≡ Accepted = sym e ∙ ap answerOfComposed c in
+      rw accepted ((sym (ap lengthOfComposed c) ∙ l) ∙ rw accepted)
+
+  pub told-refused : (m j : ℕ) → r ≡ NotComposed m j → answerNumber (Refused m j) 0 ≡ sentenceNumber k i v room
+  unfolding sentenceNumber answerNumber
+  told-refused m j c = let met : sentenceTest k i v room ≡ Refused m j = sym e ∙ ap answerOfComposed c in rw met

@@ -7,6 +7,7 @@
 --     countedTest     1 to 13, and then 24 of the names
 --     countedNumber, countedLeaves    how many names, and the lent buffer afterwards
 --     runNumber       the log run's answer; what it leaves behind is replay's `runLeaves`
+--     sentenceNumber  the answer of the sentence; what it leaves behind is sentence's `sentenceLeaves`
 --     pairOf, Reportable    one task's eight bytes from a plan, and what the plan keeps to so that they fit
 use Prim.Native.Nat.{ℕ, _+_, _*_, _≤_, _<_}
 use mathlib.Core.List.{List, [], _∷_, _++_}
@@ -21,6 +22,8 @@ use Rattle.numbers.specs.Bytes.{digits, entries}
 use Rattle.codec.specs.Table.{taskCount, contentIn, verdict}
 use Rattle.table.specs.Judged.{countedIn}
 use Rattle.replay.specs.Ran.{runTest, ranOf}
+use Rattle.wording.specs.Sentence.{sentenceOf}
+use Rattle.sentence.specs.Told.{sentenceTest}
 
 -- "Each of the two answers one 64-bit number: n for judgement, … and 4,294,967,296 × refusal number + index for a refused call."
 unfoldable pub answerNumber : Answer → ℕ → ℕ
@@ -68,3 +71,7 @@ pub record Reportable (p : Plan) (room : ℕ) : Type 0 where
 -- "taken + 65,536 × refused for a log run, and 4,294,967,296 × refusal number + index for a refused call"
 unfoldable pub runNumber : List ℕ → List ℕ → ℕ → ℕ
 runNumber t l room = answerNumber (runTest t l room) (ranOf t l room .taken + 65536 * ranOf t l room .refused)
+
+-- the sentence's length, or 25
+unfoldable pub sentenceNumber : ℕ → ℕ → ℕ → ℕ → ℕ
+sentenceNumber k i v room = answerNumber (sentenceTest k i v room) (length (sentenceOf k i v))

@@ -2,6 +2,8 @@
 use decimal::put_words;
 use numbers::put4;
 use replay::run_log;
+use sentence::Composed;
+use sentence::sentence;
 use table::judge;
 use tasks::Answer;
 use tasks::Plan;
@@ -13,7 +15,8 @@ ghost use lib.ListN.{length};
 ghost use lib.Seq.{sets};
 ghost use Rattle.numbers.specs.Bytes.{digits, entries};
 ghost use Rattle.replay.specs.Ran.{runLeaves};
-ghost use Rattle.dahomike.specs.Answers.{answerNumber, judgeNumber, judgeLeaves, countedNumber, countedLeaves, runNumber, pairOf, Reportable};
+ghost use Rattle.dahomike.specs.Answers.{answerNumber, judgeNumber, judgeLeaves, countedNumber, countedLeaves, runNumber, sentenceNumber, pairOf, Reportable};
+ghost use Rattle.sentence.specs.Told.{sentenceLeaves};
 
 // "4,294,967,296 × refusal number + index for a refused call"
 fn refused(answer: Answer) -> u64
@@ -108,4 +111,25 @@ pub extern "C" fn dahomike_run_log(table: &[u8], log: &[u8], out: &mut [u8]) -> 
         return refused(answer);
     };
     (ran.taken as u64) + 65536 * (ran.refused as u64)
+}
+
+// A refusal as one English sentence: how long it is, and its bytes; or 25.
+#[no_mangle]
+pub extern "C" fn dahomike_sentence(number: u32, index: u32, value: u64, out: &mut [u8]) -> u64
+    ensures { λ r. ⌜
+        (r ≡ sentenceNumber number index value (length (now (out .entry))))
+        × (now (out .exit) ≡ sentenceLeaves number index value (now (out .entry)))
+        ⌝ }
+{
+    let told = sentence(number, index, value, out);
+    match told {
+        Composed::Length(length) => length as u64,
+        Composed::Refused {
+            number: met,
+            index: at,
+        } => refused(Answer::Refused {
+            number: met,
+            index: at,
+        }),
+    }
 }

@@ -1,24 +1,17 @@
 -- Laws of `allOf` and of the numbers of the 256 job places.
---     both, and-both            a conjunction, taken apart and made
 --     all-at, of-all            allOf holds: p holds at each index, and back
 --     all-step                  one index more, at n + 1
 --     by-place                  what holds at place p of loop i, for every two of them, holds at each of the 256
 --     loop-of, place-in         the loop and the place of 16 * i + p
 use Prim.Native.Nat.{ℕ, zero, suc, _+_, _*_, _/_, _%_, _<_}
-use mathlib.Core.Bool.{Bool, true, false, _&&_, false≢true}
+use mathlib.Core.Bool.{Bool, true, _&&_}
 use mathlib.Core.Path.{_≡_, refl, subst}
 use mathlib.Core.Logic.{⊎-elim}
 use native.Mathlib.Nat.{not-suc-le-zero, le-of-suc-le-suc, eq-or-lt-of-le, div-add-mod}
 use native.Mathlib.Numerals.{add-one}
 use native.Mathlib.Omega.{arith}
+use Rattle.laws.specs.EveryLaws.{both, and-both}
 use Rattle.state.specs.SoundState.{allOf}
-
-pub both : (a b : Bool) → a && b ≡ true → (a ≡ true) × (b ≡ true)
-both true b e = (refl, e)
-both false b e = absurd (false≢true e)
-
-pub and-both : (a b : Bool) → a ≡ true → b ≡ true → a && b ≡ true
-and-both a b p q = rw (p, q)
 
 pub all-at : (p : ℕ → Bool) (n i : ℕ) → allOf p n ≡ true → i < n → p i ≡ true
 unfolding allOf

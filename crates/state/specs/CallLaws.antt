@@ -30,7 +30,7 @@ use Rattle.state.specs.declared.Stepped.{Stepped}
 use Rattle.state.specs.State.{jobAt, jobsIn, releasedIn, lastIn, remainingIn, releaseIn, stateOf, lastOf, flagAt, laneOf, machineOf, zeroState}
 use Rattle.state.specs.SoundState.{allOf, passes, tidyTest, loopSound, placeSound, soundOf}
 use Rattle.state.specs.Calls.{openOf, tasksOf, stepTests, releaseTests, releaseOf, tickedOf, notStepped, stepOf}
-use Rattle.state.specs.AllLaws.{both}
+use Rattle.laws.specs.EveryLaws.{both}
 use Rattle.state.specs.FitLaws.{plan-limits, in-task, in-count, in-cores}
 
 pub open-limits : (p : Plan) → testPlan p ≡ Accepted → (p .cores ≤ 8) × (1 ≤ p .tasks) × (p .tasks ≤ 16)

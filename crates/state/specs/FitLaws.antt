@@ -29,7 +29,8 @@ use Rattle.state.specs.declared.State.{State}
 use Rattle.state.specs.State.{noJob, flagOf, tickOf, stateOf, lastOf, flagAt, placeOf, laneOf, machineOf}
 use Rattle.state.specs.SoundState.{allOf, passes, tidyTest, loopSound, placeSound, soundOf}
 use Rattle.state.specs.Fit.{Shaped, Fit}
-use Rattle.state.specs.AllLaws.{both, and-both, all-at, of-all, by-place, loop-of, place-in}
+use Rattle.laws.specs.EveryLaws.{both, and-both}
+use Rattle.state.specs.AllLaws.{all-at, of-all, by-place, loop-of, place-in}
 use Rattle.state.specs.QueueLaws.{rising-from, rising-at, rising-next, newest-from, newest-at, LoopFacts, loop-facts, facts-loop, PlaceFacts, place-facts, facts-place}
 use Rattle.state.specs.TidyLaws.{tidy-from, tidy-to, tidied-shaped}
 use Rattle.state.specs.ViewLaws as views

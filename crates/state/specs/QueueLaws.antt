@@ -17,7 +17,7 @@ use Rattle.machine.specs.Machine.{Job, job, releaseTick, remaining}
 use Rattle.machine.specs.Sound.{Rising, Newest}
 use Rattle.state.specs.State.{noJob}
 use Rattle.state.specs.SoundState.{loopTest, placeTest}
-use Rattle.state.specs.AllLaws.{both, and-both}
+use Rattle.laws.specs.EveryLaws.{both, and-both}
 
 pub rising-from :
     (T C t r : ℕ) (q : List Job)

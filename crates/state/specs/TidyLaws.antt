@@ -18,7 +18,8 @@ use Rattle.tasks.specs.Content.{noTask, zeroTask, taskOf, contentOf, planOf, ti
 use Rattle.tasks.specs.ContentLaws.{mark-back, zero-task, no-task, content-tidy}
 use Rattle.tasks.specs.Tests.{testPlan}
 use Rattle.state.specs.SoundState.{tidyLabel, tidyTask, tidyTest}
-use Rattle.state.specs.AllLaws.{both, and-both, all-at, of-all}
+use Rattle.laws.specs.EveryLaws.{both, and-both}
+use Rattle.state.specs.AllLaws.{all-at, of-all}
 use Rattle.state.specs.QueueLaws.{either, or-else}
 use Rattle.state.specs.Fit.{ShapedPlan}
 

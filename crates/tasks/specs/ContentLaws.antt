@@ -12,7 +12,7 @@
 --     zero-task       a task that the test of zeros passes is the task of zeros; no-task: and back
 use Prim.Native.Nat.{ℕ, _≤_}
 use mathlib.Core.Path.{_≡_, refl, sym, ap, fun-ext, _∙_}
-use mathlib.Core.Bool.{Bool, true, false, cond, not, _&&_, false≢true}
+use mathlib.Core.Bool.{Bool, true, false, cond, not}
 use mathlib.Core.List.{List}
 use mathlib.Core.Logic.{_⊎_, inl, inr, ⊎-elim}
 use native.Mathlib.Omega.{arith}
@@ -21,6 +21,7 @@ use lib.Dec.{ltb, eqb}
 use borrow.Author.Tests.{ltb-true, ltb-false, eqb-true, eqb-false, ne-eqb}
 use Rattle.laws.specs.Tab.{tab, cut}
 use Rattle.laws.specs.TabLaws.{getD-tab, cut-below, cut-above}
+use Rattle.laws.specs.EveryLaws.{both}
 use Rattle.tasks.specs.declared.Task.{Task}
 use Rattle.tasks.specs.declared.Plan.{Plan}
 use Rattle.tasks.specs.TaskSet.{TaskSet, row}
@@ -136,10 +137,6 @@ unfolding tidy planOf contentOf
 tidied-code p labels slack task n e f g = plan-ext _ (tidy p) (sym (mark-back (p .offered) (p .tasks) n)) refl refl e f g
 
 -- ---- a task of zeros
-
-both : (a b : Bool) → a && b ≡ true → (a ≡ true) × (b ≡ true)
-both true b e = (refl, e)
-both false b e = (e, absurd (false≢true e))
 
 pub zero-task : (t : Task) → zeroTask t ≡ true → t ≡ noTask
 unfolding zeroTask noTask

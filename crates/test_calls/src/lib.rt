@@ -8,6 +8,7 @@ use test_script::line::front;
 use test_script::line::number;
 use test_script::line::rest;
 use test_script::say;
+use test_sentences::told;
 use test_tables::draft::Draft;
 use test_tables::judged;
 use test_tables::written;
@@ -39,6 +40,21 @@ fn run_log(table: Draft, log: Draft, words: &[u8]) {
     );
 }
 
+// `sentence ROOM NUMBER INDEX VALUE NAME`.
+fn sentence(words: &[u8]) {
+    let room = number(words, 0);
+    let refusal = number(words, room.next);
+    let index = number(words, refusal.next);
+    let value = number(words, index.next);
+    say::case(b"sentence ", rest(words, value.next));
+    told(
+        (refusal.value % 4294967296) as u32,
+        (index.value % 4294967296) as u32,
+        value.value,
+        room.value as usize,
+    );
+}
+
 // `release I DEMAND NAME`.
 fn release(state: State, words: &[u8]) -> State {
     let task = number(words, 0);
@@ -66,6 +82,10 @@ fn stateless(world: World, what: &[u8], words: &[u8]) {
     }
     if check::same(what, b"run") {
         run_log(table, log, words);
+        return;
+    }
+    if check::same(what, b"sentence") {
+        sentence(words);
         return;
     }
     if check::same(what, b"open") {

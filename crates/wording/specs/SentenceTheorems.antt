@@ -6,7 +6,7 @@
 --     sentence-stop, one-stop    the last byte is a full stop, and no other is
 --     Pieces, pieces-short    how long its pieces are at most
 --     sentence-short       how long a sentence is at most
-use Prim.Native.Nat.{ℕ, zero, suc, _+_, _≤_, _<_}
+use Prim.Native.Nat.{ℕ, _+_, _≤_, _<_}
 use mathlib.Core.Bool.{true, not, _&&_, false≢true}
 use mathlib.Core.Path.{_≡_, refl, sym, ap, _∙_}
 use mathlib.Core.Logic.{_⊎_, ⊎-elim, inl, inr}
@@ -14,14 +14,14 @@ use mathlib.Core.List.{List, [], _∷_, _++_, append-assoc, append-nil, append-c
 use native.Mathlib.Omega.{arith}
 use lib.ListN.{length, getD, drop, length-append, List·getD-append}
 use lib.Seq.{getD-append-seam}
-use lib.Dec.{T, eqb, leb}
+use lib.Dec.{eqb, leb}
 use borrow.Author.Tests.{le-leb, leb-true, not-true, eqb-false, ne-eqb}
 use Rattle.laws.specs.First.{first}
 use Rattle.laws.specs.Every.{every}
 use Rattle.laws.specs.EveryLaws.{below-or-not, both, and-both, every-append, every-at}
 use Rattle.decimal.specs.Decimal.{words, decimal, said, digit}
 use Rattle.decimal.specs.DecimalLaws.{NoDigit, decimal-ends, every-decimal, decimal-length, decimal-64, length-said}
-use Rattle.wording.specs.Sentence.{Wording, wordings, otherWording, Known, wording, sentenceOf, longest}
+use Rattle.wording.specs.Sentence.{Wording, wordings, Known, wording, sentenceOf, longest}
 use Rattle.wording.specs.WordingLaws.{others, between, apart, plain, place-apart, rule-apart, place-plain, rule-plain, place-short, rule-short}
 use Rattle.wording.specs.LetterLaws.{StandsIn, letters, letters-append, letters-decimal, letters-stand, starts, has, stands-has, has-stands, stands-within}
 

@@ -17,6 +17,7 @@ use mathlib.Core.List.{List, [], _∷_, _++_, map}
 use lib.ListN.{length}
 use lib.Dec.{T, eqb}
 use Rattle.laws.specs.First.{first}
+use Rattle.laws.specs.Every.{sameList}
 use Rattle.laws.specs.Sum.{sum, sumOver}
 use Rattle.laws.specs.Tab.{tab, cut}
 use Rattle.laws.specs.Rank.{place, ranked, largest}
@@ -192,12 +193,6 @@ sameAnswer Accepted Accepted = true
 sameAnswer Accepted (Refused k i) = false
 sameAnswer (Refused k i) Accepted = false
 sameAnswer (Refused k i) (Refused k' i') = eqb k k' && eqb i i'
-
-pub sameList : List ℕ → List ℕ → Bool
-sameList [] [] = true
-sameList [] (y ∷ l) = false
-sameList (x ∷ l) [] = false
-sameList (x ∷ l) (y ∷ l') = eqb x y && sameList l l'
 
 pub agrees : Case → Bool
 agrees c =
