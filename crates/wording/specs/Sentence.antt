@@ -3,7 +3,7 @@
 --     Wording, fixed      the fixed words of a sentence: those before the index, and those between index and value
 --     wordings            those of 1, 2, 3 and so on, in this order
 --     otherWording        those of every other number
---     Known k             k is in the table of refusal numbers
+--     lastKnown, Known k  the last number in the table of refusal numbers, and that k is in it
 --     wording k           the words of k
 --     sentenceOf k i v    the sentence of number k, index i and value v
 --     longest             no sentence of a number and an index of 32 bits and a value of 64 bits is longer
@@ -54,8 +54,11 @@ wordings =
 abbrev pub otherWording : Wording
 otherWording = fixed " for place " ": the meaning of this number is unknown here, and the value found is "
 
+abbrev pub lastKnown : ℕ
+lastKnown = 25
+
 abbrev pub Known : ℕ → Type 0
-Known k = (1 ≤ k) × (k ≤ 25)
+Known k = (1 ≤ k) × (k ≤ lastKnown)
 
 unfoldable pub wording : ℕ → Wording
 wording zero = otherWording

@@ -21,7 +21,7 @@ use Rattle.laws.specs.Every.{every}
 use Rattle.laws.specs.EveryLaws.{below-or-not, both, and-both, every-append, every-at}
 use Rattle.decimal.specs.Decimal.{words, decimal, said, digit}
 use Rattle.decimal.specs.DecimalLaws.{NoDigit, decimal-ends, every-decimal, decimal-length, decimal-64, length-said}
-use Rattle.wording.specs.Sentence.{Wording, wordings, Known, wording, sentenceOf, longest}
+use Rattle.wording.specs.Sentence.{Wording, wordings, lastKnown, Known, wording, sentenceOf, longest}
 use Rattle.wording.specs.WordingLaws.{others, between, apart, plain, place-apart, rule-apart, place-plain, rule-plain, place-short, rule-short}
 use Rattle.wording.specs.LetterLaws.{StandsIn, letters, letters-append, letters-decimal, letters-stand, starts, has, stands-has, has-stands, stands-within}
 
@@ -75,7 +75,7 @@ sentence-letters k i v = simp (letters-append, letters-decimal, append-nil)
 pub known-not-unknown : (k i v : ℕ) → Known k → StandsIn (words "unknown") (sentenceOf k i v) → ⊥
 unfolding words wording wordings first letters digit starts has bare
 known-not-unknown k i v h s =
-    let none = between (λ w. not (has (words "unknown") (bare w))) 1 25 tt k (h .0) (omega arith) in
+    let none = between (λ w. not (has (words "unknown") (bare w))) 1 lastKnown tt k (h .0) (omega arith) in
     let there : StandsIn (words "unknown") (bare (wording k)) = rw sentence-letters at (letters-stand (words "unknown") (sentenceOf k i v) refl s) in
     false≢true (sym (not-true _ none) ∙ stands-has (words "unknown") (bare (wording k)) there)
 

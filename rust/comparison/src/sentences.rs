@@ -32,9 +32,8 @@ fn check(told: Told, sentence: &str) {
     assert_eq!(stop, sentence.len().checked_sub(1), "its full stop: {sentence:?}");
     assert!(sentence.len() <= LONGEST_SENTENCE, "too long: {sentence:?}");
     assert_eq!(read(sentence), Some(told), "its numbers: {sentence:?}");
-    let has_word = sentence.split([' ', ':', ',', '.']).any(|word| word == "unknown");
     let known = (1..=LAST_NUMBER).contains(&told.0);
-    assert_eq!(has_word, !known, "the word unknown: {sentence:?}");
+    assert_eq!(sentence.contains("unknown"), !known, "the word unknown: {sentence:?}");
 }
 
 /// Number, index and value read back: the first two numbers of a sentence and its last.
