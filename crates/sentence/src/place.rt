@@ -5,6 +5,7 @@ ghost use lib.ListN.{length};
 ghost use Rattle.decimal.specs.Decimal.{Stored};
 ghost use Rattle.wording.specs.Sentence.{wording};
 
+// The words of a number, from `at` on: "a match over refusal numbers, with ranges for those that name a loop".
 pub fn put_place(out: &mut [u8], at: usize, number: u32) -> usize
     requires { ⌜ at + 16 ≤ length (now out) ⌝ }
     ensures { λ r. ⌜ Stored (now (out .entry)) at (wording number .place) r (now (out .exit)) ⌝ }

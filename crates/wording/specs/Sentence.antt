@@ -20,7 +20,7 @@ pub record Wording : Type 0 where
 abbrev pub fixed : String → String → Wording
 fixed place rule = record { place = words place; rule = words rule }
 
--- document 01's numbers, and 25. Where document 01 gives no index, 0 is where the count begins
+-- document 01's numbers, and 25: what the index counts, and what would be right. Where document 01 gives no index, 0 is where the count begins
 unfoldable pub wordings : List Wording
 wordings =
     fixed " for byte " ": the edition must be 1, not "
@@ -50,10 +50,11 @@ wordings =
     ∷ fixed " for byte " " onwards: the buffer lent for a sentence must be at least as long as the sentence, for which 256 bytes are always enough, not "
     ∷ []
 
--- "A number outside the table, which 25 and each later number joins, gets a sentence with the word `unknown`"
+-- "A number outside the table … gets a sentence with the word `unknown`"
 abbrev pub otherWording : Wording
 otherWording = fixed " for place " ": the meaning of this number is unknown here, and the value found is "
 
+-- "the table, which 25 and each later number joins"
 abbrev pub lastKnown : ℕ
 lastKnown = 25
 
@@ -64,8 +65,10 @@ unfoldable pub wording : ℕ → Wording
 wording zero = otherWording
 wording (suc j) = getD wordings j otherWording
 
+-- number, index and value, each behind its words: `Refusal 7 for loop 1: its budget must be at least 1 tick and at most its separation, not 11.`
 unfoldable pub sentenceOf : ℕ → ℕ → ℕ → List ℕ
 sentenceOf k i v = said (words "Refusal ") k ++ said (wording k .place) i ++ said (wording k .rule) v ++ words "."
 
+-- what a caller lends who wants every sentence
 abbrev pub longest : ℕ
 longest = 256

@@ -1,5 +1,5 @@
 -- Sentences as theorems of the definition. Document 02 leaves the wording free, so their texts are ours; the refusals are those of document 01's tables.
---     Told, cases     a refusal and its sentence: P1 with the second budget 11, P4, a log tick that is too large, and a number that is not in the table
+--     Case, cases     a refusal and its sentence: P1 with the second budget 11, P4, a log tick that is too large, and a number that is not in the table
 --     tells           whether the definition says that sentence
 --     worked          it does in every case
 use Prim.Native.Nat.{ℕ}
@@ -11,27 +11,27 @@ use Rattle.laws.specs.Every.{sameList}
 use Rattle.decimal.specs.Decimal.{words, digitsIn, decimal, said}
 use Rattle.wording.specs.Sentence.{wordings, wording, sentenceOf}
 
-pub record Told : Type 0 where
+pub record Case : Type 0 where
   pub number : ℕ
   pub index : ℕ
   pub value : ℕ
   pub text : String
 
-abbrev told : ℕ → ℕ → ℕ → String → Told
-told k i v s = record { number = k; index = i; value = v; text = s }
+abbrev refused : ℕ → ℕ → ℕ → String → Case
+refused k i v s = record { number = k; index = i; value = v; text = s }
 
-pub cases : List Told
+pub cases : List Case
 cases =
-    told 7 1 11 "Refusal 7 for loop 1: its budget must be at least 1 tick and at most its separation, not 11."
-    ∷ told 12 0 5 "Refusal 12 for loop 0: its slack must be compliant if it is offered and the smallest that is compliant if it is found, not 5."
-    ∷ told 15 12 1000000001 "Refusal 15 for entry 12: its tick must be at most 1,000,000,000, not 1000000001."
-    ∷ told 26 0 0 "Refusal 26 for place 0: the meaning of this number is unknown here, and the value found is 0."
+    refused 7 1 11 "Refusal 7 for loop 1: its budget must be at least 1 tick and at most its separation, not 11."
+    ∷ refused 12 0 5 "Refusal 12 for loop 0: its slack must be compliant if it is offered and the smallest that is compliant if it is found, not 5."
+    ∷ refused 15 12 1000000001 "Refusal 15 for entry 12: its tick must be at most 1,000,000,000, not 1000000001."
+    ∷ refused 26 0 0 "Refusal 26 for place 0: the meaning of this number is unknown here, and the value found is 0."
     ∷ []
 
-pub tells : Told → Bool
+pub tells : Case → Bool
 tells c = sameList (sentenceOf (c .number) (c .index) (c .value)) (words (c .text))
 
-pub tellAll : List Told → Bool
+pub tellAll : List Case → Bool
 tellAll [] = true
 tellAll (c ∷ l) = tells c && tellAll l
 
