@@ -26,9 +26,9 @@ use Rattle.laws.specs.SetsLaws.{sets-whole}
 use Rattle.codec.specs.Table.{taskCount, taskSetIn, contentIn, verdict}
 use Rattle.table.specs.Judged.{countedIn, judged}
 use Rattle.table.specs.NamesLaws.{names-count, names-first}
-use Rattle.sentence.specs.declared.Composed.{Composed}
-use Rattle.sentence.specs.declared.Composed.the-variants.{Length, Refused as NotComposed}
-use Rattle.sentence.specs.Told.{answerOfComposed, lengthOfComposed, sentenceTest, sentenceLength}
+use Rattle.wording.specs.declared.Composed.{Composed}
+use Rattle.wording.specs.declared.Composed.the-variants.{Length, Refused as NotComposed}
+use Rattle.wording.specs.Told.{answerOfComposed, lengthOfComposed, sentenceTest, sentenceLength}
 use Rattle.replay.specs.declared.run.Ran.{Ran}
 use Rattle.replay.specs.Ran.{runTest, ranOf}
 use Rattle.dahomike.specs.Answers.{answerNumber, judgeTest, judgeNumber, reportBytes, judgeLeaves, countedTest, countedNumber, countedLeaves, runNumber, sentenceNumber, boundIn, pairOf, Reportable}

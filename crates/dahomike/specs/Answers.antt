@@ -7,7 +7,7 @@
 --     countedTest     1 to 13, and then 24 of the names
 --     countedNumber, countedLeaves    how many names, and the lent buffer afterwards
 --     runNumber       the log run's answer; what it leaves behind is replay's `runLeaves`
---     sentenceNumber  the answer of the sentence; what it leaves behind is sentence's `sentenceLeaves`
+--     sentenceNumber  the answer of the sentence; what it leaves behind is wording's `sentenceLeaves`
 --     pairOf, Reportable    one task's eight bytes from a plan, and what the plan keeps to so that they fit
 use Prim.Native.Nat.{ℕ, _+_, _*_, _≤_, _<_}
 use mathlib.Core.List.{List, [], _∷_, _++_}
@@ -23,7 +23,7 @@ use Rattle.codec.specs.Table.{taskCount, contentIn, verdict}
 use Rattle.table.specs.Judged.{countedIn}
 use Rattle.replay.specs.Ran.{runTest, ranOf}
 use Rattle.wording.specs.Sentence.{sentenceOf}
-use Rattle.sentence.specs.Told.{sentenceTest}
+use Rattle.wording.specs.Told.{sentenceTest}
 
 -- "Each of the two answers one 64-bit number: n for judgement, … and 4,294,967,296 × refusal number + index for a refused call."
 unfoldable pub answerNumber : Answer → ℕ → ℕ

@@ -2,12 +2,12 @@
 use decimal::put_words;
 use numbers::put4;
 use replay::run_log;
-use sentence::Composed;
 use sentence::sentence;
 use table::judge;
 use tasks::Answer;
 use tasks::Plan;
 use tasks::refusal;
+use wording::Composed;
 ghost use mathlib.Core.Path.{_≡_};
 ghost use mathlib.Core.List.{_++_};
 ghost use Prim.Native.Nat.{_+_, _*_, _≤_, _<_};
@@ -16,7 +16,7 @@ ghost use lib.Seq.{sets};
 ghost use Rattle.numbers.specs.Bytes.{digits, entries};
 ghost use Rattle.replay.specs.Ran.{runLeaves};
 ghost use Rattle.dahomike.specs.Answers.{answerNumber, judgeNumber, judgeLeaves, countedNumber, countedLeaves, runNumber, sentenceNumber, pairOf, Reportable};
-ghost use Rattle.sentence.specs.Told.{sentenceLeaves};
+ghost use Rattle.wording.specs.Told.{sentenceLeaves};
 
 // "4,294,967,296 × refusal number + index for a refused call"
 fn refused(answer: Answer) -> u64

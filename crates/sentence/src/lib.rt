@@ -8,20 +8,15 @@ use decimal::put_words;
 use place::put_place;
 use rule::put_rule;
 use tasks::refusal;
+use wording::Composed;
 ghost use mathlib.Core.Path.{_≡_};
 ghost use lib.ListN.{length};
 ghost use Rattle.decimal.specs.Decimal.{Stored};
 ghost use Rattle.wording.specs.Sentence.{sentenceOf};
-ghost use Rattle.sentence.specs.Told.{answerOfComposed, lengthOfComposed, sentenceTest, sentenceLength, sentenceLeaves};
+ghost use Rattle.wording.specs.Told.{answerOfComposed, lengthOfComposed, sentenceTest, sentenceLength, sentenceLeaves};
 
 // A caller who lends so many bytes is never refused.
 pub const LONGEST: usize = 256;
-
-// What comes back: how long the sentence is, or the refusal.
-pub enum Composed {
-    Length(usize),
-    Refused { number: u8, index: u16 },
-}
 
 // The sentence, from the beginning of an array that has room for every one.
 fn compose(text: &mut [u8; LONGEST], number: u32, index: u32, value: u64) -> usize

@@ -1,9 +1,9 @@
 // A sentence's case: what `sentence` answers and what it leaves in the lent buffer.
-use sentence::Composed;
 use test_script::buffer::FILL;
 use test_script::buffer::untouched;
 use test_script::line::front;
 use test_script::say;
+use wording::Composed;
 
 // "later bytes stay", and of a refused call "nothing is written".
 fn say_told(composed: Composed, buffer: &[u8; 300]) {

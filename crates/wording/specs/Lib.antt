@@ -3,3 +3,5 @@ pub mod WordingLaws
 pub mod LetterLaws
 pub mod SentenceTheorems
 pub mod Worked
+pub mod Told
+pub mod ComposeLaws

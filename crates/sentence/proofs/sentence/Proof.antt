@@ -7,7 +7,7 @@ use lib.Seq.{length-take-le}
 use borrow.Author.Needs.{needs}
 use Rattle.wording.specs.Sentence.{sentenceOf}
 use Rattle.wording.specs.SentenceTheorems.{sentence-short}
-use Rattle.sentence.specs.ComposeLaws.{text-length, sentence-refused, sentence-done}
+use Rattle.wording.specs.ComposeLaws.{text-length, sentence-refused, sentence-done}
 use Rattle.sentence.proofs.sentence.Statement.{statement}
 use Rattle.sentence.proofs.sentence.Tie as tie
 

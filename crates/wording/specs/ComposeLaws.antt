@@ -14,9 +14,9 @@ use borrow.Author.Tests.{lt-ltb, le-ltb}
 use Rattle.laws.specs.SetsLaws.{sets-whole}
 use Rattle.tasks.specs.declared.Answer.the-variants.{Accepted, Refused}
 use Rattle.decimal.specs.Decimal.{Stored}
 use Rattle.wording.specs.Sentence.{sentenceOf, longest}
 use Rattle.wording.specs.SentenceTheorems.{sentence-short}
-use Rattle.sentence.specs.Told.{sentenceTest, sentenceLength, sentenceLeaves}
+use Rattle.wording.specs.Told.{sentenceTest, sentenceLength, sentenceLeaves}
 
 module _ (k i v : ℕ) {l text : List ℕ} {n : ℕ} (fits : length (sentenceOf k i v) ≤ length l) (s : Stored l 0 (sentenceOf k i v) n text) where
   length-is : n ≡ length (sentenceOf k i v)

@@ -9,9 +9,9 @@ use lib.Dec.{ltb}
 use Rattle.tasks.specs.declared.Answer.{Answer}
 use Rattle.tasks.specs.declared.Answer.the-variants.{Accepted, Refused}
 use Rattle.tasks.specs.Tests.{refuse, unlessRefused}
 use Rattle.wording.specs.Sentence.{sentenceOf}
-use Rattle.sentence.specs.declared.Composed.{Composed}
-use Rattle.sentence.specs.declared.Composed.the-variants.{Length, Refused as NotComposed}
+use Rattle.wording.specs.declared.Composed.{Composed}
+use Rattle.wording.specs.declared.Composed.the-variants.{Length, Refused as NotComposed}
 
 -- "25 the buffer is too short"
 unfoldable pub sentenceTest : ℕ → ℕ → ℕ → ℕ → Answer
