@@ -93,7 +93,8 @@ uint64_t dahomike_run_log(const uint8_t *table, size_t table_len, const uint8_t 
 /*
  * Tells a refusal in one English sentence, which names the loop, core, log entry or release and says what would be right.
  *
- *     number  the refusal number; a number that is not in the list above gets a sentence with the word `unknown`, and no other has it
+ *     number  the refusal number, 1 to 25; those that no C function answers are told too. Any other number gets a sentence with the word
+ *             `unknown`, and no other sentence has it
  *     index   the index that came with it
  *     value   what was found there, as the separation for 6 or the tick for 15; docs/REFUSALS.md says which. 0 where none is meant
  *     out     the sentence: ASCII, no line break, no 0 at its end; it ends with its one full stop. Bytes beyond it stay
