@@ -15,3 +15,5 @@ pub mod LargestLaws
 pub mod SetsLaws
 pub mod Every
 pub mod EveryLaws
+pub mod Settle
+pub mod SettleLaws

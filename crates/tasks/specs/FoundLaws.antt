@@ -4,65 +4,42 @@
 --     found-only, found-unique         no other slack is compliant and least: by loops, and as a list
 --     found-still           the search's slack is the found one where a turn changes nothing: by loops, and by `same`
 --     found-array                      so a longer array with zeros after it is the found slack's row
-use Prim.Native.Nat.{ℕ, zero, suc, _+_, _*_, _≤_, _<_}
+use Prim.Native.Nat.{ℕ, _≤_, _<_}
 use mathlib.Core.Path.{_≡_, refl, sym, _∙_}
 use mathlib.Core.Bool.{Bool, true, false}
 use mathlib.Core.List.{List}
-use native.Mathlib.Nat.{le-antisymm}
+use native.Mathlib.Nat.{le-of-eq, le-antisymm}
 use native.Mathlib.Omega.{arith}
-use lib.ListN.{length, getD, length-replicate, getD-replicate, List·getD-eq-default}
+use lib.ListN.{length, getD, List·getD-eq-default}
 use lib.Seq.{ext-getD}
 use lib.Dec.{ltb}
 use borrow.Author.Tests.{ltb-true, ltb-false}
-use Rattle.laws.specs.Sum.{sum}
 use Rattle.laws.specs.Tab.{tab}
 use Rattle.laws.specs.TabLaws.{ext-tab}
-use Rattle.tasks.specs.TaskSet.{TaskSet, Compliant, row, raise, same, unless, settle, found}
+use Rattle.laws.specs.SettleLaws.{Settled, settled}
+use Rattle.tasks.specs.TaskSet.{TaskSet, amount, Compliant, needed, row, raise, ceiling, found}
 use Rattle.tasks.specs.Limits.{Limits}
-use Rattle.tasks.specs.RisingLaws.{Raised, Rising, raise-row, raise-length, same-true, same-false, rising-start, rising-step, rising-sum, rising-more, still-compliant}
-
--- slack on the way that a turn leaves as it is
-record Settled (s : TaskSet) (x : List ℕ) : Type 0 where
-  rising : Rising s (row x)
-  compliant : Compliant s (row x)
-  long : length x ≡ s .count
+use Rattle.tasks.specs.AmountLaws.{amount-mono}
+use Rattle.tasks.specs.SlackLaws.{needed-mono, compliant-needed, needed-compliant}
+use Rattle.tasks.specs.CeilingLaws.{ceiling-compliant}
+use Rattle.tasks.specs.RisingLaws.{Raised, Rising, still-compliant}
 
 module _ (s : TaskSet) (L : Limits s) where
-  -- enough turns are left to reach the ceiling
-  settled :
-      (f : ℕ) (x : List ℕ) → Rising s (row x) → length x ≡ s .count → s .count * 800000 < f + sum (row x) (s .count)
-      → Settled s (settle s f x)
-  unfolding settle
-  settled zero x r l h = absurd (omega (arith, rising-sum s L (row x) r))
-  settled (suc f) x r l h =
-      go (same s x (raise s x)) refl
-      (settled f (raise s x) (rising-step s L (row x) (row (raise s x)) r (raise-row s x)) (raise-length s x))
-    where
-      go :
-          (b : Bool) → same s x (raise s x) ≡ b
-          → (s .count * 800000 < f + sum (row (raise s x)) (s .count) → Settled s (settle s f (raise s x)))
-          → Settled s (unless b (settle s f) x (raise s x))
-      go true e rest =
-          record {
-            rising = r;
-            compliant = still-compliant s L (row x) (row (raise s x)) (raise-row s x) (same-true s x (raise s x) e);
-            long = l;
-          }
-      go false e rest =
-          let c = same-false s x (raise s x) e in
-          rest (omega (arith, rising-more s L (row x) (row (raise s x)) r (raise-row s x) (c .0) (c .1) (c .2)))
-
-  found-settled : Settled s (found s)
-  unfolding found row
+  found-settled : Settled (λ x. needed s (amount s x)) (s .count) (found s)
+  unfolding found raise row
   found-settled =
-      settled _ _ (rising-start s _ (λ k h. getD-replicate (s .count) k _ 0 h)) (length-replicate (s .count) _) (omega arith)
+      settled (λ x. needed s (amount s x)) (s .count) ceiling
+      (λ x y h k l. needed-mono s L _ _ k (amount-mono s x y h))
+      (compliant-needed s L (λ i. ceiling) (ceiling-compliant s L))
 
   pub found-compliant : Compliant s (row (found s))
-  found-compliant = found-settled .compliant
+  unfolding row
+  found-compliant = needed-compliant s L (row (found s)) (λ k h. le-of-eq (found-settled .still k h))
 
   -- "no larger at any loop than any other"
   pub found-least : (y : ℕ → ℕ) → Compliant s y → (k : ℕ) → k < s .count → row (found s) k ≤ y k
-  found-least = found-settled .rising .least
+  unfolding row
+  found-least y c = found-settled .least y (compliant-needed s L y c)
 
   pub found-length : length (found s) ≡ s .count
   found-length = found-settled .long

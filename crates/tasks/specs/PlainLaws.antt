@@ -2,12 +2,12 @@
 --     plain-multiple, plain-shares      9 and 10 of a task set,
 --     plain-counted                     the tasks counted at a slack, and
 --     plain-compliant, plain-found      12 of offered slack and the found slack, are those of its plain tasks
-use Prim.Native.Nat.{ℕ, zero, suc, _*_}
-use mathlib.Core.Path.{_≡_, refl}
-use mathlib.Core.Bool.{Bool, true, false}
+use Prim.Native.Nat.{ℕ, suc, _*_}
+use mathlib.Core.Path.{_≡_, refl, ap, fun-ext}
 use mathlib.Core.List.{List}
 use lib.ListN.{replicate}
-use Rattle.tasks.specs.TaskSet.{TaskSet, plain, hyperperiod, share, weight, surplus, counted, amount, cover, covers, needed, raise, same, unless, settle, ceiling, found}
+use Rattle.laws.specs.Settle.{settle}
+use Rattle.tasks.specs.TaskSet.{TaskSet, plain, hyperperiod, share, weight, surplus, counted, amount, cover, covers, needed, raise, ceiling, found}
 use Rattle.tasks.specs.Tests.{badMultiple, badShares, compliantTest}
 
 module _ (s : TaskSet) where
@@ -31,22 +31,6 @@ module _ (s : TaskSet) where
   unfolding plain hyperperiod share weight surplus counted amount needed raise
   raise-plain x = refl
 
-  same-plain : (x y : List ℕ) → same (plain s) x y ≡ same s x y
-  unfolding plain same
-  same-plain x y = refl
-
-  settle-plain : (f : ℕ) (x : List ℕ) → settle (plain s) f x ≡ settle s f x
-  unfolding settle
-  settle-plain zero x = refl
-  settle-plain (suc f) x =
-      rw (raise-plain x, same-plain x (raise s x)) (go (same s x (raise s x)) (settle-plain f (raise s x)))
-    where
-      go :
-          (b : Bool) → settle (plain s) f (raise s x) ≡ settle s f (raise s x)
-          → unless b (settle (plain s) f) x (raise s x) ≡ unless b (settle s f) x (raise s x)
-      go true e = refl
-      go false e = e
-
   pub plain-found : found (plain s) ≡ found s
   unfolding plain found
-  plain-found = settle-plain (suc (s .count * ceiling)) (replicate (s .count) 0)
+  plain-found = ap (λ (g : List ℕ → List ℕ). settle g (s .count) (suc (s .count * ceiling)) (replicate (s .count) 0)) (fun-ext raise-plain)

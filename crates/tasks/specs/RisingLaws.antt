@@ -1,6 +1,5 @@
 -- The slack on its way from zeros, for the search: each turn raises it, no compliant slack is below it, and it comes nearer to the ceiling.
---     Raised                what a turn makes of a slack; raise-row, raise-length: `raise` does that
---     same-true, same-false     whether a turn changed nothing, by loops
+--     Raised                what a turn makes of a slack
 --     Rising                what holds of every slack on the way: the next turn takes nothing off it, and no compliant slack is below it
 --     rising-start          zeros
 --     rising-step           what a turn makes of it
@@ -11,21 +10,12 @@
 --     still-compliant       slack that a turn leaves as it is is compliant
 use Prim.Native.Nat.{ℕ, _-_, _*_, _≤_, _<_}
 use mathlib.Core.Path.{_≡_, refl}
-use mathlib.Core.Bool.{Bool, true, false, not}
-use mathlib.Core.List.{List}
 use mathlib.Core.Logic.{_≢_}
 use native.Mathlib.Nat.{le-trans}
 use native.Mathlib.Omega.{arith}
-use lib.ListN.{length}
-use lib.Dec.{eqb}
-use lib.Arith.{lt-of-le-ne}
-use borrow.Author.Tests.{eqb-true, eqb-false, not-true, not-false}
-use Rattle.laws.specs.First.{first}
-use Rattle.laws.specs.FirstLaws.{first-le, first-holds, first-none}
 use Rattle.laws.specs.Sum.{sum}
 use Rattle.laws.specs.SumLaws.{sum-less, sum-le-mul}
-use Rattle.laws.specs.TabLaws.{getD-tab, length-tab}
-use Rattle.tasks.specs.TaskSet.{TaskSet, amount, Compliant, needed, row, raise, same, ceiling}
+use Rattle.tasks.specs.TaskSet.{TaskSet, amount, Compliant, needed, ceiling}
 use Rattle.tasks.specs.Limits.{Limits}
 use Rattle.tasks.specs.AmountLaws.{amount-mono}
 use Rattle.tasks.specs.SlackLaws.{needed-mono, compliant-needed, needed-compliant}
@@ -34,27 +24,6 @@ use Rattle.tasks.specs.CeilingLaws.{ceiling-compliant}
 -- y is x raised once
 unfoldable pub Raised : TaskSet → (ℕ → ℕ) → (ℕ → ℕ) → Type 0
 Raised s x y = (k : ℕ) → k < s .count → y k ≡ needed s (amount s x) k
-
-module _ (s : TaskSet) where
-  pub raise-row : (x : List ℕ) → Raised s (row x) (row (raise s x))
-  unfolding Raised row raise
-  raise-row x k h = getD-tab _ (s .count) k 0 h
-
-  pub raise-length : (x : List ℕ) → length (raise s x) ≡ s .count
-  unfolding raise
-  raise-length x = length-tab _ (s .count)
-
-  module _ (x y : List ℕ) where
-    pub same-true : same s x y ≡ true → (k : ℕ) → k < s .count → row x k ≡ row y k
-    unfolding same
-    same-true e k h = eqb-true _ _ (not-false _ (first-none _ (s .count) (eqb-true _ _ e) k h))
-
-    pub same-false : same s x y ≡ false → (k : ℕ) × (k < s .count) × (row x k ≢ row y k)
-    unfolding same
-    same-false e =
-        let p : ℕ → Bool = λ k. not (eqb (row x k) (row y k)) in
-        let h : first p (s .count) < s .count = lt-of-le-ne (first-le p (s .count)) (eqb-false _ _ e) in
-        (first p (s .count), h, eqb-false _ _ (not-true _ (first-holds p (s .count) h)))
 
 pub record Rising (s : TaskSet) (x : ℕ → ℕ) : Type 0 where
   pub rises : (k : ℕ) → k < s .count → x k ≤ needed s (amount s x) k

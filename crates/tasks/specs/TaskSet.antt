@@ -8,16 +8,16 @@
 --     Compliant, covers         the condition, for all tasks and as a test of one
 --     raise, found              the slack raised once, and raised from zeros until nothing changes
 --     boundOf, bound, late      counted from release, of one task and of a set's, and from the priority point
-use Prim.Native.Nat.{ℕ, zero, suc, _+_, _-_, _*_, _/_, _≤_, _<_}
-use mathlib.Core.Bool.{Bool, true, false, not}
+use Prim.Native.Nat.{ℕ, suc, _+_, _-_, _*_, _/_, _≤_, _<_}
+use mathlib.Core.Bool.{Bool}
 use mathlib.Core.List.{List}
 use lib.ListN.{getD, replicate}
-use lib.Dec.{leb, eqb}
-use Rattle.laws.specs.First.{first}
+use lib.Dec.{leb}
 use Rattle.laws.specs.Sum.{sum, sumOver}
 use Rattle.laws.specs.Tab.{tab}
 use Rattle.laws.specs.Rank.{largest}
 use Rattle.laws.specs.Multiple.{lcmBelow}
+use Rattle.laws.specs.Settle.{settle}
 use Rattle.tasks.specs.declared.Task.{Task}
 
 pub record TaskSet : Type 0 where
@@ -87,27 +87,13 @@ row l i = getD l i 0
 unfoldable pub raise : TaskSet → List ℕ → List ℕ
 raise s x = tab (needed s (amount s (row x))) (s .count)
 
--- whether two slacks agree at every loop
-unfoldable pub same : TaskSet → List ℕ → List ℕ → Bool
-same s x y = eqb (first (λ k. not (eqb (row x k) (row y k))) (s .count)) (s .count)
-
--- x where nothing changed, else what g makes of the raised y
-abbrev pub unless : Bool → (List ℕ → List ℕ) → List ℕ → List ℕ → List ℕ
-unless true g x y = x
-unless false g x y = g y
-
--- raised until nothing changes, at most so many times
-unfoldable pub settle : TaskSet → ℕ → List ℕ → List ℕ
-settle s zero x = x
-settle s (suc f) x = unless (same s x (raise s x)) (settle s f) x (raise s x)
-
 -- no table that passes 3 to 10 needs more slack than this at a loop
 abbrev pub ceiling : ℕ
 ceiling = 800000
 
 -- "starting at zeros, the vector is raised until nothing changes"
 unfoldable pub found : TaskSet → List ℕ
-found s = settle s (suc (s .count * ceiling)) (replicate (s .count) 0)
+found s = settle (raise s) (s .count) (suc (s .count * ceiling)) (replicate (s .count) 0)
 
 -- "The bound of a loop is Y + x + C, counted from release."
 abbrev pub boundOf : Task → ℕ → ℕ

@@ -85,6 +85,10 @@ badBudget t = outside 1 (t .separation) (t .budget)
 abbrev pub badOffset : Task → Bool
 badOffset t = ltb (t .separation) (t .offset)
 
+-- 26: "W is not C to 16 × T", of a task of a wish sheet, which has "the wished bound W in the offset's place"
+abbrev pub badWish : Task → Bool
+badWish t = outside (t .budget) (16 * t .separation) (t .offset)
+
 -- 9: "H is above 1,000,000."
 abbrev pub badMultiple : TaskSet → Bool
 badMultiple s = ltb multipleHigh (hyperperiod s)

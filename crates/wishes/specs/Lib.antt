@@ -1,0 +1,3 @@
+pub mod Wish
+pub mod WishLaws
+pub mod WishTheorems

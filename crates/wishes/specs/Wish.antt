@@ -1,0 +1,89 @@
+-- Document 02, §3, "Offsets from wished responses". A wish sheet's tasks have "the wished bound W in the offset's place".
+--     room                     W − C: what a task's wish leaves for its offset and slack together
+--     withOffsets              the tasks with these offsets in the wishes' place
+--     Solution                 offsets and slack that keep every wish
+--     largestOffset, atSlack      the largest offset that a slack leaves, and the sheet's tasks with these
+--     wished                   the slack raised from zeros, each time with the largest offsets that it leaves
+--     passes                   whether a slack leaves a task less than its budget
+--     noSolution               whether the wished slack does so at some task
+--     wishTests                the tests of what a sheet says, in their order
+--     solved                   the content that is found
+use Prim.Native.Nat.{ℕ, suc, _-_, _*_, _≤_, _<_, min}
+use mathlib.Core.Bool.{Bool, not}
+use mathlib.Core.List.{List, [], _∷_}
+use lib.Dec.{ltb, eqb}
+use lib.ListN.{replicate}
+use Rattle.laws.specs.First.{first}
+use Rattle.laws.specs.Settle.{settle}
+use Rattle.tasks.specs.declared.Task.{Task}
+use Rattle.tasks.specs.declared.Answer.{Answer}
+use Rattle.tasks.specs.TaskSet.{TaskSet, Compliant, raise, ceiling, bound, row}
+use Rattle.tasks.specs.Content.{Content}
+use Rattle.tasks.specs.Tests.{refuse, lowest, firstMet, badWish, test3, test4, test5, test6, test7, test9, test10}
+
+abbrev pub room : Task → ℕ
+room t = t .offset - t .budget
+
+-- a sheet's tasks with offsets in the wishes' place
+unfoldable pub withOffsets : TaskSet → (ℕ → ℕ) → TaskSet
+withOffsets s y =
+    record {
+      cores = s .cores;
+      count = s .count;
+      task = λ i. record { separation = s .task i .separation; budget = s .task i .budget; offset = y i };
+    }
+
+-- "Find whole offsets 0 to T and compliant whole slack with Y + x + C at most W for every loop"
+pub record Solution (s : TaskSet) (y x : ℕ → ℕ) : Type 0 where
+  pub offsets : (i : ℕ) → i < s .count → y i ≤ s .task i .separation
+  pub compliant : Compliant (withOffsets s y) x
+  pub kept : (i : ℕ) → i < s .count → bound (withOffsets s y) x i ≤ s .task i .offset
+
+-- the smaller of T and W − C − x
+unfoldable pub largestOffset : Task → ℕ → ℕ
+largestOffset t x = min (t .separation) (room t - x)
+
+unfoldable pub atSlack : TaskSet → (ℕ → ℕ) → TaskSet
+atSlack s x = withOffsets s (λ i. largestOffset (s .task i) (x i))
+
+-- "The slack is the least and each offset the largest of all solutions": slack raised from zeros until nothing changes, the offsets
+-- as large as it leaves them
+unfoldable pub wished : TaskSet → List ℕ
+wished s = settle (λ x. raise (atSlack s (row x)) x) (s .count) (suc (s .count * ceiling)) (replicate (s .count) 0)
+
+-- whether slack x is above W − C at task k, so that no offset is left
+unfoldable pub passes : TaskSet → (ℕ → ℕ) → ℕ → Bool
+passes s x k = ltb (room (s .task k)) (x k)
+
+-- 27: "no solution exists"
+unfoldable pub noSolution : TaskSet → Bool
+noSolution s = ltb (first (passes s (row (wished s))) (s .count)) (s .count)
+
+module _ (c : Content) where
+  -- 26, "tested where 8 was"
+  unfoldable pub test26 : Answer
+  test26 = lowest 26 (λ i. badWish (c .tasks .task i)) (c .tasks .count)
+
+  -- "11 meets any slack count but 0"
+  unfoldable pub sheet11 : Answer
+  sheet11 = refuse 11 (not (eqb (c .offers) 0))
+
+  -- 27, "tested last"
+  unfoldable pub test27 : Answer
+  test27 = refuse 27 (noSolution (c .tasks))
+
+  -- "Numbers 8, 12 and 13 don't arise on a sheet"
+  unfoldable pub wishTests : Answer
+  wishTests =
+      firstMet
+      (test3 c ∷ test4 c ∷ test5 c ∷ test6 c ∷ test7 c ∷ test26 ∷ test9 c ∷ test10 c ∷ sheet11 ∷ test27 ∷ [])
+
+  -- the wished slack and the offsets that it leaves, marked as found
+  unfoldable pub solved : Content
+  solved =
+      record {
+        tasks = atSlack (c .tasks) (row (wished (c .tasks)));
+        label = c .label;
+        offers = 0;
+        slack = row (wished (c .tasks));
+      }
