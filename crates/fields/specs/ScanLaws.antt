@@ -4,7 +4,8 @@
 --     metAt              the first number that an index meets
 --     Rising             numbers that rise, all below `nothing`
 --     scan-more          the scan of rising numbers, one index more
---     fields-none, fields-lower, fields-kept    6, 7 and 8 of no task, of one more that meets a lower number, and of one that doesn't
+--     rangeTests         6, 7 and 8, or 26 on a wish sheet; range-scan: their scan
+--     range-none, range-lower, range-kept    of no task, of one more that meets a lower number, and of one that doesn't
 --     seen-none, seen-some    what is kept, by whether a number is
 use Prim.Native.Nat.{ℕ, _+_, _<_, _≤_}
 use mathlib.Core.Path.{_≡_, refl, sym, ap, _∙_}
@@ -18,10 +19,10 @@ use Rattle.laws.specs.First.{first}
 use Rattle.laws.specs.FirstLaws.{first-or-none, none-more, found-at, found-stays}
 use Rattle.tasks.specs.declared.Answer.{Answer}
 use Rattle.tasks.specs.declared.Answer.the-variants.{Accepted, Refused}
-use Rattle.tasks.specs.Tests.{refuseAt, lowest, orNext, firstMet, numberOf, indexOf, badSeparation, badBudget, badOffset}
+use Rattle.tasks.specs.Tests.{refuseAt, lowest, orNext, firstMet, numberOf, indexOf, badSeparation, badBudget, badOffset, badWish}
 use Rattle.tasks.specs.declared.Task.{Task}
 use Rattle.tasks.specs.AnswerLaws.{lowest-found, lowest-none}
-use Rattle.fields.specs.Stages.{nothing, metBy, fieldsTest}
+use Rattle.fields.specs.Stages.{nothing, metBy, fieldsTest, wishesTest}
 
 unfoldable pub seen : ℕ → ℕ → Answer
 seen k i = cond (eqb k nothing) Accepted (Refused k i)
@@ -135,24 +136,58 @@ module _ (n k i : ℕ) where
           (sym (seen-some (t .0) n (λ z. omega (arith, z, below-nothing (t .0) l (r .1)))))
       go rest Accepted q false p = rw (lowest-more (t .0) (t .1) n, q, p) (rest (rw q at e))
 
-module _ (task : ℕ → Task) where
-  rangeTests : List (ℕ × (ℕ → Bool))
-  rangeTests =
-      (6, λ i. badSeparation (task i)) ∷ (7, λ i. badBudget (task i)) ∷ (8, λ i. badOffset (task i)) ∷ []
+-- the last of the three tests, with its number
+abbrev lastTest : Bool → (ℕ → Task) → ℕ × (ℕ → Bool)
+lastTest true task = (26, λ i. badWish (task i))
+lastTest false task = (8, λ i. badOffset (task i))
 
-  pub fields-none : fieldsTest task 0 ≡ seen nothing 0
-  unfolding fieldsTest firstMet seen lowest first
-  fields-none = refl
+pub rangeTests : Bool → (ℕ → Task) → List (ℕ × (ℕ → Bool))
+rangeTests wishes task =
+    (6, λ i. badSeparation (task i)) ∷ (7, λ i. badBudget (task i)) ∷ lastTest wishes task ∷ []
 
-  module _ (n k i : ℕ) (e : fieldsTest task n ≡ seen k i) where
-    more : fieldsTest task (n + 1) ≡ cond (ltb (metBy (task n)) k) (seen (metBy (task n)) n) (seen k i)
-    unfolding fieldsTest firstMet metBy scan metAt Rising rangeTests
-    more = scan-more n k i 0 rangeTests (omega arith, (omega arith, (omega arith, omega arith))) e
+pub scan-fields : (task : ℕ → Task) (n : ℕ) → scan (rangeTests false task) n ≡ fieldsTest task n
+unfolding scan rangeTests fieldsTest firstMet
+scan-fields task n = refl
+
+pub scan-wishes : (task : ℕ → Task) (n : ℕ) → scan (rangeTests true task) n ≡ wishesTest task n
+unfolding scan rangeTests wishesTest firstMet
+scan-wishes task n = refl
+
+module _ (wishes : Bool) (task : ℕ → Task) where
+  pub range-none : scan (rangeTests wishes task) 0 ≡ seen nothing 0
+  unfolding scan rangeTests seen lowest first
+  range-none = last wishes
+    where
+      last : (b : Bool) → scan (rangeTests b task) 0 ≡ seen nothing 0
+      last true = refl
+      last false = refl
+
+  met-at : (n : ℕ) → metAt (rangeTests wishes task) n ≡ metBy wishes (task n)
+  unfolding metAt rangeTests metBy
+  met-at n = last wishes
+    where
+      last : (b : Bool) → metAt (rangeTests b task) n ≡ metBy b (task n)
+      last true = refl
+      last false = refl
+
+  rising : Rising 0 (rangeTests wishes task)
+  unfolding rangeTests Rising
+  rising = last wishes
+    where
+      last : (b : Bool) → Rising 0 (rangeTests b task)
+      last true = (omega arith, (omega arith, (omega arith, omega arith)))
+      last false = (omega arith, (omega arith, (omega arith, omega arith)))
+
+  module _ (n k i : ℕ) (e : scan (rangeTests wishes task) n ≡ seen k i) where
+    more :
+        scan (rangeTests wishes task) (n + 1)
+        ≡ cond (ltb (metBy wishes (task n)) k) (seen (metBy wishes (task n)) n) (seen k i)
+    more = rw (← met-at n) (scan-more n k i 0 (rangeTests wishes task) rising e)
 
     -- q is the task's number, and k′ and i′ are kept from now on
-    module _ {q k′ i′ : ℕ} (m : q ≡ metBy (task n)) where
-      pub fields-lower : q < k → k′ ≡ q → i′ ≡ n → fieldsTest task (n + 1) ≡ seen k′ i′
-      fields-lower h a b = rw (a, b, m) (more ∙ rw (lt-ltb (metBy (task n)) k (rw m at h)))
+    module _ {q k′ i′ : ℕ} (m : q ≡ metBy wishes (task n)) where
+      pub range-lower : q < k → k′ ≡ q → i′ ≡ n → scan (rangeTests wishes task) (n + 1) ≡ seen k′ i′
+      range-lower h a b = rw (a, b, m) (more ∙ rw (lt-ltb (metBy wishes (task n)) k (rw m at h)))
 
-      pub fields-kept : k ≤ q → k′ ≡ k → i′ ≡ i → fieldsTest task (n + 1) ≡ seen k′ i′
-      fields-kept h a b = rw (a, b) (more ∙ rw (le-ltb (metBy (task n)) k (rw m at h)))
+      pub range-kept : k ≤ q → k′ ≡ k → i′ ≡ i → scan (rangeTests wishes task) (n + 1) ≡ seen k′ i′
+      range-kept h a b = rw (a, b) (more ∙ rw (le-ltb (metBy wishes (task n)) k (rw m at h)))

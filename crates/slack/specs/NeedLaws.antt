@@ -1,24 +1,20 @@
 -- The least slack of a task without a division of its own: A is divided by H once, and what is needed and each budget by the number of cores.
---     need-covers, need-least    ⌈a / h⌉ is the least v with a ≤ h × v
+--     need-covers, need-least    ⌈a / h⌉ is the least v with a ≤ h × v; need-times: h × v needs v
 --     lifted-enough              the lifted slack is enough
 --     lifted-least               and the least that is
---     needed-lifted              so it is the slack that the definition raises to
+--     needed-lifted              so it is the slack that the definition raises to; lifted-needed: of any number
 use Prim.Native.Nat.{ℕ, _+_, _*_, _-_, _/_, _%_, _≤_, _<_}
-use mathlib.Core.Path.{_≡_, refl}
+use mathlib.Core.Path.{_≡_, refl, sym}
 use mathlib.Core.Bool.{Bool, true, false, cond}
 use native.Mathlib.Omega.{arith}
-use native.Mathlib.Nat.{mul-comm, mul-le-mul-left, le-antisymm, lt-of-mul-lt-mul-left, div-add-mod, mod-lt, div-lt-iff-lt-mul, le-of-suc-le-suc}
+use native.Mathlib.Nat.{mul-comm, mul-le-mul-left, le-antisymm, le-of-mul-le-mul-left, lt-of-mul-lt-mul-left, div-add-mod, mod-lt, div-lt-iff-lt-mul, le-of-suc-le-suc}
 use lib.Dec.{ltb}
 use borrow.Author.Tests.{ltb-true, ltb-false}
 use Rattle.tasks.specs.TaskSet.{TaskSet, hyperperiod, needed}
 use Rattle.tasks.specs.Limits.{Limits}
 use Rattle.tasks.specs.ShareLaws.{hyperperiod-low}
 use Rattle.tasks.specs.SlackLaws.{needed-covers, needed-least}
-use Rattle.slack.specs.Arrays.{lifted}
-
--- ⌈a / h⌉
-unfoldable pub need : ℕ → ℕ → ℕ
-need a h = (a + (h - 1)) / h
+use Rattle.slack.specs.Arrays.{lifted, need}
 
 module _ (a h : ℕ) (low : 1 ≤ h) where
   pub need-covers : a ≤ h * need a h
@@ -29,6 +25,11 @@ module _ (a h : ℕ) (low : 1 ≤ h) where
   unfolding need
   need-least v e =
       le-of-suc-le-suc (div-lt-iff-lt-mul low .1 (omega (arith, mul-comm h v)))
+
+pub need-times : (h v : ℕ) → 1 ≤ h → need (h * v) h ≡ v
+need-times h v low =
+    let above = need-covers (h * v) h low in
+    le-antisymm (need-least (h * v) h low v (omega arith)) (le-of-mul-le-mul-left above low)
 
 -- v with m × v + c at least d, where d = m × whole + over and c = m × quotient + rest
 module _ (m whole over quotient rest : ℕ) (o : over < m) (r : rest < m) where
@@ -92,3 +93,9 @@ needed-lifted s L a k d e =
         need-least a (hyperperiod s) (hyperperiod-low s) (m * n + c) (omega (arith, h))
         in
         omega (arith, q, e, div-add-mod d m, div-add-mod c m)
+
+-- so the slack raised by a number d is what H × d needs
+pub lifted-needed :
+    (s : TaskSet) (L : Limits s) (d k : ℕ) →
+    lifted (d / s .cores) (d % s .cores) (s .task k .budget / s .cores) (s .task k .budget % s .cores) ≡ needed s (hyperperiod s * d) k
+lifted-needed s L d k = sym (needed-lifted s L (hyperperiod s * d) k d (sym (need-times (hyperperiod s) d (hyperperiod-low s))))

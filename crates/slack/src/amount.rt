@@ -1,8 +1,11 @@
-// The amount A of a slack.
+// The amount A of a slack, and what it needs.
 use largest::choose;
 use multiple::wide;
-ghost use Prim.Native.Nat.{_<_, _≤_};
+ghost use mathlib.Core.List.{List};
+ghost use Prim.Native.Nat.{ℕ, _<_, _≤_};
+ghost use Rattle.tasks.specs.TaskSet.{TaskSet, row};
 ghost use Rattle.largest.specs.Chosen.{Arranged};
+ghost use Rattle.slack.specs.Arrays.{ArraysOf, Needs};
 ghost use Rattle.slack.specs.Weights.{weightRow, Few, Weighed, Amounts};
 
 // Every weight: share × (x + Y).
@@ -34,4 +37,22 @@ pub fn amount(
 {
     let weight = weigh(share, offset, slack, tasks);
     choose(&weight, names, many, tasks) + surplus
+}
+
+// A divided by H, rounded up: the number by which a search raises the slack.
+pub fn needed(
+    share: &[u64; 16],
+    offset: &[u32; 16],
+    slack: &[u32; 16],
+    names: &mut [u8; 16],
+    multiple: u64,
+    surplus: u64,
+    cores: usize,
+    tasks: usize,
+) -> u32
+    requires { ⌜ ((s : TaskSet) × (b : List ℕ) × ArraysOf s (now share) b (now offset) multiple surplus cores tasks) × Arranged (now names) tasks × ((i : ℕ) → i < tasks → row (now slack) i ≤ 1600000) ⌝ }
+    ensures { λ r. ⌜ ((s : TaskSet) (b : List ℕ) → ArraysOf s (now (share .entry)) b (now (offset .entry)) multiple surplus cores tasks → Needs s (row (now (slack .entry))) (now (names .exit)) r) × Arranged (now (names .exit)) tasks ⌝ }
+{
+    let whole = amount(share, offset, slack, names, surplus, cores - 1, tasks);
+    ((whole + (multiple - 1)) / multiple) as u32
 }

@@ -1,5 +1,5 @@
 // The slack: offered slack tested by document 01's inequality, and slack found by raising zeros until nothing changes.
-use crate::amount::amount;
+use crate::amount::needed;
 use multiple::wide;
 ghost use mathlib.Core.Path.{_≡_};
 ghost use mathlib.Core.Bool.{not};
@@ -35,7 +35,7 @@ pub fn first_uncovered(
 }
 
 // Each budget divided by the number of cores.
-fn quotients(budget: &[u32; 16], cores: u32, tasks: usize) -> [u32; 16]
+pub fn quotients(budget: &[u32; 16], cores: u32, tasks: usize) -> [u32; 16]
     requires { ⌜ (tasks ≤ 16) × (1 ≤ cores) ⌝ }
     ensures { λ r. ⌜ r ≡ tab (cut tasks (λ i. row (now (budget .entry)) i / cores) 0) 16 ⌝ }
 {
@@ -49,7 +49,7 @@ fn quotients(budget: &[u32; 16], cores: u32, tasks: usize) -> [u32; 16]
 }
 
 // What those divisions leave.
-fn remainders(budget: &[u32; 16], cores: u32, tasks: usize) -> [u32; 16]
+pub fn remainders(budget: &[u32; 16], cores: u32, tasks: usize) -> [u32; 16]
     requires { ⌜ (tasks ≤ 16) × (1 ≤ cores) ⌝ }
     ensures { λ r. ⌜ r ≡ tab (cut tasks (λ i. row (now (budget .entry)) i % cores) 0) 16 ⌝ }
 {
@@ -76,7 +76,7 @@ fn lift(whole: u32, over: u32, quotient: u32, rest: u32) -> u32
 }
 
 // Every task's slack set to that; whether one changed.
-fn raise(
+pub fn raise(
     slack: &mut [u32; 16],
     quotient: &[u32; 16],
     rest: &[u32; 16],
@@ -118,11 +118,11 @@ pub fn search(
     let divisor = cores as u32;
     let quotient = quotients(budget, divisor, tasks);
     let rest = remainders(budget, divisor, tasks);
-    let many = cores - 1;
     let mut slack = [0u32; 16];
     loop {
-        let whole = amount(share, offset, &slack, names, surplus, many, tasks);
-        let need = ((whole + (multiple - 1)) / multiple) as u32;
+        let need = needed(
+            share, offset, &slack, names, multiple, surplus, cores, tasks,
+        );
         if !raise(
             &mut slack,
             &quotient,

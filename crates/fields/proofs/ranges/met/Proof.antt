@@ -1,6 +1,8 @@
 -- `fields::ranges::met` meets its contract.
 use mathlib.Core.Path.{sym, _∙_}
 use borrow.Author.Needs.{needs}
+use borrow.Author.Tests.{ltb-false}
+use Rattle.tasks.specs.AnswerLaws.{outside-passed}
 use Rattle.fields.specs.Stages.{metBy}
 use Rattle.fields.proofs.ranges.met.Statement.{statement}
 use Rattle.fields.proofs.ranges.met.Tie as tie
@@ -19,26 +21,18 @@ returns-2 : tie.Need-returns-2
 unfolding metBy
 returns-2 c = rw (sym (c .before .before .before .bad-separation .ensures) ∙ c .before .before .if1 .left, sym (c .before .bad-budget .ensures) ∙ c .if2 .taken)
 
-bad-offset-requires : tie.Need-bad-offset-requires
-bad-offset-requires c κs = search needs
+last-met-requires : tie.Need-last-met-requires
+last-met-requires c κs =
+    outside-passed 1 100000 _ (sym (c .before .before .before .bad-separation .ensures) ∙ c .before .before .if1 .left) .1
 
 returns-3 : tie.Need-returns-3
 unfolding metBy
 returns-3 c =
     rw (
-      sym (c .before .before .before .before .before .bad-separation .ensures) ∙ c .before .before .before .before .if1 .left,
-      sym (c .before .before .before .bad-budget .ensures) ∙ c .before .before .if2 .left,
-      sym (c .before .bad-offset .ensures) ∙ c .if3 .taken,
+      sym (c .before .before .before .before .bad-separation .ensures) ∙ c .before .before .before .if1 .left,
+      sym (c .before .before .bad-budget .ensures) ∙ c .before .if2 .left,
     )
-
-returns-4 : tie.Need-returns-4
-unfolding metBy
-returns-4 c =
-    rw (
-      sym (c .before .before .before .before .before .bad-separation .ensures) ∙ c .before .before .before .before .if1 .left,
-      sym (c .before .before .before .bad-budget .ensures) ∙ c .before .before .if2 .left,
-      sym (c .before .bad-offset .ensures) ∙ c .if3 .left,
-    )
+    (c .last-met .ensures)
 
 pub met-spec : {M : Type 1} → statement M
 met-spec =
@@ -48,6 +42,5 @@ met-spec =
     returns
     bad-budget-requires
     returns-2
-    bad-offset-requires
-    returns-3
-    returns-4)
+    last-met-requires
+    returns-3)
