@@ -1,3 +1,4 @@
 pub mod Wish
 pub mod WishLaws
 pub mod WishTheorems
+pub mod RaisingLaws
