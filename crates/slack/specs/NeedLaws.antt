@@ -3,8 +3,9 @@
 --     lifted-enough              the lifted slack is enough
 --     lifted-least               and the least that is
 --     needed-lifted              so it is the slack that the definition raises to; lifted-needed: of any number
+--     needed-rounded             an amount rounded up to a multiple of H needs no more
 use Prim.Native.Nat.{ℕ, _+_, _*_, _-_, _/_, _%_, _≤_, _<_}
-use mathlib.Core.Path.{_≡_, refl, sym}
+use mathlib.Core.Path.{_≡_, refl, sym, _∙_}
 use mathlib.Core.Bool.{Bool, true, false, cond}
 use native.Mathlib.Omega.{arith}
 use native.Mathlib.Nat.{mul-comm, mul-le-mul-left, le-antisymm, le-of-mul-le-mul-left, lt-of-mul-lt-mul-left, div-add-mod, mod-lt, div-lt-iff-lt-mul, le-of-suc-le-suc}
@@ -99,3 +100,6 @@ pub lifted-needed :
     (s : TaskSet) (L : Limits s) (d k : ℕ) →
     lifted (d / s .cores) (d % s .cores) (s .task k .budget / s .cores) (s .task k .budget % s .cores) ≡ needed s (hyperperiod s * d) k
 lifted-needed s L d k = sym (needed-lifted s L (hyperperiod s * d) k d (sym (need-times (hyperperiod s) d (hyperperiod-low s))))
+
+pub needed-rounded : (s : TaskSet) (L : Limits s) (a k d : ℕ) → d ≡ need a (hyperperiod s) → needed s (hyperperiod s * d) k ≡ needed s a k
+needed-rounded s L a k d e = sym (lifted-needed s L d k) ∙ sym (needed-lifted s L a k d e)

@@ -26,7 +26,7 @@ use Rattle.tasks.specs.FoundLaws.{found-still, found-array}
 use Rattle.slack.specs.RatesLaws.{row-filled}
 use Rattle.slack.specs.Arrays.{lifted, need, upto, ArraysOf}
 use Rattle.slack.specs.ArraysLaws.{upto-below, upto-above}
-use Rattle.slack.specs.NeedLaws.{needed-lifted, lifted-needed}
+use Rattle.slack.specs.NeedLaws.{lifted-needed, needed-rounded}
 
 -- whether the code saw a change
 abbrev pub changes : ℕ → (ℕ → ℕ) → (ℕ → ℕ) → Bool
@@ -95,7 +95,7 @@ module _ {s : TaskSet} {shares budgets offsets : List ℕ} {h surpluses m n : �
       pub turn-raised : Raised s (row x) (row y)
       unfolding Raised
       turn-raised k l =
-          turn-lifted k l ∙ sym (lifted-needed s (g .limits) d k) ∙ sym (needed-lifted s (g .limits) (amount s (row x)) k d ed)
+          turn-lifted k l ∙ needed-rounded s (g .limits) (amount s (row x)) k d ed
 
       pub turn-rising : Rising s (row y)
       turn-rising = rising-step s (g .limits) (row x) (row y) z turn-raised

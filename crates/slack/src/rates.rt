@@ -46,7 +46,12 @@ fn total(share: &[u64; 16], tasks: usize) -> u64
     all
 }
 
-fn surplus_of(share: &[u64; 16], separation: &[u32; 16], offset: &[u32; 16], tasks: usize) -> u64
+pub fn surplus_of(
+    share: &[u64; 16],
+    separation: &[u32; 16],
+    offset: &[u32; 16],
+    tasks: usize,
+) -> u64
     requires { ⌜ (tasks ≤ 16) × ((i : ℕ) → i < tasks → (row (now share) i ≤ 1000000) × (row (now separation) i ≤ 100000) × (row (now offset) i ≤ row (now separation) i)) ⌝ }
     ensures { λ r. ⌜ r ≡ sum (λ i. row (now (share .entry)) i * (row (now (separation .entry)) i - row (now (offset .entry)) i)) tasks ⌝ }
 {

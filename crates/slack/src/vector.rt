@@ -121,7 +121,14 @@ pub fn search(
     let mut slack = [0u32; 16];
     loop {
         let need = needed(
-            share, offset, &slack, names, multiple, surplus, cores, tasks,
+            share,
+            offset,
+            &slack,
+            names,
+            multiple,
+            surplus,
+            cores,
+            tasks,
         );
         if !raise(
             &mut slack,

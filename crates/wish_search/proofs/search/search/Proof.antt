@@ -1,0 +1,136 @@
+-- No solution's slack is below the slack on its way; the names can be handed to the choice again.
+use borrow.Author.Tests.{ltb-true, ltb-false, not-true, not-false}
+use native.Mathlib.Nat.{le-trans, div-le-self}
+use native.Mathlib.Omega.{arith}
+use lib.Dec.{ltb}
+use lib.ListN.{length, getD, replicate, getD-replicate, List·getD-eq-default}
+use mathlib.Core.Bool.{Bool, true, false}
+use mathlib.Core.List.{List}
+use mathlib.Core.Path.{_≡_, refl, sym, _∙_}
+use Prim.Native.Nat.{ℕ, _+_, _-_, _/_, _≤_, _<_}
+use Rattle.laws.specs.First.{first}
+use Rattle.laws.specs.Sum.{sum}
+use Rattle.largest.specs.Chosen.{Arranged}
+use Rattle.tasks.specs.TaskSet.{TaskSet, row}
+use Rattle.slack.specs.SearchLaws.{turn-length, turn-past}
+use Rattle.wishes.specs.RaisingLaws.{Below, below-start}
+use Rattle.wish_search.specs.SheetArrays.{pastRow, SheetOf}
+use Rattle.wish_search.specs.SheetLaws.{cores-low, cores-high, tasks-high, room-high, arrays}
+use Rattle.wish_search.specs.TurnLaws.{within, needs-high, needs-under, turn-below, turn-falls, ended-still, ended-past}
+use Rattle.wish_search.proofs.search.search.Statement.{statement}
+use Rattle.wish_search.proofs.search.search.Tie as tie
+
+zeros : (k : ℕ) → row (replicate 16 0) k ≡ 0
+unfolding row
+zeros k = go (ltb k 16) refl
+  where
+    go : (b : Bool) → ltb k 16 ≡ b → _≡_ {A = ℕ} (getD (replicate 16 0) k 0) 0
+    go true e = getD-replicate 16 k 0 0 (ltb-true k 16 e)
+    go false e = List·getD-eq-default (replicate 16 0) 0 (ltb-false k 16 e)
+
+-- what is needed, divided by the number of cores, fits 32 bits
+fits : (d m : ℕ) → d ≤ 12000000 → 2 ≤ m → d / m ≤ 12000000
+fits d m h l = le-trans (div-le-self d m) h
+
+-- the code saw that no task's slack is above W − C
+not-below : {f a n : ℕ} → a ≡ f → n ≤ a → n ≤ f
+not-below e h = omega arith
+
+low :
+    {s : TaskSet} {shares separations budgets rooms : List ℕ} {h m n : ℕ} (g : SheetOf s shares separations budgets rooms h m n)
+    (x : List ℕ) → Below s (row x) → n ≤ first (pastRow x rooms) n → (i : ℕ) → i < n → row x i ≤ 1600000
+low g x b e i l =
+    let t : i < _ = rw (g .tasks) at l in
+    omega (arith, within g x b e i t, g .room i t, room-high g i l)
+
+abbrev Inv-loop : tie.InvT-loop
+Inv-loop share separation budget room names₀ multiple cores tasks divisor quotient rest slack₀ names slack =
+    (length slack ≡ 16)
+    × ((k : ℕ) → tasks ≤ k → row slack k ≡ 0)
+    × Arranged names tasks
+    × ((s : TaskSet) → SheetOf s share separation budget room multiple cores tasks → Below s (row slack))
+
+abbrev μ-loop : tie.MeasureT-loop
+μ-loop share separation budget room names₀ multiple cores tasks divisor quotient rest slack₀ names slack =
+    sum (row room) tasks + 1 - sum (row slack) tasks
+
+loop-holds : tie.Need-loop-holds Inv-loop μ-loop
+loop-holds c = (refl, λ k l. zeros k, c .before .before .pre .1, λ t k. below-start t (k .sheet .limits) _ (λ i l. zeros i))
+
+needed-at-requires : tie.Need-needed-at-requires Inv-loop μ-loop
+needed-at-requires c κs =
+    let g = c .before .before .before .before .before .before .before .before .pre .0 .1 in
+    let l = c .before .before .before .before .before .loop in
+    let e = not-below (c .before .before .before .first-past .ensures) (c .before .before .if1 .left) in
+    ((_, _, g), l .inv .2, λ i h. low g (l .slack) (l .inv .3 _ g) e i h)
+
+raise-requires : tie.Need-raise-requires Inv-loop μ-loop
+raise-requires c κs =
+    let g = c .before .before .before .before .before .before .before .before .before .before .before .before .pre .0 .1 in
+    let d = c .before .before .before .needed-at .ensures .0 _ _ g .limit in
+    (c .before .before .before .before .before .before .before .before .before .loop .inv .0, tasks-high g, omega (arith, fits _ _ d (cores-low g)))
+
+loop-less : tie.Need-loop-less Inv-loop μ-loop
+loop-less c =
+    let g = c .before .before .before .before .before .before .before .before .before .before .before .before .before .before .pre .0 .1 in
+    let l = c .before .before .before .before .before .before .before .before .before .before .before .loop in
+    let e = not-below (c .before .before .before .before .before .before .before .before .before .first-past .ensures) (c .before .before .before .before .before .before .before .before .if1 .left) in
+    let q = c .before .before .before .before .before .before .before .before .before .before .before .before .before .quotients .ensures in
+    let r = c .before .before .before .before .before .before .before .before .before .before .before .before .remainders .ensures in
+    let d = c .before .before .before .before .before .needed-at .ensures in
+    let v = c .before .raise .ensures in
+    let b = l .inv .3 _ g in
+    turn-falls g (l .slack) b _ _ _ q r _ (v .0) e (needs-high g (l .slack) b (d .0 _ _ g)) (sym (not-false _ (c .if2 .left)) ∙ v .1)
+
+loop-again : tie.Need-loop-again Inv-loop μ-loop
+loop-again c =
+    let g = c .before .before .before .before .before .before .before .before .before .before .before .before .before .before .pre .0 .1 in
+    let l = c .before .before .before .before .before .before .before .before .before .before .before .loop in
+    let e = not-below (c .before .before .before .before .before .before .before .before .before .first-past .ensures) (c .before .before .before .before .before .before .before .before .if1 .left) in
+    let q = c .before .before .before .before .before .before .before .before .before .before .before .before .before .quotients .ensures in
+    let r = c .before .before .before .before .before .before .before .before .before .before .before .before .remainders .ensures in
+    let d = c .before .before .before .before .before .needed-at .ensures in
+    let v = c .before .raise .ensures in (
+      turn-length (arrays g (l .slack)) _ _ _ q r (l .slack) _ (v .0),
+      turn-past (arrays g (l .slack)) _ _ _ q r (l .slack) _ (v .0) (l .inv .1),
+      d .1,
+      λ t k. let b = l .inv .3 t k in turn-below k (l .slack) b _ _ _ q r _ (v .0) (needs-under k (l .slack) b (d .0 _ _ k)),
+    )
+
+returns : tie.Need-returns Inv-loop μ-loop
+returns c =
+    λ t k.
+    let l = c .before .before .before .loop in
+    ended-past k (l .slack) (l .inv .3 t k) (rw (c .before .first-past .ensures) at (c .if1 .taken))
+
+returns-2 : tie.Need-returns-2 Inv-loop μ-loop
+returns-2 c =
+    λ t k.
+    let l = c .before .before .before .before .before .before .before .before .before .before .before .loop in
+    let e = not-below (c .before .before .before .before .before .before .before .before .before .first-past .ensures) (c .before .before .before .before .before .before .before .before .if1 .left) in
+    let q = c .before .before .before .before .before .before .before .before .before .before .before .before .before .quotients .ensures in
+    let r = c .before .before .before .before .before .before .before .before .before .before .before .before .remainders .ensures in
+    let d = c .before .before .before .before .before .needed-at .ensures in
+    let v = c .before .raise .ensures in
+    let b = l .inv .3 t k in
+    ended-still k (l .slack) b _ _ _ q r _ (v .0) e (needs-high k (l .slack) b (d .0 _ _ k)) (sym (not-true _ (c .if2 .taken)) ∙ v .1) (l .inv .1)
+
+pub search-spec : {M : Type 1} → statement M
+search-spec =
+    tie.close
+    (tie.spec
+    Inv-loop
+    μ-loop
+    (λ c. omega (arith, cores-high (c .pre .0 .1)))
+    (λ c κs. let g = c .pre .0 .1 in (tasks-high g, omega (arith, cores-low g)))
+    (λ c κs. let g = c .before .pre .0 .1 in (tasks-high g, omega (arith, cores-low g)))
+    loop-holds
+    (λ c κs. tasks-high (c .before .before .before .before .pre .0 .1))
+    needed-at-requires
+    (λ c. let g = c .before .before .before .before .before .before .before .before .before .before .before .before .pre .0 .1 in omega (arith, cores-low g))
+    (λ c. let g = c .before .before .before .before .before .before .before .before .before .before .before .before .pre .0 .1 in omega (arith, cores-low g))
+    raise-requires
+    loop-less
+    loop-again
+    returns
+    returns-2)

@@ -1,0 +1,3 @@
+pub mod SheetArrays
+pub mod SheetLaws
+pub mod TurnLaws

@@ -1,0 +1,39 @@
+-- A wish sheet as the code works on it, from arrays.
+--     roomRow       W − C
+--     offsetRow     the smaller of T and W − C − x
+--     pastRow       whether x is above W − C
+--     SheetOf       the arrays and numbers are those of the sheet s
+--     Ended         where the search ends: at the wished slack, or where it shows that there is no solution
+use Prim.Native.Nat.{ℕ, _-_, _<_, min}
+use mathlib.Core.Path.{_≡_}
+use mathlib.Core.Bool.{Bool, true, false}
+use mathlib.Core.List.{List}
+use lib.Dec.{ltb}
+use Rattle.laws.specs.First.{first}
+use Rattle.laws.specs.Tab.{tab}
+use Rattle.tasks.specs.TaskSet.{TaskSet, hyperperiod, share, row}
+use Rattle.wishes.specs.Wish.{room, wished, passes, noSolution}
+use Rattle.wishes.specs.WishTheorems.{Sheet}
+
+unfoldable pub roomRow : List ℕ → List ℕ → ℕ → ℕ
+roomRow wish budget i = row wish i - row budget i
+
+unfoldable pub offsetRow : List ℕ → List ℕ → List ℕ → ℕ → ℕ
+offsetRow separation rooms slack i = min (row separation i) (row rooms i - row slack i)
+
+unfoldable pub pastRow : List ℕ → List ℕ → ℕ → Bool
+pastRow slack rooms i = ltb (row rooms i) (row slack i)
+
+pub record SheetOf (s : TaskSet) (shares separations budgets rooms : List ℕ) (h m n : ℕ) : Type 0 where
+  pub sheet : Sheet s
+  pub cores : m ≡ s .cores
+  pub tasks : n ≡ s .count
+  pub multiple : h ≡ hyperperiod s
+  pub share : (i : ℕ) → i < s .count → row shares i ≡ share s i
+  pub separation : (i : ℕ) → i < s .count → row separations i ≡ s .task i .separation
+  pub budget : (i : ℕ) → i < s .count → row budgets i ≡ s .task i .budget
+  pub room : (i : ℕ) → i < s .count → row rooms i ≡ room (s .task i)
+
+pub record Ended (s : TaskSet) (slack : List ℕ) : Type 0 where
+  pub past : (k : ℕ) → k < s .count → passes s (row slack) k ≡ true → noSolution s ≡ true
+  pub solved : ((k : ℕ) → k < s .count → passes s (row slack) k ≡ false) → (noSolution s ≡ false) × (slack ≡ tab (row (wished s)) 16)

@@ -1,0 +1,3 @@
+// Offsets and slack for a wish sheet: document 02, §3.
+pub mod offsets;
+pub mod search;

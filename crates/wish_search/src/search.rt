@@ -1,0 +1,88 @@
+// The search for a wish sheet's slack: raised from zeros, each time with the largest offsets that it leaves.
+use crate::offsets::first_past;
+use crate::offsets::offsets;
+use slack::amount::needed;
+use slack::rates::surplus_of;
+use slack::vector::quotients;
+use slack::vector::raise;
+use slack::vector::remainders;
+ghost use mathlib.Core.List.{List};
+ghost use Prim.Native.Nat.{ℕ, _<_, _≤_};
+ghost use Rattle.tasks.specs.TaskSet.{TaskSet, row};
+ghost use Rattle.largest.specs.Chosen.{Arranged};
+ghost use Rattle.slack.specs.Arrays.{Needs};
+ghost use Rattle.wishes.specs.Wish.{atSlack};
+ghost use Rattle.wish_search.specs.SheetArrays.{SheetOf, Ended};
+
+// What A needs at a slack.
+fn needed_at(
+    share: &[u64; 16],
+    separation: &[u32; 16],
+    room: &[u32; 16],
+    slack: &[u32; 16],
+    names: &mut [u8; 16],
+    multiple: u64,
+    cores: usize,
+    tasks: usize,
+) -> u32
+    requires { ⌜ ((s : TaskSet) × (b : List ℕ) × SheetOf s (now share) (now separation) b (now room) multiple cores tasks) × Arranged (now names) tasks × ((i : ℕ) → i < tasks → row (now slack) i ≤ 1600000) ⌝ }
+    ensures { λ r. ⌜ ((s : TaskSet) (b : List ℕ) → SheetOf s (now (share .entry)) (now (separation .entry)) b (now (room .entry)) multiple cores tasks → Needs (atSlack s (row (now (slack .entry)))) (row (now (slack .entry))) (now (names .exit)) r) × Arranged (now (names .exit)) tasks ⌝ }
+{
+    let offset = offsets(separation, room, slack, tasks);
+    let surplus = surplus_of(share, separation, &offset, tasks);
+    needed(
+        share,
+        &offset,
+        slack,
+        names,
+        multiple,
+        surplus,
+        cores,
+        tasks,
+    )
+}
+
+// Raised until nothing changes, or until some task's slack is above W − C: then there is no solution.
+pub fn search(
+    share: &[u64; 16],
+    separation: &[u32; 16],
+    budget: &[u32; 16],
+    room: &[u32; 16],
+    names: &mut [u8; 16],
+    multiple: u64,
+    cores: usize,
+    tasks: usize,
+) -> [u32; 16]
+    requires { ⌜ ((s : TaskSet) × SheetOf s (now share) (now separation) (now budget) (now room) multiple cores tasks) × Arranged (now names) tasks ⌝ }
+    ensures { λ r. ⌜ ((s : TaskSet) → SheetOf s (now (share .entry)) (now (separation .entry)) (now (budget .entry)) (now (room .entry)) multiple cores tasks → Ended s r) ⌝ }
+{
+    let divisor = cores as u32;
+    let quotient = quotients(budget, divisor, tasks);
+    let rest = remainders(budget, divisor, tasks);
+    let mut slack = [0u32; 16];
+    loop {
+        if first_past(&slack, room, tasks) < tasks {
+            break slack;
+        }
+        let need = needed_at(
+            share,
+            separation,
+            room,
+            &slack,
+            names,
+            multiple,
+            cores,
+            tasks,
+        );
+        if !raise(
+            &mut slack,
+            &quotient,
+            &rest,
+            need / divisor,
+            need % divisor,
+            tasks,
+        ) {
+            break slack;
+        }
+    }
+}
