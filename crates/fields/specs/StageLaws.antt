@@ -3,7 +3,7 @@
 --     scan-found, scan-none        a scan that ended at f, below n or not
 --     not-both                     an answer is no refusal and a refusal: absurd
 --     column-more                  an array filled in order has one entry more
---     fields-scan, bounds-scan     6 to 8, and 13, of a plan's content look at the tasks that the plan's array has in use
+--     fields-scan, wishes-scan, bounds-scan     6 to 8, or 26, and 13, of a plan's content look at the tasks that the plan's array has in use
 use Prim.Native.Nat.{ℕ, _+_, _<_, _≤_}
 use mathlib.Core.Path.{_≡_, sym, _∙_, ap}
 use mathlib.Core.Bool.{Bool, true}
@@ -21,9 +21,9 @@ use Rattle.tasks.specs.declared.Answer.{Answer}
 use Rattle.tasks.specs.declared.Answer.the-variants.{Accepted, Refused}
 use Rattle.tasks.specs.TaskSet.{boundOf, bound}
 use Rattle.tasks.specs.Content.{noTask, taskOf, contentOf}
-use Rattle.tasks.specs.Tests.{lowest, outside, badSeparation, badBudget, badOffset, overBound, boundsTest}
+use Rattle.tasks.specs.Tests.{lowest, outside, badSeparation, badBudget, badOffset, badWish, overBound, boundsTest}
 use Rattle.tasks.specs.AnswerLaws.{lowest-found, lowest-none, lowest-ext}
-use Rattle.fields.specs.Stages.{fieldsTest}
+use Rattle.fields.specs.Stages.{fieldsTest, wishesTest}
 
 pub outside-low : (low high x : ℕ) → x < low → outside low high x ≡ true
 unfolding outside
@@ -58,6 +58,15 @@ module _ (p : Plan) where
         lowest-ext 6 (λ i. badSeparation (taskOf (p .task) i)) (λ i. badSeparation (contentOf p .tasks .task i)) (p .tasks) (λ i h. ap badSeparation (sym (used i h))),
         lowest-ext 7 (λ i. badBudget (taskOf (p .task) i)) (λ i. badBudget (contentOf p .tasks .task i)) (p .tasks) (λ i h. ap badBudget (sym (used i h))),
         lowest-ext 8 (λ i. badOffset (taskOf (p .task) i)) (λ i. badOffset (contentOf p .tasks .task i)) (p .tasks) (λ i h. ap badOffset (sym (used i h))),
+      )
+
+  pub wishes-scan : wishesTest (taskOf (p .task)) (p .tasks) ≡ wishesTest (contentOf p .tasks .task) (p .tasks)
+  unfolding wishesTest
+  wishes-scan =
+      rw (
+        lowest-ext 6 (λ i. badSeparation (taskOf (p .task) i)) (λ i. badSeparation (contentOf p .tasks .task i)) (p .tasks) (λ i h. ap badSeparation (sym (used i h))),
+        lowest-ext 7 (λ i. badBudget (taskOf (p .task) i)) (λ i. badBudget (contentOf p .tasks .task i)) (p .tasks) (λ i h. ap badBudget (sym (used i h))),
+        lowest-ext 26 (λ i. badWish (taskOf (p .task) i)) (λ i. badWish (contentOf p .tasks .task i)) (p .tasks) (λ i h. ap badWish (sym (used i h))),
       )
 
   pub bounds-scan :

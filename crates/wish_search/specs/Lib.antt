@@ -1,3 +1,6 @@
 pub mod SheetArrays
 pub mod SheetLaws
 pub mod TurnLaws
+pub mod Solved
+pub mod SolvedLaws
+pub mod PlanSolvedLaws

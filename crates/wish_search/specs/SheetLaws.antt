@@ -1,5 +1,6 @@
 -- A wish sheet's arrays: what they keep to, and the tasks that they stand for at a slack.
 --     cores-low … rates-low       every number is small
+--     offset-row                  the offsets that the code works out are the largest
 --     at-arrays                   with the largest offsets and their surpluses the arrays are those of the tasks at a slack; arrays: so there are such
 --     past-test                   the code's test of one task is the definition's
 use Prim.Native.Nat.{ℕ, _+_, _*_, _-_, _≤_, _<_, min}
@@ -52,7 +53,7 @@ module _ {s : TaskSet} {shares separations budgets rooms : List ℕ} {h m n : �
       rw (g .room i t) (omega (arith, g .sheet .wish-high i t, L .separation-high i t))
 
   module _ (x : List ℕ) where
-    offset-row : (i : ℕ) → i < s .count → offsetRow separations rooms x i ≡ largestOffset (s .task i) (row x i)
+    pub offset-row : (i : ℕ) → i < s .count → offsetRow separations rooms x i ≡ largestOffset (s .task i) (row x i)
     unfolding offsetRow largestOffset
     offset-row i l = rw (g .separation i l, g .room i l)
 

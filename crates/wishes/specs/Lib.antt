@@ -2,3 +2,4 @@ pub mod Wish
 pub mod WishLaws
 pub mod WishTheorems
 pub mod RaisingLaws
+pub mod PlainWishLaws
