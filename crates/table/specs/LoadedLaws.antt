@@ -70,7 +70,7 @@ limits-same : (c d : Content) → c .tasks ≡ d .tasks → c .label ≡ d .labe
 unfolding limitTests test3 test4 test5 test6 test7 test8 test9 test10
 limits-same c d e q = λ i. limitTests (record { tasks = e i; label = q i; offers = c .offers; slack = c .slack })
 
-outside-past : (low high x : ℕ) → high < x → outside low high x ≡ true
+pub outside-past : (low high x : ℕ) → high < x → outside low high x ≡ true
 unfolding outside
 outside-past low high x h = rw (lt-ltb high x h) (either (ltb x low))
   where

@@ -34,7 +34,7 @@ fn refused(answer: Answer) -> Judgement
 }
 
 // The plan that the table's sections fill.
-fn load(table: &[u8], cores: usize, tasks: usize, offers: usize) -> Plan
+pub fn load(table: &[u8], cores: usize, tasks: usize, offers: usize) -> Plan
     requires { ⌜ CountsIn (now table) cores tasks offers ⌝ }
     ensures { λ r. ⌜ r ≡ loaded (now (table .entry)) ⌝ }
 {
@@ -96,7 +96,7 @@ pub fn judge(table: &[u8]) -> Judgement
 }
 
 // The refusal of the reader's stage.
-fn uncounted(counts: Counts) -> Answer
+pub fn uncounted(counts: Counts) -> Answer
     ensures { λ r. ⌜ r ≡ answerOfCounts counts ⌝ }
 {
     match counts {

@@ -1,6 +1,6 @@
 -- Document 02, §3, "Offsets from wished responses". A wish sheet's tasks have "the wished bound W in the offset's place".
 --     room                     W − C: what a task's wish leaves for its offset and slack together
---     withOffsets              the tasks with these offsets in the wishes' place
+--     withOffset, withOffsets  a task with an offset in its wish's place, and all tasks
 --     Solution                 offsets and slack that keep every wish
 --     largestOffset, atSlack      the largest offset that a slack leaves, and the sheet's tasks with these
 --     wished                   the slack raised from zeros, each time with the largest offsets that it leaves
@@ -24,13 +24,17 @@ use Rattle.tasks.specs.Tests.{refuse, lowest, firstMet, badWish, test3, test4, 
 abbrev pub room : Task → ℕ
 room t = t .offset - t .budget
 
+-- a task with this offset in its wish's place
+abbrev pub withOffset : Task → ℕ → Task
+withOffset t y = record { separation = t .separation; budget = t .budget; offset = y }
+
 -- a sheet's tasks with offsets in the wishes' place
 unfoldable pub withOffsets : TaskSet → (ℕ → ℕ) → TaskSet
 withOffsets s y =
     record {
       cores = s .cores;
       count = s .count;
-      task = λ i. record { separation = s .task i .separation; budget = s .task i .budget; offset = y i };
+      task = λ i. withOffset (s .task i) (y i);
     }
 
 -- "Find whole offsets 0 to T and compliant whole slack with Y + x + C at most W for every loop"

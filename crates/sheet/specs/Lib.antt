@@ -1,0 +1,2 @@
+pub mod Wished
+pub mod WishedLaws
