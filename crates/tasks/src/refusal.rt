@@ -48,3 +48,7 @@ pub const NO_PLACE_FREE: u8 = 23;
 pub const BUFFER_TOO_SHORT: u8 = 24;
 
 pub const SENTENCE_BUFFER_TOO_SHORT: u8 = 25;
+
+pub const WISH_OUTSIDE: u8 = 26;
+
+pub const NO_SOLUTION: u8 = 27;
