@@ -1,16 +1,17 @@
 /*
- * Judgement, its counted loops, the log run and the sentences of refusals of Dahomike as C functions. `rt staticlib dahomike` writes the library that has them,
- * target/staticlib/libdahomike.a. The proved source is crates/dahomike/src/lib.rt; .ci/documents holds the declarations here to it.
+ * Judgement, its counted loops, offsets from wishes, the log run and the sentences of refusals of Dahomike as C functions.
+ * `rt staticlib dahomike` writes the library that has them, target/staticlib/libdahomike.a. The proved source is
+ * crates/dahomike/src/lib.rt; .ci/documents holds the declarations here to it.
  *
  * Numbers in tables, logs and answers are unsigned, low byte first. Loops and entries are counted from 0.
  *
  * What a caller owes: no pointer is null, also where its length is 0; each points to at least as many bytes as its length says; and `out`
- * overlaps neither `table` nor `log`. These two are only read, and may overlap each other. Any bytes may stand in them, and `out` may have
- * any length: what is wrong with them is refused. The functions keep no pointer and allocate nothing.
+ * overlaps none of `table`, `sheet` and `log`. These are only read, and may overlap each other. Any bytes may stand in them, and `out` may
+ * have any length: what is wrong with them is refused. The functions keep no pointer and allocate nothing.
  *
  * What a refused call answers: 4,294,967,296 x number + index. So answer >> 32 is the refusal number, 0 for a call that is not refused,
- * and the low 32 bits are the index: the lowest failing core for 4, loop for 6, 7, 8, 12 and 13, log entry for 15, and 0 for every other
- * number. A refused call writes nothing.
+ * and the low 32 bits are the index: the lowest failing core for 4, loop for 6, 7, 8, 12, 13 and 26, log entry for 15, and 0 for every
+ * other number. A refused call writes nothing.
  *
  *      1  The edition byte is absent or not 1.
  *      2  The length isn't exactly what the counts give, or a count is absent.
@@ -22,17 +23,20 @@
  *      8  An offset is above its separation.
  *      9  H, the least common multiple of all separations, is above 1,000,000.
  *     10  The shares add up to more than m x H.
- *     11  The slack count is neither 0 nor n.
+ *     11  The slack count is neither 0 nor n, or not 0 on a wish sheet.
  *     12  Offered slack isn't compliant.
  *     13  A bound is above 16 x T.
  *     14  A log's length isn't 2 + 9 x count, or its count is absent.
  *     15  A log tick is above 1,000,000,000.
  *     16  The lent answer is shorter than 8 x count.
- *     24  The buffer lent for the judgement or for its names is too short.
+ *     24  The buffer lent for the judgement, for its names or for offsets from wishes is too short.
  *     25  The buffer lent for a sentence is too short.
+ *     26  On a wish sheet, W is not C to 16 x T.
+ *     27  On a wish sheet, no solution exists.
  *
  * Each number is tested over all entries before the next, and the first that is met is answered: 1 to 13 of the table, then 24 for
- * dahomike_judge and dahomike_counted; 1 to 13 of the table, then 14 to 16 for dahomike_run_log. dahomike_sentence tests 25 alone.
+ * dahomike_judge and dahomike_counted; 1 to 7 of the sheet, then 26, 9, 10, 11, 27 and 24 for dahomike_wish; 1 to 13 of the table, then
+ * 14 to 16 for dahomike_run_log. dahomike_sentence tests 25 alone.
  */
 #ifndef DAHOMIKE_H
 #define DAHOMIKE_H
@@ -69,6 +73,18 @@ uint64_t dahomike_judge(const uint8_t *table, size_t table_len, uint8_t *out, si
 uint64_t dahomike_counted(const uint8_t *table, size_t table_len, uint8_t *out, size_t out_len);
 
 /*
+ * Finds offsets from wished responses: whole offsets 0 to T and compliant whole slack with Y + x + C at most W for every loop.
+ *
+ *     sheet   the bytes of a wish sheet: a show table as above, with the wished bound W in the offset's place and slack count 0
+ *     out     where the call is not refused, for each loop its offset Y, its slack x and its bound Y + x + C, 4 bytes each: offset 0,
+ *             slack 0, bound 0, offset 1 and so on, 12 x n bytes; bytes beyond these stay. 192 bytes are enough for every sheet
+ *
+ * Answers n, which is 3 to 16, or the refusal: one of 1 to 7, 9 to 11, 24, 26 and 27; 11 meets any slack count but 0. The slack is the
+ * least and each offset the largest of all solutions. dahomike_judge finds the same slack and bounds for the table with these offsets.
+ */
+uint64_t dahomike_wish(const uint8_t *sheet, size_t sheet_len, uint8_t *out, size_t out_len);
+
+/*
  * Runs a release log on a show table: the engine is opened on the table's plan, stepped up to each entry's tick and handed its release,
  * and after the last entry stepped until nothing is pending.
  *
@@ -93,7 +109,7 @@ uint64_t dahomike_run_log(const uint8_t *table, size_t table_len, const uint8_t 
 /*
  * Tells a refusal in one English sentence, which names the loop, core, log entry or release and says what would be right.
  *
- *     number  the refusal number, 1 to 25; those that no C function answers are told too. Any other number gets a sentence with the word
+ *     number  the refusal number, 1 to 27; those that no C function answers are told too. Any other number gets a sentence with the word
  *             `unknown`, and no other sentence has it
  *     index   the index that came with it
  *     value   what was found there, as the separation for 6 or the tick for 15; docs/REFUSALS.md says which. 0 where none is meant

@@ -1,5 +1,6 @@
 /*
- * The header and the static library from C: P1 and P4 judged, P1's and P3's counted loops named, P11 run, two refusals told. .ci/run compiles and runs it where there is a C compiler.
+ * The header and the static library from C: P1 and P4 judged, P1's and P3's counted loops named, offsets found for P1's loops and their
+ * wishes, P11 run, two refusals told. .ci/run compiles and runs it where there is a C compiler.
  */
 #include "../dahomike.h"
 
@@ -22,6 +23,15 @@ static const uint8_t p3[] = {
     2, 0, 0, 0, 1, 0, 0, 0, 2, 0, 0, 0,
     2, 0, 0, 0, 1, 0, 0, 0, 2, 0, 0, 0,
     3, 0, 0, 0, 3, 0, 0, 0, 0, 0, 0, 0,
+    0,
+};
+
+/* A wish sheet of P1's loops: 29, 99 and 90 in the offsets' places. */
+static const uint8_t wishes[] = {
+    1, 2, 0, 1, 3,
+    10, 0, 0, 0, 9, 0, 0, 0, 29, 0, 0, 0,
+    10, 0, 0, 0, 9, 0, 0, 0, 99, 0, 0, 0,
+    100, 0, 0, 0, 20, 0, 0, 0, 90, 0, 0, 0,
     0,
 };
 
@@ -85,6 +95,23 @@ static void name_counted(void) {
     expect_bytes("P3 counted", out, sizeof out, name_of_p3, sizeof name_of_p3);
 }
 
+static void find_offsets(void) {
+    static const uint8_t offset_slack_and_bound[] = {
+        10, 0, 0, 0, 6, 0, 0, 0, 25, 0, 0, 0,
+        10, 0, 0, 0, 6, 0, 0, 0, 25, 0, 0, 0,
+        69, 0, 0, 0, 1, 0, 0, 0, 90, 0, 0, 0,
+    };
+    uint8_t below_budget[sizeof wishes], out[sizeof offset_slack_and_bound + 1];
+    memcpy(below_budget, wishes, sizeof wishes);
+    below_budget[13] = 8;
+    memset(out, 0xee, sizeof out);
+    expect_answer("P1 wishing 8", dahomike_wish(below_budget, sizeof below_budget, out, sizeof out), REFUSED(26, 0));
+    expect_answer("P1 wishing, a short buffer", dahomike_wish(wishes, sizeof wishes, out, sizeof out - 2), REFUSED(24, 0));
+    expect_bytes("refused, wishing", out, sizeof out, out, 0);
+    expect_answer("P1 wishing", dahomike_wish(wishes, sizeof wishes, out, sizeof out), 3);
+    expect_bytes("P1 wishing", out, sizeof out, offset_slack_and_bound, sizeof offset_slack_and_bound);
+}
+
 static void run_p11(void) {
     static const uint8_t entries[] = {1, 0, 0, 0, 1, 0, 0, 0, 2, 0, 0, 0, 22, 0, 0, 0, 1, 0, 0, 0, 3, 0, 0, 0};
     uint8_t out[40];
@@ -97,7 +124,7 @@ static void run_p11(void) {
 
 static void tell_refusals(void) {
     static const char budget[] = "Refusal 7 for loop 1: its budget must be at least 1 tick and at most its separation, not 11.";
-    static const char unknown[] = "Refusal 26 for place 0: the meaning of this number is unknown here, and the value found is 0.";
+    static const char unknown[] = "Refusal 99 for place 0: the meaning of this number is unknown here, and the value found is 0.";
     uint8_t out[DAHOMIKE_LONGEST_SENTENCE];
     memset(out, 0xee, sizeof out);
     expect_answer("7 told, a short buffer", dahomike_sentence(7, 1, 11, out, sizeof budget - 2), REFUSED(25, 0));
@@ -105,13 +132,14 @@ static void tell_refusals(void) {
     expect_answer("7 told", dahomike_sentence(7, 1, 11, out, sizeof out), sizeof budget - 1);
     expect_bytes("7 told", out, sizeof out, (const uint8_t *)budget, sizeof budget - 1);
     memset(out, 0xee, sizeof out);
-    expect_answer("26 told", dahomike_sentence(26, 0, 0, out, sizeof unknown - 1), sizeof unknown - 1);
-    expect_bytes("26 told", out, sizeof out, (const uint8_t *)unknown, sizeof unknown - 1);
+    expect_answer("99 told", dahomike_sentence(99, 0, 0, out, sizeof unknown - 1), sizeof unknown - 1);
+    expect_bytes("99 told", out, sizeof out, (const uint8_t *)unknown, sizeof unknown - 1);
 }
 
 int main(void) {
     judge_p1();
     name_counted();
+    find_offsets();
     run_p11();
     tell_refusals();
     if (failures == 0) {

@@ -1,4 +1,4 @@
-// Fixed words of sentences, those between index and value: what would be right, for 14 to 25, of a log, the engine and lent buffers.
+// Fixed words of sentences, those between index and value: what would be right, for 14 to 27, of a log, the engine, lent buffers and wishes.
 use decimal::put_words;
 ghost use Prim.Native.Nat.{_+_, _≤_};
 ghost use lib.ListN.{length};
@@ -88,14 +88,34 @@ fn put_buffer_words(out: &mut [u8], at: usize, number: u32) -> usize
     }
 }
 
-// The words of 14 to 25, from `at` on.
+// 26 and 27: a loop's own wish, and all wishes together.
+fn put_wish_words(out: &mut [u8], at: usize, number: u32) -> usize
+    requires { ⌜ (26 ≤ number) × (number ≤ 27) × (at + 160 ≤ length (now out)) ⌝ }
+    ensures { λ r. ⌜ Stored (now (out .entry)) at (wording number .rule) r (now (out .exit)) ⌝ }
+{
+    match number {
+        26 => put_words(
+            out,
+            at,
+            b": its wish must be at least its budget and at most 16 times its separation, not ",
+        ),
+        _ => put_words(
+            out,
+            at,
+            b" onwards: whole offsets and compliant slack must exist with every bound at most its wish, and the number of such solutions is ",
+        ),
+    }
+}
+
+// The words of 14 to 27, from `at` on.
 pub fn put_run_words(out: &mut [u8], at: usize, number: u32) -> usize
-    requires { ⌜ (14 ≤ number) × (number ≤ 25) × (at + 160 ≤ length (now out)) ⌝ }
+    requires { ⌜ (14 ≤ number) × (number ≤ 27) × (at + 160 ≤ length (now out)) ⌝ }
     ensures { λ r. ⌜ Stored (now (out .entry)) at (wording number .rule) r (now (out .exit)) ⌝ }
 {
     match number {
         ..=17 => put_log_words(out, at, number),
         ..=23 => put_engine_words(out, at, number),
-        _ => put_buffer_words(out, at, number),
+        ..=25 => put_buffer_words(out, at, number),
+        _ => put_wish_words(out, at, number),
     }
 }

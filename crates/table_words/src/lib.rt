@@ -78,7 +78,7 @@ fn put_slack_words(out: &mut [u8], at: usize, number: u32) -> usize
         11 => put_words(
             out,
             at,
-            b" onwards: the slack count must be 0 or the number of loops, not ",
+            b" onwards: the slack count must be 0 or, where slack may be offered, the number of loops, not ",
         ),
         12 => put_words(
             out,

@@ -20,7 +20,7 @@ pub record Wording : Type 0 where
 abbrev pub fixed : String → String → Wording
 fixed place rule = record { place = words place; rule = words rule }
 
--- document 01's numbers, and 25: what the index counts, and what would be right. Where document 01 gives no index, 0 is where the count begins
+-- document 01's numbers, and 25, 26 and 27: what the index counts, and what would be right. Where document 01 gives no index, 0 is where the count begins
 unfoldable pub wordings : List Wording
 wordings =
     fixed " for byte " ": the edition must be 1, not "
@@ -33,7 +33,7 @@ wordings =
     ∷ fixed " for loop " ": its offset must be at most its separation, not "
     ∷ fixed " for loop " " onwards: the least common multiple of all separations must be 1 to 1,000,000, not "
     ∷ fixed " for loop " " onwards: the shares must add up to at least 1 and at most the number of cores times the least common multiple of all separations, not "
-    ∷ fixed " for loop " " onwards: the slack count must be 0 or the number of loops, not "
+    ∷ fixed " for loop " " onwards: the slack count must be 0 or, where slack may be offered, the number of loops, not "
     ∷ fixed " for loop " ": its slack must be compliant if it is offered and the smallest that is compliant if it is found, not "
     ∷ fixed " for loop " ": its bound must be at most 16 times its separation, not "
     ∷ fixed " for entry " " onwards: the log must have 2 bytes and 9 more for each entry that it counts, not "
@@ -48,6 +48,8 @@ wordings =
     ∷ fixed " for release " ": its loop must hold fewer than 16 unfinished jobs, not "
     ∷ fixed " for byte " " onwards: the lent buffer must be at least as long as what is to be written, not "
     ∷ fixed " for byte " " onwards: the buffer lent for a sentence must be at least as long as the sentence, for which 256 bytes are always enough, not "
+    ∷ fixed " for loop " ": its wish must be at least its budget and at most 16 times its separation, not "
+    ∷ fixed " for loop " " onwards: whole offsets and compliant slack must exist with every bound at most its wish, and the number of such solutions is "
     ∷ []
 
 -- "A number outside the table … gets a sentence with the word `unknown`"
@@ -56,7 +58,7 @@ otherWording = fixed " for place " ": the meaning of this number is unknown here
 
 -- "the table, which 25 and each later number joins"
 abbrev pub lastKnown : ℕ
-lastKnown = 25
+lastKnown = 27
 
 abbrev pub Known : ℕ → Type 0
 Known k = (1 ≤ k) × (k ≤ lastKnown)

@@ -25,7 +25,7 @@ cases =
     refused 7 1 11 "Refusal 7 for loop 1: its budget must be at least 1 tick and at most its separation, not 11."
     ∷ refused 12 0 5 "Refusal 12 for loop 0: its slack must be compliant if it is offered and the smallest that is compliant if it is found, not 5."
     ∷ refused 15 12 1000000001 "Refusal 15 for entry 12: its tick must be at most 1,000,000,000, not 1000000001."
-    ∷ refused 26 0 0 "Refusal 26 for place 0: the meaning of this number is unknown here, and the value found is 0."
+    ∷ refused 99 0 0 "Refusal 99 for place 0: the meaning of this number is unknown here, and the value found is 0."
     ∷ []
 
 pub tells : Case → Bool

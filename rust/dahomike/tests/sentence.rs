@@ -14,7 +14,7 @@ fn a_sentence_has_number_index_and_value() {
 
 #[test]
 fn a_number_outside_the_table_is_unknown() {
-    let others = [(0, "0"), (26, "26"), (263, "263"), (u32::MAX, "4294967295")];
+    let others = [(0, "0"), (99, "99"), (263, "263"), (u32::MAX, "4294967295")];
     for (number, digits) in others {
         let expected = format!(
             "Refusal {digits} for place 4: the meaning of this number is unknown here, and the \

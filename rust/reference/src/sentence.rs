@@ -12,6 +12,7 @@ pub fn sentence(number: u32, index: u32, value: u64) -> String {
         .or_else(|| of_log(number, index, value))
         .or_else(|| of_engine(number, index, value))
         .or_else(|| of_buffer(number, index, value))
+        .or_else(|| of_wish(number, index, value))
         .unwrap_or_else(|| of_unknown(number, index, value))
 }
 
@@ -78,8 +79,8 @@ fn of_loops(number: u32, index: u32, value: u64) -> Option<String> {
              {value}."
         ),
         11 => format!(
-            "Refusal 11 for loop {index} onwards: the slack count must be 0 or the number of \
-             loops, not {value}."
+            "Refusal 11 for loop {index} onwards: the slack count must be 0 or, where slack \
+             may be offered, the number of loops, not {value}."
         ),
         12 => format!(
             "Refusal 12 for loop {index}: its slack must be compliant if it is offered and the \
@@ -159,6 +160,22 @@ fn of_buffer(number: u32, index: u32, value: u64) -> Option<String> {
         25 => format!(
             "Refusal 25 for byte {index} onwards: the buffer lent for a sentence must be at \
              least as long as the sentence, for which 256 bytes are always enough, not {value}."
+        ),
+        _ => return None,
+    };
+    Some(sentence)
+}
+
+/// 26 and 27: a loop's own wish, and all wishes together.
+fn of_wish(number: u32, index: u32, value: u64) -> Option<String> {
+    let sentence = match number {
+        26 => format!(
+            "Refusal 26 for loop {index}: its wish must be at least its budget and at most 16 \
+             times its separation, not {value}."
+        ),
+        27 => format!(
+            "Refusal 27 for loop {index} onwards: whole offsets and compliant slack must exist \
+             with every bound at most its wish, and the number of such solutions is {value}."
         ),
         _ => return None,
     };

@@ -31,12 +31,14 @@ byte k =
     (λ h. places (words " for byte ") 1 2 tt k (h .0) (h .1))
     (λ h. places (words " for byte ") 24 2 tt k (h .0) (h .1))
 
-loop : (k : ℕ) → ((5 ≤ k) × (k < 14)) ⊎ ((18 ≤ k) × (k < 20)) → wording k .place ≡ words " for loop "
+loop : (k : ℕ) → ((5 ≤ k) × (k < 14)) ⊎ (((18 ≤ k) × (k < 20)) ⊎ ((26 ≤ k) × (k < 28))) → wording k .place ≡ words " for loop "
 unfolding wording wordings words first sameList
 loop k =
     ⊎-elim
     (λ h. places (words " for loop ") 5 9 tt k (h .0) (h .1))
+    (⊎-elim
     (λ h. places (words " for loop ") 18 2 tt k (h .0) (h .1))
+    (λ h. places (words " for loop ") 26 2 tt k (h .0) (h .1)))
 
 other : (k : ℕ) → (Known k → ⊥) → wording k .place ≡ words " for place "
 unfolding wording
@@ -60,18 +62,18 @@ put-place-spec =
     (λ c. search needs)
     (λ c κs. search needs)
     (λ c. search needs)
-    (λ c. rw (core (c .before .before .before .before .before .before .before .before .before .args .number) (omega arith) (omega arith)) (c .before .before .put-words .ensures))
+    (λ c. rw (core (c .before .before .before .before .before .before .before .before .before .before .args .number) (omega arith) (omega arith)) (c .before .before .put-words .ensures))
     (λ c. search needs)
     (λ c. rw (entry (c .before .before .before .before .before .before .before .before .before .before .before .args .number) (omega arith) (omega arith)) (c .before .before .put-words2 .ensures))
     (λ c. search needs)
-    (λ c. rw (release (c .before .before .before .before .before .before .before .before .before .before .before .before .before .args .number) (omega arith) (omega arith)) (c .before .before .put-words3 .ensures))
+    (λ c. rw (release (c .before .before .before .before .before .before .before .before .before .args .number) (omega arith) (omega arith)) (c .before .before .put-words3 .ensures))
     (λ c. search needs)
     (λ c.
-    rw (loop (c .before .before .before .before .before .before .before .before .before .before .args .number) (⊎-elim (λ w. inl (omega arith, omega arith)) (λ w. inr (omega arith, omega arith)) (c .before .before .before .before .before .if4 .came)))
+    rw (loop (c .before .before .before .before .before .before .before .args .number) (⊎-elim (λ w. inl (omega arith, omega arith)) (⊎-elim (λ w. inr (inl (omega arith, omega arith))) (λ w. inr (inr (omega arith, omega arith)))) (c .before .before .before .before .before .if1 .came)))
     (c .before .before .put-words4 .ensures))
     (λ c. search needs)
     (λ c.
-    rw (byte (c .before .before .before .before .before .before .before .before .args .number) (⊎-elim (λ w. inl (omega arith, omega arith)) (λ w. inr (omega arith, omega arith)) (c .before .before .before .before .before .if2 .came)))
+    rw (byte (c .before .before .before .before .before .before .before .args .number) (⊎-elim (λ w. inl (omega arith, omega arith)) (λ w. inr (omega arith, omega arith)) (c .before .before .before .before .before .if1 .came)))
     (c .before .before .put-words5 .ensures))
     (λ c. search needs)
     (λ c.
