@@ -1,2 +1,3 @@
 pub mod Wished
 pub mod WishedLaws
+pub mod SheetTheorems

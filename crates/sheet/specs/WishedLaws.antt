@@ -1,6 +1,8 @@
 -- From the tests of the plan that a sheet's sections fill to what `wish` answers.
 --     Wishes         what the tests of such a plan, with a slack count, answer
 --     plan-refused, plan-found    they do, from what the code has seen; few: at most sixteen tasks
+--     unused         an unused place stays one
+--     verdict-past   past 1 and 2 the verdict is that of the tests
 --     sheet-refused  a sheet that meets 1 or 2
 --     sheet-from     one that meets neither
 use Prim.Native.Nat.{ℕ, _+_, _-_, _≤_, _<_, min}
@@ -56,6 +58,13 @@ few-tasks c a =
     let r4 = firstMet-passed _ _ (r3 .1) in
     outside-passed _ 16 _ (refuse-passed 5 _ (firstMet-passed _ _ (r4 .1) .0)) .1
 
+-- an unused place stays one
+pub unused : (t : Task) (x : ℕ) → t ≡ noTask → withOffset t (largestOffset t x) ≡ noTask
+unfolding noTask largestOffset
+unused t x e =
+    let z : min 0 (0 - 0 - x) ≡ 0 = omega arith in
+    rw (e, z)
+
 module _ (p : Plan) (k : ℕ) where
   wisher : ℕ → Task
   wisher = offering p k .tasks .task
@@ -68,16 +77,10 @@ module _ (p : Plan) (k : ℕ) where
   unfolding wisher offering contentOf
   wisher-above i h = cut-above (p .tasks) (taskOf (p .task)) noTask i h
 
-  -- the offset found for a task, and an unused place stays one
+  -- the offset found for a task
   solved-at : (i : ℕ) → solved (offering p k) .tasks .task i ≡ withOffset (wisher i) (largestOffset (wisher i) (solved (offering p k) .slack i))
   unfolding wisher solved atSlack withOffsets
   solved-at i = refl
-
-  unused : (t : Task) (x : ℕ) → t ≡ noTask → withOffset t (largestOffset t x) ≡ noTask
-  unfolding noTask largestOffset
-  unused t x e =
-      let z : min 0 (0 - 0 - x) ≡ 0 = omega arith in
-      rw (e, z)
 
   module _ (r : Solved) (few : p .tasks ≤ 16) (f : FoundIn (offering p k .tasks) r) where
     offset-at : (i : ℕ) → i < p .tasks → row (r .offset) i ≡ largestOffset (wisher i) (solved (offering p k) .slack i)
@@ -130,7 +133,7 @@ tests-same : (c d : Content) → c .tasks ≡ d .tasks → c .label ≡ d .label
 unfolding wishTests test3 test4 test5 test6 test7 test26 test9 test10 sheet11 test27
 tests-same c d e q o = λ i. wishTests (record { tasks = e i; label = q i; offers = o i; slack = c .slack })
 
-alone : (a : Answer) → firstMet (a ∷ []) ≡ a
+pub alone : (a : Answer) → firstMet (a ∷ []) ≡ a
 unfolding firstMet
 alone Accepted = refl
 alone (Refused k i) = refl
@@ -174,7 +177,7 @@ module _ (t : List ℕ) where
   few-in a = few-tasks (contentIn t) a
 
   -- past 1 and 2 the verdict is that of the tests
-  verdict-past : countsTest t ≡ Accepted → wishVerdict t ≡ wishTests (contentIn t)
+  pub verdict-past : countsTest t ≡ Accepted → wishVerdict t ≡ wishTests (contentIn t)
   unfolding wishVerdict countsTest
   verdict-past c = firstMet-append (test1 t ∷ test2 t ∷ []) (wishTests (contentIn t) ∷ []) ∙ rw c (alone (wishTests (contentIn t)))
 
