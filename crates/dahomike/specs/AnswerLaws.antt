@@ -1,40 +1,39 @@
 -- The C functions' answers and the bytes that they leave behind, from what their code has seen.
---     judge-refused    1 to 13, judge-short 24, judge-done the report
+--     judge-refused    1 to 13, judge-short 24, judge-done the report; judge-plan: what is reported
+--     wish-refused, wish-short, wish-done, wish-plan    the same of a wish sheet
 --     counted-refused, counted-short, counted-done    the same of the names
 --     run-refused, run-done      the log run's answer
 --     told-length, told-refused  the sentence's, by the cases of what came back
---     reportable       an accepted plan's slack and bounds fit 4 bytes each
 use Prim.Native.Nat.{ℕ, _+_, _*_, _≤_, _<_}
 use mathlib.Core.Path.{_≡_, sym, _∙_, ap}
+use mathlib.Core.Bool.{true, false}
 use mathlib.Core.List.{List, _++_}
 use native.Mathlib.Omega.{arith}
-use lib.ListN.{length, take, length-append}
+use lib.ListN.{length, take, drop}
 use lib.Seq.{sets}
 use borrow.Author.Tests.{lt-ltb, le-ltb}
-use Rattle.laws.specs.TabLaws.{getD-tab}
 use Rattle.tasks.specs.declared.Answer.the-variants.{Accepted, Refused}
-use Rattle.tasks.specs.TaskSet.{bound, row}
-use Rattle.tasks.specs.Limits.{Bounded}
-use Rattle.tasks.specs.Content.{planOf, taskOf}
 use Rattle.tasks.specs.Tests.{firstMet, tests}
-use Rattle.tasks.specs.TestsLaws.{tests-limits, tests-bounded}
 use Rattle.tasks.specs.AnswerLaws.{firstMet-passed}
 use Rattle.table.specs.declared.Judgement.{Judgement}
-use Rattle.numbers.specs.Bytes.{digits, entries}
-use Rattle.numbers.specs.ByteLaws.{length-digits, length-entries, entries-same}
+use Rattle.numbers.specs.Bytes.{entries}
 use Rattle.laws.specs.SetsLaws.{sets-whole}
 use Rattle.codec.specs.Table.{taskCount, taskSetIn, contentIn, verdict}
 use Rattle.table.specs.Judged.{countedIn, judged}
 use Rattle.table.specs.NamesLaws.{names-count, names-first}
+use Rattle.wishes.specs.Wish.{withOffsets, atSlack, solved}
+use Rattle.sheet.specs.declared.Wished.{Wished}
+use Rattle.sheet.specs.Wished.{wishVerdict, wishOf}
+use Rattle.sheet.specs.SheetTheorems.{wish-accepted}
 use Rattle.wording.specs.declared.Composed.{Composed}
 use Rattle.wording.specs.declared.Composed.the-variants.{Length, Refused as NotComposed}
 use Rattle.wording.specs.Told.{answerOfComposed, lengthOfComposed, sentenceTest, sentenceLength}
 use Rattle.replay.specs.declared.run.Ran.{Ran}
 use Rattle.replay.specs.Ran.{runTest, ranOf}
-use Rattle.dahomike.specs.Answers.{answerNumber, judgeTest, judgeNumber, reportBytes, judgeLeaves, countedTest, countedNumber, countedLeaves, runNumber, sentenceNumber, boundIn, pairOf, Reportable}
+use Rattle.dahomike.specs.Answers.{answerNumber, judgeTest, judgeNumber, reportBytes, judgeLeaves, wishTest, wishNumber, foundBytes, wishLeaves, countedTest, countedNumber, countedLeaves, runNumber, sentenceNumber, entryOf}
+use Rattle.dahomike.specs.ReportLaws.{Reported, tasks-are, report-leaves}
 
-size : (a b : ℕ) → length (digits 4 a ++ digits 4 b) ≡ 8
-size a b = length-append (digits 4 a) (digits 4 b) ∙ rw (length-digits 4 a, length-digits 4 b)
+-- ---- the judgement
 
 module _ (t out : List ℕ) (j : Judgement) (e : j ≡ judged t) where
   verdict-is : j .answer ≡ verdict t
@@ -49,44 +48,17 @@ module _ (t out : List ℕ) (j : Judgement) (e : j ≡ judged t) where
     accepted : verdict t ≡ Accepted
     accepted = sym verdict-is ∙ a
 
-    passed : tests (contentIn t) ≡ Accepted
-    unfolding verdict
-    passed =
-        firstMet-passed (tests (contentIn t)) _
-        (firstMet-passed _ _ (firstMet-passed _ _ accepted .1) .1) .0
+    pub judge-plan : Reported (contentIn t) (j .plan)
+    unfolding judged verdict
+    judge-plan =
+        record {
+          plan-is = ap (λ (r : Judgement). r .plan) e ∙ rw accepted;
+          passed = firstMet-passed (tests (contentIn t)) _ (firstMet-passed _ _ (firstMet-passed _ _ accepted .1) .1) .0;
+        }
 
-    plan-is : j .plan ≡ planOf (contentIn t)
-    unfolding judged
-    plan-is = ap (λ (r : Judgement). r .plan) e ∙ rw accepted
-
-    few : taskCount t ≤ 16
+    count-is : j .plan .tasks ≡ taskCount t
     unfolding contentIn taskSetIn
-    few = tests-limits (contentIn t) passed .tasks-high
-
-    tasks-are : (i : ℕ) → i < taskCount t → i < contentIn t .tasks .count
-    unfolding contentIn taskSetIn
-    tasks-are i h = h
-
-    pub count-is : j .plan .tasks ≡ taskCount t
-    unfolding planOf contentIn taskSetIn
-    count-is = rw plan-is
-
-    bounds-high : (i : ℕ) → i < taskCount t → bound (contentIn t .tasks) (contentIn t .slack) i ≤ 1600000
-    unfolding Bounded
-    bounds-high i h =
-        let k : i < contentIn t .tasks .count = tasks-are i h in
-        omega (arith, tests-bounded (contentIn t) passed i k, tests-limits (contentIn t) passed .separation-high i k)
-
-    slack-at : (i : ℕ) → i < taskCount t → row (j .plan .slack) i ≡ contentIn t .slack i
-    unfolding row planOf
-    slack-at i h = rw plan-is (getD-tab _ 16 i 0 (omega (arith, few)))
-
-    bound-at : (i : ℕ) → i < taskCount t → boundIn (j .plan) i ≡ bound (contentIn t .tasks) (contentIn t .slack) i
-    unfolding boundIn bound taskOf row planOf
-    bound-at i h = rw (plan-is, getD-tab (contentIn t .slack) 16 i 0 (omega (arith, few)), getD-tab (contentIn t .tasks .task) 16 i _ (omega (arith, few)))
-
-    pub few-tasks : j .plan .tasks ≤ 16
-    few-tasks = omega (arith, count-is, few)
+    count-is = tasks-are false judge-plan
 
     pub judge-short :
         length out < 8 * j .plan .tasks → (answerNumber (Refused 24 0) 0 ≡ judgeNumber t (length out)) × (out ≡ judgeLeaves t out)
@@ -95,40 +67,54 @@ module _ (t out : List ℕ) (j : Judgement) (e : j ≡ judged t) where
         let l : length out < 8 * taskCount t = omega (arith, count-is) in
         (rw (accepted, lt-ltb (length out) (8 * taskCount t) l), rw (accepted, lt-ltb (length out) (8 * taskCount t) l))
 
-    pub reportable : 8 * j .plan .tasks ≤ length out → Reportable (j .plan) (length out)
-    reportable h =
-        record {
-          few = few-tasks;
-          fits = h;
-          small = λ i l. small i (omega (arith, count-is));
-        }
-      where
-        small : (i : ℕ) → i < taskCount t → boundIn (j .plan) i < 4294967296
-        small i l = rw (bound-at i l) (omega (arith, bounds-high i l))
-
-    pair-at : (i : ℕ) → i < taskCount t → pairOf (j .plan) i ≡ digits 4 (contentIn t .slack i) ++ digits 4 (bound (contentIn t .tasks) (contentIn t .slack) i)
-    unfolding pairOf
-    pair-at i h = rw (slack-at i h, bound-at i h)
-
-    report-is : entries (pairOf (j .plan)) (j .plan .tasks) ≡ reportBytes (contentIn t)
-    unfolding reportBytes contentIn taskSetIn
-    report-is = ap (entries (pairOf (j .plan))) count-is ∙ entries-same _ _ (taskCount t) pair-at
-
-    report-long : length (entries (pairOf (j .plan)) (j .plan .tasks)) ≡ 8 * taskCount t
-    unfolding pairOf
-    report-long = length-entries 8 _ (λ i. size _ _) (j .plan .tasks) ∙ ap (λ (n : ℕ). 8 * n) count-is
-
     pub judge-done :
         8 * j .plan .tasks ≤ length out →
-        (j .plan .tasks ≡ judgeNumber t (length out)) × (sets out 0 (entries (pairOf (j .plan)) (j .plan .tasks)) ≡ judgeLeaves t out)
-    unfolding judgeNumber judgeLeaves judgeTest firstMet answerNumber
+        (j .plan .tasks ≡ judgeNumber t (length out)) × (sets out 0 (entries (entryOf false (j .plan)) (j .plan .tasks)) ≡ judgeLeaves t out)
+    unfolding judgeNumber judgeLeaves judgeTest firstMet answerNumber reportBytes
     judge-done h =
-        let l : 8 * taskCount t ≤ length out = omega (arith, count-is) in
-        let written =
-        sets-whole out (entries (pairOf (j .plan)) (j .plan .tasks)) (omega (arith, report-long))
-        in (
+        let l : 8 * taskCount t ≤ length out = omega (arith, count-is) in (
           rw (accepted, le-ltb (length out) (8 * taskCount t) l) count-is,
-          rw (accepted, le-ltb (length out) (8 * taskCount t) l) (written ∙ rw (report-long, report-is)),
+          rw (accepted, le-ltb (length out) (8 * taskCount t) l) (report-leaves false judge-plan out h ∙ ap (λ (n : ℕ). reportBytes (contentIn t) ++ drop (8 * n) out) count-is),
+        )
+
+-- ---- the wishes
+
+module _ (t out : List ℕ) (w : Wished) (e : w ≡ wishOf t) where
+  wish-verdict : w .answer ≡ wishVerdict t
+  unfolding wishOf
+  wish-verdict = ap (λ (r : Wished). r .answer) e
+
+  pub wish-refused : (k i : ℕ) → w .answer ≡ Refused k i → (answerNumber (Refused k i) 0 ≡ wishNumber t (length out)) × (out ≡ wishLeaves t out)
+  unfolding wishNumber wishLeaves wishTest firstMet answerNumber
+  wish-refused k i a = let v = sym wish-verdict ∙ a in (rw v, rw v)
+
+  module _ (a : w .answer ≡ Accepted) where
+    met : wishVerdict t ≡ Accepted
+    met = sym wish-verdict ∙ a
+
+    pub wish-plan : Reported (solved (contentIn t)) (w .plan)
+    unfolding wishOf
+    wish-plan = record { plan-is = ap (λ (r : Wished). r .plan) e ∙ rw met; passed = wish-accepted t met }
+
+    wishers : w .plan .tasks ≡ taskCount t
+    unfolding solved atSlack withOffsets contentIn taskSetIn
+    wishers = tasks-are true wish-plan
+
+    pub wish-short :
+        length out < 12 * w .plan .tasks → (answerNumber (Refused 24 0) 0 ≡ wishNumber t (length out)) × (out ≡ wishLeaves t out)
+    unfolding wishNumber wishLeaves wishTest firstMet answerNumber
+    wish-short h =
+        let l : length out < 12 * taskCount t = omega (arith, wishers) in
+        (rw (met, lt-ltb (length out) (12 * taskCount t) l), rw (met, lt-ltb (length out) (12 * taskCount t) l))
+
+    pub wish-done :
+        12 * w .plan .tasks ≤ length out →
+        (w .plan .tasks ≡ wishNumber t (length out)) × (sets out 0 (entries (entryOf true (w .plan)) (w .plan .tasks)) ≡ wishLeaves t out)
+    unfolding wishNumber wishLeaves wishTest firstMet answerNumber foundBytes
+    wish-done h =
+        let l : 12 * taskCount t ≤ length out = omega (arith, wishers) in (
+          rw (met, le-ltb (length out) (12 * taskCount t) l) wishers,
+          rw (met, le-ltb (length out) (12 * taskCount t) l) (report-leaves true wish-plan out h ∙ ap (λ (n : ℕ). foundBytes (solved (contentIn t)) ++ drop (12 * n) out) wishers),
         )
 
 -- ---- the names

@@ -6,10 +6,15 @@
 --     judgeLeaves     the lent buffer afterwards
 --     countedTest     1 to 13, and then 24 of the names
 --     countedNumber, countedLeaves    how many names, and the lent buffer afterwards
+--     wishTest        what a wish sheet meets, and then 24
+--     wishNumber      the answer to a sheet
+--     foundBytes      offset, slack and bound for each loop; wishLeaves: the lent buffer afterwards
 --     runNumber       the log run's answer; what it leaves behind is replay's `runLeaves`
 --     sentenceNumber  the answer of the sentence; what it leaves behind is wording's `sentenceLeaves`
---     pairOf, Reportable    one task's eight bytes from a plan, and what the plan keeps to so that they fit
+--     entrySize, entryBytes, entryOf, Reportable    one task's bytes from a plan, with its offset first where it was found, and what the plan keeps to so
+--                                       that they fit
 use Prim.Native.Nat.{ℕ, _+_, _*_, _≤_, _<_}
+use mathlib.Core.Bool.{Bool, true, false}
 use mathlib.Core.List.{List, [], _∷_, _++_}
 use lib.ListN.{length, drop}
 use lib.Dec.{ltb}
@@ -22,6 +27,8 @@ use Rattle.numbers.specs.Bytes.{digits, entries}
 use Rattle.codec.specs.Table.{taskCount, contentIn, verdict}
 use Rattle.table.specs.Judged.{countedIn}
 use Rattle.replay.specs.Ran.{runTest, ranOf}
+use Rattle.wishes.specs.Wish.{solved}
+use Rattle.sheet.specs.Wished.{wishVerdict}
 use Rattle.wording.specs.Sentence.{sentenceOf}
 use Rattle.wording.specs.Told.{sentenceTest}
 
@@ -60,13 +67,39 @@ countedLeaves t out = unlessRefused (countedTest t (length out)) (countedIn t ++
 unfoldable pub boundIn : Plan → ℕ → ℕ
 boundIn p i = taskOf (p .task) i .offset + row (p .slack) i + taskOf (p .task) i .budget
 
-unfoldable pub pairOf : Plan → ℕ → List ℕ
-pairOf p i = digits 4 (row (p .slack) i) ++ digits 4 (boundIn p i)
+-- eight bytes for a judgement, twelve for a wish
+abbrev pub entrySize : Bool → ℕ
+entrySize true = 12
+entrySize false = 8
 
-pub record Reportable (p : Plan) (room : ℕ) : Type 0 where
+abbrev pub entryBytes : Bool → ℕ → ℕ → ℕ → List ℕ
+entryBytes true offset slack bound = digits 4 offset ++ (digits 4 slack ++ digits 4 bound)
+entryBytes false offset slack bound = digits 4 slack ++ digits 4 bound
+
+unfoldable pub entryOf : Bool → Plan → ℕ → List ℕ
+entryOf wishes p i = entryBytes wishes (taskOf (p .task) i .offset) (row (p .slack) i) (boundIn p i)
+
+pub record Reportable (wishes : Bool) (p : Plan) (room : ℕ) : Type 0 where
   pub few : p .tasks ≤ 16
-  pub fits : 8 * p .tasks ≤ room
+  pub fits : entrySize wishes * p .tasks ≤ room
   pub small : (i : ℕ) → i < p .tasks → boundIn p i < 4294967296
+
+-- 24, after 27, where the lent buffer is shorter than 12 bytes for each loop
+unfoldable pub wishTest : List ℕ → ℕ → Answer
+wishTest t room = firstMet (wishVerdict t ∷ refuse 24 (ltb room (12 * taskCount t)) ∷ [])
+
+unfoldable pub wishNumber : List ℕ → ℕ → ℕ
+wishNumber t room = answerNumber (wishTest t room) (taskCount t)
+
+-- offset, slack and bound for each loop, 4 bytes each
+unfoldable pub foundBytes : Content → List ℕ
+foundBytes c =
+    entries (λ i. digits 4 (c .tasks .task i .offset) ++ (digits 4 (c .slack i) ++ digits 4 (bound (c .tasks) (c .slack) i))) (c .tasks .count)
+
+-- "bytes beyond stay", and "Nothing lent is written" on a refusal
+unfoldable pub wishLeaves : List ℕ → List ℕ → List ℕ
+wishLeaves t out =
+    unlessRefused (wishTest t (length out)) (foundBytes (solved (contentIn t)) ++ drop (12 * taskCount t) out) out
 
 -- "taken + 65,536 × refused for a log run, and 4,294,967,296 × refusal number + index for a refused call"
 unfoldable pub runNumber : List ℕ → List ℕ → ℕ → ℕ

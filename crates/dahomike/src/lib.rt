@@ -3,6 +3,7 @@ use decimal::put_words;
 use numbers::put4;
 use replay::run_log;
 use sentence::sentence;
+use sheet::wish;
 use table::judge;
 use tasks::Answer;
 use tasks::Plan;
@@ -15,7 +16,7 @@ ghost use lib.ListN.{length};
 ghost use lib.Seq.{sets};
 ghost use Rattle.numbers.specs.Bytes.{digits, entries};
 ghost use Rattle.replay.specs.Ran.{runLeaves};
-ghost use Rattle.dahomike.specs.Answers.{answerNumber, judgeNumber, judgeLeaves, countedNumber, countedLeaves, runNumber, sentenceNumber, pairOf, Reportable};
+ghost use Rattle.dahomike.specs.Answers.{answerNumber, judgeNumber, judgeLeaves, countedNumber, countedLeaves, wishNumber, wishLeaves, runNumber, sentenceNumber, entrySize, entryBytes, entryOf, Reportable};
 ghost use Rattle.wording.specs.Told.{sentenceLeaves};
 
 // "4,294,967,296 × refusal number + index for a refused call"
@@ -37,10 +38,23 @@ fn put_pair(out: &mut [u8], at: usize, slack: u32, bound: u32)
     put4(out, at + 4, bound);
 }
 
+// The entry of task `i` among entries of one size: slack and bound, and before them the offset where it was found for a wish.
+fn put_entry(out: &mut [u8], i: usize, offset: u32, slack: u32, bound: u32, wishes: bool)
+    requires { ⌜ (i < 16) × (entrySize wishes * i + entrySize wishes ≤ length (now out)) ⌝ }
+    ensures { λ _. ⌜ now (out .exit) ≡ sets (now (out .entry)) (entrySize wishes * i) (entryBytes wishes offset slack bound) ⌝ }
+{
+    if wishes {
+        put4(out, 12 * i, offset);
+        put_pair(out, 12 * i + 4, slack, bound);
+        return;
+    }
+    put_pair(out, 8 * i, slack, bound);
+}
+
 // "The C judgement writes slack and bound for each loop"
-fn report(plan: Plan, out: &mut [u8])
-    requires { ⌜ Reportable plan (length (now out)) ⌝ }
-    ensures { λ _. ⌜ now (out .exit) ≡ sets (now (out .entry)) 0 (entries (pairOf plan) (plan .tasks)) ⌝ }
+fn report(plan: Plan, out: &mut [u8], wishes: bool)
+    requires { ⌜ Reportable wishes plan (length (now out)) ⌝ }
+    ensures { λ _. ⌜ now (out .exit) ≡ sets (now (out .entry)) 0 (entries (entryOf wishes plan) (plan .tasks)) ⌝ }
 {
     let tasks = plan.tasks;
     let task = plan.task;
@@ -48,7 +62,14 @@ fn report(plan: Plan, out: &mut [u8])
     let mut i = 0;
     while i < tasks {
         let t = task[i];
-        put_pair(out, 8 * i, slack[i], t.offset + slack[i] + t.budget);
+        put_entry(
+            out,
+            i,
+            t.offset,
+            slack[i],
+            t.offset + slack[i] + t.budget,
+            wishes,
+        );
         i += 1;
     }
 }
@@ -71,7 +92,29 @@ pub extern "C" fn dahomike_judge(table: &[u8], out: &mut [u8]) -> u64
             index: 0,
         });
     }
-    report(plan, out);
+    report(plan, out, false);
+    tasks as u64
+}
+
+// Offsets and slack for a wish sheet: n and each task's offset, slack and bound, or the refusal.
+#[no_mangle]
+pub extern "C" fn dahomike_wish(sheet: &[u8], out: &mut [u8]) -> u64
+    ensures { λ r. ⌜ (r ≡ wishNumber (now (sheet .entry)) (length (now (out .entry)))) × (now (out .exit) ≡ wishLeaves (now (sheet .entry)) (now (out .entry))) ⌝ }
+{
+    let wished = wish(sheet);
+    let answer = wished.answer;
+    let Answer::Accepted = answer else {
+        return refused(answer);
+    };
+    let plan = wished.plan;
+    let tasks = plan.tasks;
+    if out.len() < 12 * tasks {
+        return refused(Answer::Refused {
+            number: refusal::BUFFER_TOO_SHORT,
+            index: 0,
+        });
+    }
+    report(plan, out, true);
     tasks as u64
 }
 

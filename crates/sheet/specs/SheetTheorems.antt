@@ -1,7 +1,8 @@
 -- What document 02, §3, says of the plan that `wish` finds, of bytes.
+--     wish-accepted    what is found meets none of 3 to 13
 --     wish-says        the plan says the offsets and the slack found
 --     wish-best        they are a solution, the slack the least and each offset the largest of all solutions
---     wish-passes      the plan meets none of 3 to 13
+--     wish-passes      nor does the plan
 --     wish-judged      its table, with its slack left out, is accepted by `judge` as that plan
 --     wish-written     so are the bytes that `write` leaves
 --     wish-unsolved    27 is met exactly if no solution exists
@@ -40,13 +41,13 @@ module _ (t : List ℕ) (a : wishVerdict t ≡ Accepted) where
   unfolding wishVerdict
   passed = firstMet-passed (wishTests (contentIn t)) [] (firstMet-passed (test2 t) _ (firstMet-passed (test1 t) _ a .1) .1) .0
 
-  accepted : tests (solved (contentIn t)) ≡ Accepted
-  accepted = solved-accepted (contentIn t) passed
+  pub wish-accepted : tests (solved (contentIn t)) ≡ Accepted
+  wish-accepted = solved-accepted (contentIn t) passed
 
   fits : Fits (solved (contentIn t))
   unfolding solved atSlack withOffsets contentIn taskSetIn
   fits =
-      let L = tests-limits (solved (contentIn t)) accepted in
+      let L = tests-limits (solved (contentIn t)) wish-accepted in
       record {
         cores-high = L .cores-high;
         tasks-high = L .tasks-high;
@@ -70,7 +71,7 @@ module _ (t : List ℕ) (a : wishVerdict t ≡ Accepted) where
 
   pub wish-passes : testPlan (wishOf t .plan) ≡ Accepted
   unfolding testPlan
-  wish-passes = ap tests wish-says ∙ accepted
+  wish-passes = ap tests wish-says ∙ wish-accepted
 
   -- "The plan found, with its slack left out, is accepted by the judge with the same slack."
   tidy-is : tidy (wishOf t .plan) ≡ wishOf t .plan

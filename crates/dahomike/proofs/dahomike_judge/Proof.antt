@@ -2,7 +2,9 @@
 use mathlib.Core.Path.{_∙_, ap}
 use Rattle.tasks.specs.declared.Answer.{Answer}
 use Rattle.dahomike.specs.Answers.{answerNumber}
-use Rattle.dahomike.specs.AnswerLaws.{judge-refused, judge-short, judge-done, reportable, few-tasks}
+use Rattle.dahomike.specs.AnswerLaws.{judge-refused, judge-short, judge-done, judge-plan}
+use Rattle.dahomike.specs.ReportLaws.{tasks-few, reportable}
+use mathlib.Core.Bool.{false}
 use native.Mathlib.Omega.{arith}
 use borrow.Author.Needs.{needs}
 use Rattle.dahomike.proofs.dahomike_judge.Statement.{statement}
@@ -30,7 +32,7 @@ returns c =
 mul-if1 : tie.Need-mul-if1
 mul-if1 c =
     let s = c .before .before .before .before .before .before in
-    omega (arith, few-tasks (s .args .table .now) (s .args .out .now) _ (c .before .before .before .judge .ensures) (c .before .enum-told .given .1))
+    omega (arith, tasks-few false (judge-plan (s .args .table .now) (s .args .out .now) _ (c .before .before .before .judge .ensures) (c .before .enum-told .given .1)))
 
 refused-requires-2 : tie.Need-refused-requires-2
 refused-requires-2 c κs = search needs
@@ -44,7 +46,7 @@ returns-2 c =
 report-requires : tie.Need-report-requires
 report-requires c κs =
     let s = c .before .before .before .before .before .before .before .before in
-    reportable (s .args .table .now) (s .args .out .now) _ (c .before .before .before .before .before .judge .ensures) (c .before .before .before .enum-told .given .1) (c .before .if1 .left)
+    reportable false (judge-plan (s .args .table .now) (s .args .out .now) _ (c .before .before .before .before .before .judge .ensures) (c .before .before .before .enum-told .given .1)) _ (c .before .if1 .left)
 
 same-length : tie.Need-same-length
 same-length c = search needs
