@@ -3,3 +3,4 @@ pub mod WishLaws
 pub mod WishTheorems
 pub mod RaisingLaws
 pub mod PlainWishLaws
+pub mod LeapLaws

@@ -1,6 +1,6 @@
 -- The amount A of a sheet's tasks with the largest offsets that a slack leaves, and the slack that is found by raising.
 --     share-kept, needed-kept        share, and what an amount needs, do not depend on the offsets
---     largest-low                    a largest offset is at most T
+--     largest-low                    a largest offset is at most T; largest-mono-at: x + Y does not fall and Y does not rise as x rises
 --     at-mono                      A, with the largest offsets that a slack leaves, does not fall as the slack rises
 --     offsets-lower                  A does not rise as an offset rises
 --     Within                         at every slack the tasks are within the limits
@@ -85,7 +85,7 @@ unfolding largestOffset
 largest-low t x = omega arith
 
 -- x + Y does not fall and Y does not rise as x rises
-largest-mono-at : (t : Task) (x v : ℕ) → x ≤ v → (x + largestOffset t x ≤ v + largestOffset t v) × (largestOffset t v ≤ largestOffset t x)
+pub largest-mono-at : (t : Task) (x v : ℕ) → x ≤ v → (x + largestOffset t x ≤ v + largestOffset t v) × (largestOffset t v ≤ largestOffset t x)
 unfolding largestOffset
 largest-mono-at t x v h = (omega arith, omega arith)
 
