@@ -33,7 +33,7 @@ fn shares(separation: &[u32; 16], budget: &[u32; 16], multiple: u64, tasks: usiz
     share
 }
 
-fn total(share: &[u64; 16], tasks: usize) -> u64
+pub fn total(share: &[u64; 16], tasks: usize) -> u64
     requires { ⌜ (tasks ≤ 16) × ((i : ℕ) → i < tasks → row (now share) i ≤ 1000000) ⌝ }
     ensures { λ r. ⌜ r ≡ sum (row (now (share .entry))) tasks ⌝ }
 {

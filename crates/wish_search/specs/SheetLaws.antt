@@ -1,5 +1,5 @@
 -- A wish sheet's arrays: what they keep to, and the tasks that they stand for at a slack.
---     cores-low … rates-low       every number is small
+--     cores-low … room-high       every number is small
 --     offset-row                  the offsets that the code works out are the largest
 --     at-arrays                   with the largest offsets and their surpluses the arrays are those of the tasks at a slack; arrays: so there are such
 --     past-test                   the code's test of one task is the definition's
@@ -37,6 +37,14 @@ module _ {s : TaskSet} {shares separations budgets rooms : List ℕ} {h m n : �
   pub tasks-high : n ≤ 16
   unfolding atSlack withOffsets
   tasks-high = omega (arith, g .tasks, L .tasks-high)
+
+  pub more : m < n
+  unfolding atSlack withOffsets
+  more = omega (arith, g .cores, g .tasks, L .more-tasks)
+
+  pub multiple-high : h ≤ 1000000
+  unfolding atSlack withOffsets hyperperiod
+  multiple-high = omega (arith, g .multiple, L .multiple-high)
 
   pub separation-high : (i : ℕ) → i < n → row separations i ≤ 100000
   unfolding atSlack withOffsets
