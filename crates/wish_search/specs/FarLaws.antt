@@ -128,8 +128,8 @@ module _ {s : TaskSet} {shares separations budgets rooms : List ℕ} {h m n : �
                 let under = number-under v p in
                 let cost =
                 leap-cost s (row x) v gains climbs j p
-                    (λ i l. rw (raised i l) (le-trans (need-mono s (g .sheet .limits) _ _ i (mul-le-mul-left (hyperperiod s) (omega (arith, e)))) (under i l)))
-                    (λ i l low. rw (raised i l) (le-trans (rises-by s (g .sheet .limits) start j i (rw (raised i l) at low)) (rw e at (under i l))))
+                (λ i l. rw (raised i l) (le-trans (need-mono s (g .sheet .limits) _ _ i (mul-le-mul-left (hyperperiod s) (omega (arith, e)))) (under i l)))
+                (λ i l low. rw (raised i l) (le-trans (rises-by s (g .sheet .limits) start j i (rw (raised i l) at low)) (rw e at (under i l))))
                 in
                 let covers = need-covers (amount (atSlack s v) v) (hyperperiod s) (hyperperiod-low s) in
                 let step : s .cores ≡ m = sym (g .cores) in

@@ -29,8 +29,8 @@ abbrev pub Entry : List ℕ → List ℕ → List ℕ → List ℕ → List ℕ 
 Entry share separation room slack names i r =
     (r ≡ 0)
     ⊎ ((r ≡ row share i)
-      × (1 ≤ row slack i)
-      × ((member i names ≡ true) ⊎ (row room i ≤ row slack i + row separation i)))
+    × (1 ≤ row slack i)
+    × ((member i names ≡ true) ⊎ (row room i ≤ row slack i + row separation i)))
 
 module _ (share separation room slack names : List ℕ) where
   pub gains-cut : (i r : ℕ) → Gain (row share i) (row separation i) (row room i) (row slack i) r → Entry share separation room slack names i r

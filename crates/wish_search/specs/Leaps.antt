@@ -22,8 +22,8 @@ Gains share separation room slack names n gain =
     (i : ℕ) → i < n
     → (row gain i ≡ 0)
     ⊎ ((row gain i ≡ row share i)
-      × (1 ≤ row slack i)
-      × ((member i names ≡ true) ⊎ (row room i ≤ row slack i + row separation i)))
+    × (1 ≤ row slack i)
+    × ((member i names ≡ true) ⊎ (row room i ≤ row slack i + row separation i)))
 
 -- what A of a slack needs
 abbrev pub needAt : TaskSet → (ℕ → ℕ) → ℕ

@@ -1,9 +1,9 @@
 pub mod SheetArrays
 pub mod SheetLaws
-pub mod TurnLaws
 pub mod Leaps
 pub mod GainLaws
 pub mod FarLaws
+pub mod TurnLaws
 pub mod Solved
 pub mod SolvedLaws
 pub mod PlanSolvedLaws

@@ -3,17 +3,19 @@
 --     offsetRow     the smaller of T and W − C − x
 --     pastRow       whether x is above W − C
 --     SheetOf       the arrays and numbers are those of the sheet s
+--     Onward        a number by which the slack x can be raised: it covers A, and every solution's slack covers what it needs
 --     Ended         where the search ends: at the wished slack, or where it shows that there is no solution
-use Prim.Native.Nat.{ℕ, _-_, _<_, min}
+use Prim.Native.Nat.{ℕ, _-_, _*_, _≤_, _<_, min}
 use mathlib.Core.Path.{_≡_}
 use mathlib.Core.Bool.{Bool, true, false}
 use mathlib.Core.List.{List}
 use lib.Dec.{ltb}
 use Rattle.laws.specs.First.{first}
 use Rattle.laws.specs.Tab.{tab}
-use Rattle.tasks.specs.TaskSet.{TaskSet, hyperperiod, share, row}
-use Rattle.wishes.specs.Wish.{room, wished, passes, noSolution}
+use Rattle.tasks.specs.TaskSet.{TaskSet, hyperperiod, share, amount, needed, row}
+use Rattle.wishes.specs.Wish.{room, atSlack, wished, passes, noSolution}
 use Rattle.wishes.specs.WishTheorems.{Sheet}
+use Rattle.wishes.specs.RaisingLaws.{Solving, Below}
 
 unfoldable pub roomRow : List ℕ → List ℕ → ℕ → ℕ
 roomRow wish budget i = row wish i - row budget i
@@ -33,6 +35,10 @@ pub record SheetOf (s : TaskSet) (shares separations budgets rooms : List ℕ) (
   pub separation : (i : ℕ) → i < s .count → row separations i ≡ s .task i .separation
   pub budget : (i : ℕ) → i < s .count → row budgets i ≡ s .task i .budget
   pub room : (i : ℕ) → i < s .count → row rooms i ≡ room (s .task i)
+
+pub record Onward (s : TaskSet) (x : ℕ → ℕ) (d : ℕ) : Type 0 where
+  pub high : amount (atSlack s x) x ≤ hyperperiod s * d
+  pub under : Below s x → (v : ℕ → ℕ) → Solving s v → (k : ℕ) → k < s .count → needed s (hyperperiod s * d) k ≤ v k
 
 pub record Ended (s : TaskSet) (slack : List ℕ) : Type 0 where
   pub past : (k : ℕ) → k < s .count → passes s (row slack) k ≡ true → noSolution s ≡ true

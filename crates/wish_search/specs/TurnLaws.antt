@@ -1,6 +1,6 @@
 -- One turn of the search for a wish sheet's slack: x, nowhere above W − C, is raised to y by the number d.
 --     within          no task's slack is above W − C
---     needs-high, needs-under    d is what A of x needs: it covers A, and every solution's slack covers what it needs
+--     onward-round, onward-leap    what A of x needs is a number to go on with, and so is one that a leap ends at
 --     turn-below      no solution's slack is below y
 --     turn-falls      something changed: the distance to W − C falls
 --     ended-still     nothing changed: the search has ended with the wished slack
@@ -10,6 +10,7 @@ use mathlib.Core.Path.{_≡_, refl, sym, _∙_, ap}
 use mathlib.Core.Bool.{true, false, true≢false}
 use mathlib.Core.List.{List}
 use mathlib.Core.Logic.{⊎-elim}
+use native.Mathlib.Nat.{le-trans, mul-le-mul-left}
 use native.Mathlib.Omega.{arith}
 use lib.ListN.{length}
 use lib.Dec.{ltb}
@@ -24,13 +25,50 @@ use Rattle.laws.specs.TabLaws.{ext-tab}
 use Rattle.tasks.specs.TaskSet.{TaskSet, hyperperiod, amount, needed, row}
 use Rattle.tasks.specs.ShareLaws.{hyperperiod-low}
 use Rattle.slack.specs.Arrays.{lifted, need, upto, Needs}
-use Rattle.slack.specs.NeedLaws.{need-covers, needed-rounded}
+use Rattle.slack.specs.NeedLaws.{need-covers, need-least, needed-rounded}
 use Rattle.slack.specs.SearchLaws.{changes, turn-lifted, turn-length, turn-past, turn-still, turn-changed}
 use Rattle.wishes.specs.Wish.{room, withOffsets, atSlack, wished, passes, noSolution}
-use Rattle.wishes.specs.WishLaws.{wished-past}
+use Rattle.wishes.specs.WishLaws.{at-mono, need-mono, wished-past}
 use Rattle.wishes.specs.RaisingLaws.{Solving, Below, below-next, below-round, below-less, below-over, below-past}
-use Rattle.wish_search.specs.SheetArrays.{pastRow, SheetOf, Ended}
+use Rattle.wish_search.specs.SheetArrays.{pastRow, SheetOf, Onward, Ended}
 use Rattle.wish_search.specs.SheetLaws.{arrays, past-test}
+use Rattle.wish_search.specs.Leaps.{needAt, Ahead}
+use Rattle.wish_search.specs.FarLaws.{number-under}
+
+module _ {s : TaskSet} {shares separations budgets rooms : List ℕ} {h m n : ℕ} (g : SheetOf s shares separations budgets rooms h m n)
+    (x : List ℕ) {names : List ℕ} {d : ℕ} (N : Needs (atSlack s (row x)) (row x) names d)
+  where
+    needs-high : amount (atSlack s (row x)) (row x) ≤ hyperperiod s * d
+    unfolding hyperperiod atSlack withOffsets
+    needs-high = rw (N .needs) (need-covers (amount (atSlack s (row x)) (row x)) (hyperperiod s) (hyperperiod-low s))
+
+    needs-under : Below s (row x) → (v : ℕ → ℕ) → Solving s v → (k : ℕ) → k < s .count → needed s (hyperperiod s * d) k ≤ v k
+    unfolding needed hyperperiod atSlack withOffsets
+    needs-under l v p k i =
+        rw (needed-rounded (atSlack s (row x)) (g .sheet .limits (row x)) (amount (atSlack s (row x)) (row x)) k d (N .needs))
+        (below-round s (g .sheet .limits) (row x) l v p k i)
+
+    pub onward-round : Onward s (row x) d
+    onward-round = record { high = needs-high; under = needs-under }
+
+    -- A of no solution's slack needs less
+    at-least : Below s (row x) → (v : ℕ → ℕ) → Solving s v → d ≤ needAt s v
+    unfolding hyperperiod atSlack withOffsets
+    at-least l v p =
+        rw (N .needs)
+        (need-least (amount (atSlack s (row x)) (row x)) (hyperperiod s) (hyperperiod-low s) (needAt s v)
+        (le-trans (at-mono s (row x) v (l .least v p)) (need-covers (amount (atSlack s v) v) (hyperperiod s) (hyperperiod-low s))))
+
+    pub onward-leap : (e : ℕ) → d ≤ e → Ahead s d e → Onward s (row x) e
+    onward-leap e h ahead =
+        record {
+          high = le-trans needs-high (mul-le-mul-left (hyperperiod s) h);
+          under =
+              λ l v p k i.
+              le-trans
+              (need-mono s (g .sheet .limits) _ _ k (mul-le-mul-left (hyperperiod s) (ahead v p (at-least l v p))))
+              (number-under g v p k i);
+        }
 
 module _ {s : TaskSet} {shares separations budgets rooms : List ℕ} {h m n : ℕ} (g : SheetOf s shares separations budgets rooms h m n)
     (x : List ℕ) (l : Below s (row x))
@@ -57,17 +95,6 @@ module _ {s : TaskSet} {shares separations budgets rooms : List ℕ} {h m n : �
             let yes = sym (past-test g x k t) ∙ first-holds (pastRow x rooms) n e in
             let no = none k t in
             true≢false (sym yes ∙ no)
-
-    module _ {names : List ℕ} {d : ℕ} (N : Needs (atSlack s (row x)) (row x) names d) where
-      pub needs-high : amount (atSlack s (row x)) (row x) ≤ hyperperiod s * d
-      unfolding hyperperiod atSlack withOffsets
-      needs-high = rw (N .needs) (need-covers (amount (atSlack s (row x)) (row x)) (hyperperiod s) (hyperperiod-low s))
-
-      pub needs-under : (v : ℕ → ℕ) → Solving s v → (k : ℕ) → k < s .count → needed s (hyperperiod s * d) k ≤ v k
-      unfolding needed hyperperiod atSlack withOffsets
-      needs-under v p k i =
-          rw (needed-rounded (atSlack s (row x)) (g .sheet .limits (row x)) (amount (atSlack s (row x)) (row x)) k d (N .needs))
-          (below-round s (g .sheet .limits) (row x) l v p k i)
 
     module _ (d : ℕ) (quotient rest : List ℕ) (q : quotient ≡ tab (cut n (λ i. row budgets i / m) 0) 16)
         (r : rest ≡ tab (cut n (λ i. row budgets i % m) 0) 16) (y : List ℕ)

@@ -1,4 +1,5 @@
 // The search for a wish sheet's slack: raised from zeros, each time with the largest offsets that it leaves.
+use crate::leap::leap;
 use crate::offsets::first_past;
 use crate::offsets::offsets;
 use slack::amount::needed;
@@ -6,13 +7,15 @@ use slack::rates::surplus_of;
 use slack::vector::quotients;
 use slack::vector::raise;
 use slack::vector::remainders;
+ghost use mathlib.Core.Path.{_≡_};
 ghost use mathlib.Core.List.{List};
-ghost use Prim.Native.Nat.{ℕ, _<_, _≤_};
+ghost use Prim.Native.Nat.{ℕ, _-_, _/_, _%_, _<_, _≤_};
+ghost use Rattle.laws.specs.Tab.{tab, cut};
 ghost use Rattle.tasks.specs.TaskSet.{TaskSet, row};
 ghost use Rattle.largest.specs.Chosen.{Arranged};
 ghost use Rattle.slack.specs.Arrays.{Needs};
 ghost use Rattle.wishes.specs.Wish.{atSlack};
-ghost use Rattle.wish_search.specs.SheetArrays.{SheetOf, Ended};
+ghost use Rattle.wish_search.specs.SheetArrays.{SheetOf, Onward, Ended};
 
 // What A needs at a slack.
 fn needed_at(
@@ -42,6 +45,62 @@ fn needed_at(
     )
 }
 
+// So many rounds are made one by one. Few sheets need more; those that do can need some 800,000.
+const ROUNDS: u32 = 64;
+
+fn one_less(x: u32) -> u32
+    ensures { λ r. ⌜ r ≡ x - 1 ⌝ }
+{
+    if x == 0 {
+        return 0;
+    }
+    x - 1
+}
+
+// The number by which the slack is raised next: what A needs or, once the rounds are used up, the least that a solution's A could need.
+fn next(
+    share: &[u64; 16],
+    separation: &[u32; 16],
+    room: &[u32; 16],
+    quotient: &[u32; 16],
+    rest: &[u32; 16],
+    slack: &[u32; 16],
+    names: &mut [u8; 16],
+    multiple: u64,
+    cores: usize,
+    tasks: usize,
+    rounds: u32,
+) -> u32
+    requires { ⌜ ((s : TaskSet) × (b : List ℕ) × SheetOf s (now share) (now separation) b (now room) multiple cores tasks × (now quotient ≡ tab (cut tasks (λ i. row b i / cores) 0) 16) × (now rest ≡ tab (cut tasks (λ i. row b i % cores) 0) 16)) × Arranged (now names) tasks × ((i : ℕ) → i < tasks → row (now slack) i ≤ 1600000) ⌝ }
+    ensures { λ r. ⌜ ((s : TaskSet) (b : List ℕ) → SheetOf s (now (share .entry)) (now (separation .entry)) b (now (room .entry)) multiple cores tasks → (now (quotient .entry) ≡ tab (cut tasks (λ i. row b i / cores) 0) 16) → (now (rest .entry) ≡ tab (cut tasks (λ i. row b i % cores) 0) 16) → Onward s (row (now (slack .entry))) r) × Arranged (now (names .exit)) tasks × (r ≤ 12000000) ⌝ }
+{
+    let least = needed_at(
+        share,
+        separation,
+        room,
+        slack,
+        names,
+        multiple,
+        cores,
+        tasks,
+    );
+    if 0 < rounds {
+        return least;
+    }
+    leap(
+        share,
+        separation,
+        room,
+        quotient,
+        rest,
+        names,
+        multiple,
+        cores,
+        tasks,
+        least,
+    )
+}
+
 // Raised until nothing changes, or until some task's slack is above W − C: then there is no solution.
 pub fn search(
     share: &[u64; 16],
@@ -59,21 +118,26 @@ pub fn search(
     let divisor = cores as u32;
     let quotient = quotients(budget, divisor, tasks);
     let rest = remainders(budget, divisor, tasks);
+    let mut rounds = ROUNDS;
     let mut slack = [0u32; 16];
     loop {
         if first_past(&slack, room, tasks) < tasks {
             break slack;
         }
-        let need = needed_at(
+        let need = next(
             share,
             separation,
             room,
+            &quotient,
+            &rest,
             &slack,
             names,
             multiple,
             cores,
             tasks,
+            rounds,
         );
+        rounds = one_less(rounds);
         if !raise(
             &mut slack,
             &quotient,

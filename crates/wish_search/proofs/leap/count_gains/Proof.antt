@@ -16,7 +16,7 @@ Inv-loop gain₀ share slack names many tasks a₀ gain a =
     (a ≤ many)
     × (length gain ≡ 16)
     × ((separation room : List ℕ) → Gains share separation room slack [] tasks gain₀
-      → Gains share separation room slack (take many names) tasks gain)
+    → Gains share separation room slack (take many names) tasks gain)
 
 abbrev μ-loop : tie.MeasureT-loop
 μ-loop gain₀ share slack names many tasks a₀ gain a = many - a

@@ -32,11 +32,11 @@ Inv-loop share separation room quotient rest names₀ multiple cores tasks start
     × (start ≤ best)
     × Arranged names tasks
     × ((s : TaskSet) (b : List ℕ) → SheetOf s share separation b room multiple cores tasks
-      → quotient ≡ tab (cut tasks (λ i. row b i / cores) 0) 16
-      → rest ≡ tab (cut tasks (λ i. row b i % cores) 0) 16
-      → (k : ℕ)
-      → k < i
-      → Far s (start + k) best)
+    → quotient ≡ tab (cut tasks (λ i. row b i / cores) 0) 16
+    → rest ≡ tab (cut tasks (λ i. row b i % cores) 0) 16
+    → (k : ℕ)
+    → k < i
+    → Far s (start + k) best)
 
 abbrev μ-loop : tie.MeasureT-loop
 μ-loop share separation room quotient rest names₀ multiple cores tasks start best₀ i₀ names best i = cores - i

@@ -2,6 +2,7 @@
 use borrow.Author.Tests.{ltb-true, ltb-false, not-true, not-false}
 use native.Mathlib.Nat.{le-trans, div-le-self}
 use native.Mathlib.Omega.{arith}
+use borrow.Author.Needs.{needs}
 use lib.Dec.{ltb}
 use lib.ListN.{length, getD, replicate, getD-replicate, List·getD-eq-default}
 use mathlib.Core.Bool.{Bool, true, false}
@@ -16,7 +17,7 @@ use Rattle.slack.specs.SearchLaws.{turn-length, turn-past}
 use Rattle.wishes.specs.RaisingLaws.{Below, below-start}
 use Rattle.wish_search.specs.SheetArrays.{pastRow, SheetOf}
 use Rattle.wish_search.specs.SheetLaws.{cores-low, cores-high, tasks-high, room-high, arrays}
-use Rattle.wish_search.specs.TurnLaws.{within, needs-high, needs-under, turn-below, turn-falls, ended-still, ended-past}
+use Rattle.wish_search.specs.TurnLaws.{within, turn-below, turn-falls, ended-still, ended-past}
 use Rattle.wish_search.proofs.search.search.Statement.{statement}
 use Rattle.wish_search.proofs.search.search.Tie as tie
 
@@ -44,57 +45,54 @@ low g x b e i l =
     omega (arith, within g x b e i t, g .room i t, room-high g i l)
 
 abbrev Inv-loop : tie.InvT-loop
-Inv-loop share separation budget room names₀ multiple cores tasks divisor quotient rest slack₀ names slack =
+Inv-loop share separation budget room names₀ multiple cores tasks divisor quotient rest rounds₀ slack₀ names rounds slack =
     (length slack ≡ 16)
     × ((k : ℕ) → tasks ≤ k → row slack k ≡ 0)
     × Arranged names tasks
     × ((s : TaskSet) → SheetOf s share separation budget room multiple cores tasks → Below s (row slack))
 
 abbrev μ-loop : tie.MeasureT-loop
-μ-loop share separation budget room names₀ multiple cores tasks divisor quotient rest slack₀ names slack =
+μ-loop share separation budget room names₀ multiple cores tasks divisor quotient rest rounds₀ slack₀ names rounds slack =
     sum (row room) tasks + 1 - sum (row slack) tasks
 
 loop-holds : tie.Need-loop-holds Inv-loop μ-loop
 loop-holds c = (refl, λ k l. zeros k, c .before .before .pre .1, λ t k. below-start t (k .sheet .limits) _ (λ i l. zeros i))
 
-needed-at-requires : tie.Need-needed-at-requires Inv-loop μ-loop
-needed-at-requires c κs =
-    let g = c .before .before .before .before .before .before .before .before .pre .0 .1 in
-    let l = c .before .before .before .before .before .loop in
-    let e = not-below (c .before .before .before .first-past .ensures) (c .before .before .if1 .left) in
-    ((_, _, g), l .inv .2, λ i h. low g (l .slack) (l .inv .3 _ g) e i h)
+next-requires : tie.Need-next-requires Inv-loop μ-loop
+next-requires c κs =
+    let g = c .before .before .before .before .before .before .before .before .before .before .pre .0 .1 in
+    let l = c .before .before .before .before .before .before .before .loop in
+    ((_, _, g, c .before .before .before .before .before .before .before .before .before .quotients .ensures, c .before .before .before .before .before .before .before .before .remainders .ensures), l .inv .2, λ i h. low g (l .slack) (l .inv .3 _ g) (not-below (c .before .before .before .before .before .first-past .ensures) (c .before .before .before .before .if1 .left)) i h)
 
 raise-requires : tie.Need-raise-requires Inv-loop μ-loop
 raise-requires c κs =
-    let g = c .before .before .before .before .before .before .before .before .before .before .before .before .pre .0 .1 in
-    let d = c .before .before .before .needed-at .ensures .0 _ _ g .limit in
-    (c .before .before .before .before .before .before .before .before .before .loop .inv .0, tasks-high g, omega (arith, fits _ _ d (cores-low g)))
+    let g = c .before .before .before .before .before .before .before .before .before .before .before .before .before .before .before .pre .0 .1 in
+    (c .before .before .before .before .before .before .before .before .before .before .before .before .loop .inv .0, tasks-high g, omega (arith, fits _ _ (c .before .before .before .before .next .ensures .2) (cores-low g)))
 
 loop-less : tie.Need-loop-less Inv-loop μ-loop
 loop-less c =
-    let g = c .before .before .before .before .before .before .before .before .before .before .before .before .before .before .pre .0 .1 in
-    let l = c .before .before .before .before .before .before .before .before .before .before .before .loop in
-    let e = not-below (c .before .before .before .before .before .before .before .before .before .first-past .ensures) (c .before .before .before .before .before .before .before .before .if1 .left) in
-    let q = c .before .before .before .before .before .before .before .before .before .before .before .before .before .quotients .ensures in
-    let r = c .before .before .before .before .before .before .before .before .before .before .before .before .remainders .ensures in
-    let d = c .before .before .before .before .before .needed-at .ensures in
+    let g = c .before .before .before .before .before .before .before .before .before .before .before .before .before .before .before .before .before .pre .0 .1 in
+    let l = c .before .before .before .before .before .before .before .before .before .before .before .before .before .before .loop in
+    let e = not-below (c .before .before .before .before .before .before .before .before .before .before .before .before .first-past .ensures) (c .before .before .before .before .before .before .before .before .before .before .before .if1 .left) in
+    let q = c .before .before .before .before .before .before .before .before .before .before .before .before .before .before .before .before .quotients .ensures in
+    let r = c .before .before .before .before .before .before .before .before .before .before .before .before .before .before .before .remainders .ensures in
+    let d = c .before .before .before .before .before .before .next .ensures in
     let v = c .before .raise .ensures in
-    let b = l .inv .3 _ g in
-    turn-falls g (l .slack) b _ _ _ q r _ (v .0) e (needs-high g (l .slack) b (d .0 _ _ g)) (sym (not-false _ (c .if2 .left)) ∙ v .1)
+    turn-falls g (l .slack) (l .inv .3 _ g) _ _ _ q r _ (v .0) e (d .0 _ _ g q r .high) (sym (not-false _ (c .if2 .left)) ∙ v .1)
 
 loop-again : tie.Need-loop-again Inv-loop μ-loop
 loop-again c =
-    let g = c .before .before .before .before .before .before .before .before .before .before .before .before .before .before .pre .0 .1 in
-    let l = c .before .before .before .before .before .before .before .before .before .before .before .loop in
-    let e = not-below (c .before .before .before .before .before .before .before .before .before .first-past .ensures) (c .before .before .before .before .before .before .before .before .if1 .left) in
-    let q = c .before .before .before .before .before .before .before .before .before .before .before .before .before .quotients .ensures in
-    let r = c .before .before .before .before .before .before .before .before .before .before .before .before .remainders .ensures in
-    let d = c .before .before .before .before .before .needed-at .ensures in
+    let g = c .before .before .before .before .before .before .before .before .before .before .before .before .before .before .before .before .before .pre .0 .1 in
+    let l = c .before .before .before .before .before .before .before .before .before .before .before .before .before .before .loop in
+    let e = not-below (c .before .before .before .before .before .before .before .before .before .before .before .before .first-past .ensures) (c .before .before .before .before .before .before .before .before .before .before .before .if1 .left) in
+    let q = c .before .before .before .before .before .before .before .before .before .before .before .before .before .before .before .before .quotients .ensures in
+    let r = c .before .before .before .before .before .before .before .before .before .before .before .before .before .before .before .remainders .ensures in
+    let d = c .before .before .before .before .before .before .next .ensures in
     let v = c .before .raise .ensures in (
       turn-length (arrays g (l .slack)) _ _ _ q r (l .slack) _ (v .0),
       turn-past (arrays g (l .slack)) _ _ _ q r (l .slack) _ (v .0) (l .inv .1),
       d .1,
-      λ t k. let b = l .inv .3 t k in turn-below k (l .slack) b _ _ _ q r _ (v .0) (needs-under k (l .slack) b (d .0 _ _ k)),
+      λ t k. let b = l .inv .3 t k in turn-below k (l .slack) b _ _ _ q r _ (v .0) (d .0 _ _ k q r .under b),
     )
 
 returns : tie.Need-returns Inv-loop μ-loop
@@ -106,14 +104,13 @@ returns c =
 returns-2 : tie.Need-returns-2 Inv-loop μ-loop
 returns-2 c =
     λ t k.
-    let l = c .before .before .before .before .before .before .before .before .before .before .before .loop in
-    let e = not-below (c .before .before .before .before .before .before .before .before .before .first-past .ensures) (c .before .before .before .before .before .before .before .before .if1 .left) in
-    let q = c .before .before .before .before .before .before .before .before .before .before .before .before .before .quotients .ensures in
-    let r = c .before .before .before .before .before .before .before .before .before .before .before .before .remainders .ensures in
-    let d = c .before .before .before .before .before .needed-at .ensures in
+    let l = c .before .before .before .before .before .before .before .before .before .before .before .before .before .before .loop in
+    let e = not-below (c .before .before .before .before .before .before .before .before .before .before .before .before .first-past .ensures) (c .before .before .before .before .before .before .before .before .before .before .before .if1 .left) in
+    let q = c .before .before .before .before .before .before .before .before .before .before .before .before .before .before .before .before .quotients .ensures in
+    let r = c .before .before .before .before .before .before .before .before .before .before .before .before .before .before .before .remainders .ensures in
+    let d = c .before .before .before .before .before .before .next .ensures in
     let v = c .before .raise .ensures in
-    let b = l .inv .3 t k in
-    ended-still k (l .slack) b _ _ _ q r _ (v .0) e (needs-high k (l .slack) b (d .0 _ _ k)) (sym (not-true _ (c .if2 .taken)) ∙ v .1) (l .inv .1)
+    ended-still k (l .slack) (l .inv .3 t k) _ _ _ q r _ (v .0) e (d .0 _ _ k q r .high) (sym (not-true _ (c .if2 .taken)) ∙ v .1) (l .inv .1)
 
 pub search-spec : {M : Type 1} → statement M
 search-spec =
@@ -126,9 +123,10 @@ search-spec =
     (λ c κs. let g = c .before .pre .0 .1 in (tasks-high g, omega (arith, cores-low g)))
     loop-holds
     (λ c κs. tasks-high (c .before .before .before .before .pre .0 .1))
-    needed-at-requires
-    (λ c. let g = c .before .before .before .before .before .before .before .before .before .before .before .before .pre .0 .1 in omega (arith, cores-low g))
-    (λ c. let g = c .before .before .before .before .before .before .before .before .before .before .before .before .pre .0 .1 in omega (arith, cores-low g))
+    next-requires
+    (λ c κs. search needs)
+    (λ c. omega (arith, cores-low (c .before .before .before .before .before .before .before .before .before .before .before .before .before .before .before .pre .0 .1)))
+    (λ c. omega (arith, cores-low (c .before .before .before .before .before .before .before .before .before .before .before .before .before .before .before .pre .0 .1)))
     raise-requires
     loop-less
     loop-again
