@@ -178,14 +178,15 @@ fn raise_and_try(cores: u8, kinds: &[(u32, u32)], most: u32) -> (usize, usize) {
 
 #[test]
 fn raising_finds_what_trying_everything_finds() {
-    let (with, without) = raise_and_try(2, &[(1, 1), (2, 1), (2, 2)], 5);
-    assert!(with > 500 && without > 500, "{with} and {without} sheets");
-    let (with, without) = raise_and_try(2, &[(1, 1), (2, 1), (3, 1), (3, 2)], 4);
-    assert!(with > 1_000 && without > 3_000, "{with} and {without} sheets");
+    let up_to_3 = [(1, 1), (2, 1), (2, 2), (3, 1), (3, 2), (3, 3)];
+    let (with, without) = raise_and_try(2, &up_to_3, 5);
+    println!("{with} sheets of two cores with a solution, {without} without one");
+    assert!(with > 4_000 && without > 10_000, "{with} and {without} sheets");
 }
 
 #[test]
 fn raising_finds_what_trying_everything_finds_on_three_cores() {
-    let (with, without) = raise_and_try(3, &[(1, 1), (2, 1)], 3);
-    assert!(with > 100 && without > 1_000, "{with} and {without} sheets");
+    let (with, without) = raise_and_try(3, &[(1, 1), (2, 1)], 4);
+    println!("{with} sheets of three cores with a solution, {without} without one");
+    assert!(with > 500 && without > 5_000, "{with} and {without} sheets");
 }
