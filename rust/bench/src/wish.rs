@@ -1,7 +1,7 @@
-//! Times the proved wishes against the plain ones written for speed: on typical sheets, and on those
-//! that take the most rounds, there also against the plain form that goes round by round. It prints
-//! the ratios of their times. All forms answer the same sheets, each into one buffer that is not
-//! cleared between calls.
+//! Times the proved wishes against the plain ones written for speed: on typical sheets, and on
+//! those that take the most rounds, there also against the plain form that goes round by round. It
+//! prints the ratios of their times. All forms answer the same sheets, each into one buffer that is
+//! not cleared between calls.
 
 use std::hint::black_box;
 
@@ -17,8 +17,9 @@ const SHEETS: usize = 500;
 const TURNS: usize = 41;
 const PASSES: usize = 8;
 
-/// The same on the slowest sheets, one at a time.
+/// The same on the slowest sheets, one at a time: a turn takes about so many seconds, or one call.
 const SLOW_TURNS: usize = 21;
+const SLOW_TURN: f64 = 0.001;
 
 const SHAPES: [Shape; 3] =
     [Shape { cores: 2, tasks: 3 }, Shape { cores: 4, tasks: 8 }, Shape { cores: 8, tasks: 16 }];
@@ -76,14 +77,16 @@ fn slow(sheet: &Table) {
     for (name, form) in
         [("plain", fast::wish_into as Form), ("plain by rounds", fast::wish_by_rounds_into)]
     {
+        let (proved_passes, plain_passes) =
+            (passes(dahomike::wish, &sheets), passes(form, &sheets));
         let (proved_turns, plain_turns) = take_turns(
             SLOW_TURNS,
-            || seconds_a_sheet(dahomike::wish, &sheets, 1),
-            || seconds_a_sheet(form, &sheets, 1),
+            || seconds_a_sheet(dahomike::wish, &sheets, proved_passes),
+            || seconds_a_sheet(form, &sheets, plain_passes),
         );
         let (proved, plain) = (best(&proved_turns), best(&plain_turns));
         println!(
-            "  proved {:.3} ms  {name} {:.3} ms  \
+            "  proved {:.4} ms  {name} {:.4} ms  \
              time ratio proved/{name} {:.4} (median of turns {:.4})",
             1000.0 * proved,
             1000.0 * plain,
@@ -91,6 +94,12 @@ fn slow(sheet: &Table) {
             median_ratio(&proved_turns, &plain_turns),
         );
     }
+}
+
+/// How many calls fill a turn.
+fn passes(form: Form, sheets: &[Vec<u8>]) -> usize {
+    let once = seconds_a_sheet(form, sheets, 1);
+    ((SLOW_TURN / once) as usize).max(1)
 }
 
 /// All forms give the same answer on every sheet that is timed.

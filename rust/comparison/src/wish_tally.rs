@@ -30,13 +30,6 @@ impl WishTally {
         self.named.of(&name)
     }
 
-    /// Adds what another part of the run has counted.
-    pub fn add(&mut self, other: WishTally) {
-        self.sheets += other.sheets;
-        self.refused.add(other.refused);
-        self.named.add(other.named);
-    }
-
     pub fn print(&self) {
         println!("{} sheets", self.sheets);
         self.refused.print("refused ");
@@ -162,11 +155,24 @@ impl WishTally {
     /// By the fast form, since nothing depends on it: after 64 rounds the leaps begin.
     fn count_rounds(&mut self, bytes: &[u8], solved: bool) {
         let rounds = fast::wish_rounds(bytes).expect("no number before 27 is met");
-        for (most, with, without) in [
-            (64, "accepted after more than 64 rounds", "refused 27 after more than 64 rounds"),
-            (500, "accepted after more than 500 rounds", "refused 27 after more than 500 rounds"),
+        for (met, with, without) in [
+            (
+                (62..=67).contains(&rounds),
+                "accepted after 62 to 67 rounds",
+                "refused 27 after 62 to 67 rounds",
+            ),
+            (
+                rounds > 64,
+                "accepted after more than 64 rounds",
+                "refused 27 after more than 64 rounds",
+            ),
+            (
+                rounds > 500,
+                "accepted after more than 500 rounds",
+                "refused 27 after more than 500 rounds",
+            ),
         ] {
-            self.named.count_if(rounds > most, if solved { with } else { without });
+            self.named.count_if(met, if solved { with } else { without });
         }
     }
 

@@ -71,8 +71,8 @@ fn compare_in(random: &mut Random, sheet: &[u8], lent: &Lent, tally: &mut WishTa
 }
 
 /// What document 02 says of a solution by itself: "whole offsets 0 to T [..] with Y + x + C at most
-/// W for every loop", and "The plan found, with its slack left out, is accepted by the judge with the
-/// same slack."
+/// W for every loop", and "The plan found, with its slack left out, is accepted by the judge with
+/// the same slack."
 fn check(sheet: &[u8], out: &[u8]) {
     let wished = Table::read(sheet).expect("the sheet is accepted");
     let mut table = wished.clone();

@@ -1,5 +1,5 @@
-//! The C calls on the largest table, the longest log, the longest sentence and a slow wish sheet in a
-//! thread with a stack of 64 KiB. A call that needs more ends the whole test program.
+//! The C calls on the largest table, the longest log, the longest sentence and a slow wish sheet in
+//! a thread with a stack of 64 KiB. A call that needs more ends the whole test program.
 
 use std::thread::Builder;
 

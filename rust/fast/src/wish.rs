@@ -12,8 +12,8 @@ use records::{Refusal, Tasks};
 /// Rounds before the first leap: most sheets take fewer, and a leap costs as much as m of them.
 const ROUNDS_BEFORE_LEAPS: u32 = 64;
 
-/// No solution needs more: A / H is at most m × T + (m − 1) × x with T and x at their largest, and x
-/// is below d / m + 1, so a need d is below m × m × (T + 1).
+/// No solution needs more: A / H is at most m × T + (m − 1) × x with T and x at their largest, and
+/// x is below d / m + 1, so a need d is below m × m × (T + 1).
 const LARGEST_NEED: u64 = 6_500_000;
 
 /// Finds offsets and slack for a wish sheet and writes offset, slack and bound of each task to
@@ -108,7 +108,7 @@ impl Search<'_> {
     ///
     /// Each such need is e + m × j for one of m numbers e and some j. There, a task with slack at e
     /// has j ticks more of it. If it is counted at e or *cut*, that is with x + T at or above its
-    /// room, each of these ticks adds its share to A, so that A rises by `slope` for each, at least.
+    /// room, each of these ticks adds its share to A: A rises by `slope` for each, at least.
     fn leap(&self, need: u32, ranking: &mut Ranking) -> Option<u32> {
         let cores = self.rates.cores as u64;
         let mut slack = [0; TASKS];

@@ -80,8 +80,8 @@ fn with_largest_offsets(sheet: &Table, slack: &[u128]) -> Option<Vec<Task>> {
 /// The same plan by trying, for tiny sheets that meet no number before 27; nothing where there is
 /// no solution.
 ///
-/// "Find whole offsets 0 to T and compliant whole slack with Y + x + C at most W for every loop": so
-/// no slack of a solution is above W − C, and all up to it are tried with all offsets.
+/// "Find whole offsets 0 to T and compliant whole slack with Y + x + C at most W for every loop":
+/// so no slack of a solution is above W − C, and all up to it are tried with all offsets.
 pub fn wish_by_trying(bytes: &[u8]) -> Option<Plan> {
     let sheet = passed(bytes).expect("the sheet meets no number before 27");
     let solutions = solutions(&sheet);

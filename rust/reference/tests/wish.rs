@@ -1,5 +1,5 @@
 //! Wish sheets: document 02's worked one, sheets on both sides of having a solution, the ends of a
-//! wish's range, the order of the numbers, and the raising against trying everything on tiny sheets.
+//! wish's range, the order of the numbers, and raising against trying everything on tiny sheets.
 
 use reference::{Refusal, Table, Task, judge, wish, wish_by_trying, wish_into, write};
 
@@ -150,8 +150,8 @@ fn lists<T: Copy>(choices: &[T], length: usize) -> Vec<Vec<T>> {
     lists
 }
 
-/// Raises and tries every sheet of cores + 1 tasks with these separations and budgets and with up to
-/// `most` ticks for offset and slack together. How many have a solution, and how many have none.
+/// Raises and tries every sheet of cores + 1 tasks with these separations and budgets and with up
+/// to `most` ticks for offset and slack together. How many have a solution, and how many have none.
 fn raise_and_try(cores: u8, kinds: &[(u32, u32)], most: u32) -> (usize, usize) {
     let (mut with, mut without) = (0, 0);
     let tasks = usize::from(cores) + 1;

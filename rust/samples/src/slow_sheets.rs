@@ -1,8 +1,8 @@
 //! The wish sheets that take the most rounds, of those that a search has found.
 //!
 //! All loops that are not counted lose a tick of offset with each tick of slack, and the shares add
-//! up to m × H or one less, so that A rises by as much as m × H × x does: each round of these sheets
-//! adds 1 to the number that all slack depends on, up to m × T times.
+//! up to m × H or one less, so that A rises by as much as m × H × x does: each round adds 1 to the
+//! number that all slack depends on, nearly m × T times.
 
 use reference::{Table, Task};
 
@@ -83,7 +83,7 @@ const THREE_UNSOLVED: [Wish; 3] =
 const THREE_SOLVED: [Wish; 3] =
     [(100_000, 95_699, 1_600_000), (100_000, 52_162, 173_936), (100_000, 52_138, 173_912)];
 
-/// Sheets of 16 and of 9 loops on 8 cores and of 3 loops on 2, each without a solution and with one.
+/// Sheets of 16 and of 9 loops on 8 cores and of 3 on 2, each without a solution and with one.
 pub fn slow_sheets() -> Vec<Table> {
     vec![
         sheet(8, &SIXTEEN_UNSOLVED),
@@ -95,9 +95,9 @@ pub fn slow_sheets() -> Vec<Table> {
     ]
 }
 
-/// Two sheets that differ by one tick of one wish, the first without a solution, with as large a
-/// slack as there can be: seven loops fill a core each, the other two nearly the eighth, and the
-/// solution has no offset at any loop.
+/// Two sheets that differ by one tick of one wish, the first without a solution, with nearly the
+/// largest slack that there can be: seven loops fill a core each, the other two most of the eighth,
+/// and the solution has no offset at any loop.
 pub fn deep_sheets() -> [Table; 2] {
     let mut wishes = [(100_000, 100_000, 799_000); 9];
     wishes[7..].fill((100_000, 49_500, 754_813));

@@ -87,8 +87,8 @@ fn roomy_tight(random: &mut Random) -> Table {
     with_room(random, table)
 }
 
-/// One separation, and wishes of 16 × T for the m − 1 loops that are to be counted. Where the others
-/// wish so little that they have just no solution, they lose their offsets tick by tick.
+/// One separation, and wishes of 16 × T for the m − 1 loops that are to be counted. Where the
+/// others wish so little that they have just no solution, they lose their offsets tick by tick.
 fn lingering(random: &mut Random) -> Table {
     let shape = Shape::any(random);
     let separation = random.between(20, 2000);
@@ -192,8 +192,8 @@ fn room(task: &Task) -> u32 {
 }
 
 /// The most ticks with which a sheet still has a solution, by halving. With none it has one, and
-/// with `most` some wish is at C and it has none: a counted weight and the surplus of a loop without
-/// offset are more than that loop's H × C.
+/// with `most` it has none: some loop is left neither offset nor slack, and its surplus alone is
+/// its H × C, to which A adds more.
 fn most_ticks(most: u32, lowered: impl Fn(u32) -> Table) -> u32 {
     let (mut solved, mut lost) = (0, most);
     while solved + 1 < lost {
