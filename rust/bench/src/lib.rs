@@ -1,5 +1,5 @@
 //! Times the proved code against the plain code written for speed, in the same run: the judgement,
-//! the engine's step and tick, and the log run.
+//! wishes, the engine's step and tick, and the log run.
 
 #![forbid(unsafe_code)]
 
@@ -7,3 +7,4 @@ pub mod engine;
 pub mod judge;
 pub mod log;
 mod turns;
+pub mod wish;

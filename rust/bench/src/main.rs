@@ -1,8 +1,9 @@
-//! Times the judgement, and the engine's step and tick.
+//! Times the judgement, wishes, and the engine's step and tick.
 
 #![forbid(unsafe_code)]
 
 fn main() {
     bench::judge::run();
+    bench::wish::run();
     bench::engine::run();
 }

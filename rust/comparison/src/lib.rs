@@ -1,7 +1,7 @@
 //! Compares the proved code, and the plain code written for speed, with the reference: of a
-//! judgement, a log run and a sentence the answer and every byte of the lent buffer and around it,
-//! of a release or a step the answer and every field that it hands back. A log run is held to
-//! demand 3 as well, and a sentence to what document 02 says of it.
+//! judgement, a log run, a sentence and a wish the answer and every byte of the lent buffer and
+//! around it, of a release or a step the answer and every field that it hands back. A log run is
+//! held to demand 3 as well, and a sentence and a wish to what document 02 says of them.
 
 #![forbid(unsafe_code)]
 
@@ -17,6 +17,8 @@ mod sentence_tally;
 mod sentences;
 mod table_tally;
 mod tables;
+mod wish_tally;
+mod wishes;
 
 pub use engine::{compare_release, compare_step, compare_steps};
 pub use engine_tally::EngineTally;
@@ -27,3 +29,5 @@ pub use sentence_tally::SentenceTally;
 pub use sentences::{compare_lent, compare_lent_at, compare_sentences};
 pub use table_tally::TableTally;
 pub use tables::compare_table;
+pub use wish_tally::WishTally;
+pub use wishes::{compare_edge, compare_wish, compare_wish_at};

@@ -23,6 +23,13 @@ mod ffi {
             out_len: usize,
         ) -> u64;
 
+        pub fn dahomike_wish(
+            sheet: *const u8,
+            sheet_len: usize,
+            out: *mut u8,
+            out_len: usize,
+        ) -> u64;
+
         pub fn dahomike_run_log(
             table: *const u8,
             table_len: usize,
@@ -62,6 +69,18 @@ pub fn counted(table: &[u8], out: &mut [u8]) -> Result<usize, Refusal> {
     // SAFETY: as in `judge`.
     let answer =
         unsafe { ffi::dahomike_counted(table.as_ptr(), table.len(), out.as_mut_ptr(), out.len()) };
+    decode(answer).map(|tasks| tasks as usize)
+}
+
+/// Finds offsets and slack for a wish sheet: a show table with the wished bound W in the offset's
+/// place and slack count 0. Where it has a solution, offset, slack and bound of each of its n tasks
+/// stand in `out` (offset 0, slack 0, bound 0, offset 1 and so on, 4 bytes each, low byte first),
+/// the slack the least and each offset the largest of all solutions, no bound above its wish; later
+/// bytes of `out` stay, and n comes back. Where it is refused, `out` stays as it is.
+pub fn wish(sheet: &[u8], out: &mut [u8]) -> Result<usize, Refusal> {
+    // SAFETY: as in `judge`.
+    let answer =
+        unsafe { ffi::dahomike_wish(sheet.as_ptr(), sheet.len(), out.as_mut_ptr(), out.len()) };
     decode(answer).map(|tasks| tasks as usize)
 }
 

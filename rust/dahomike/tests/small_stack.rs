@@ -1,9 +1,9 @@
-//! The C calls on the largest table, the longest log and the longest sentence in a thread with a
-//! stack of 64 KiB. A call that needs more ends the whole test program.
+//! The C calls on the largest table, the longest log, the longest sentence and a slow wish sheet in
+//! a thread with a stack of 64 KiB. A call that needs more ends the whole test program.
 
 use std::thread::Builder;
 
-use dahomike::{counted, judge, run_log, sentence_into};
+use dahomike::{counted, judge, run_log, sentence_into, wish};
 
 const STACK: usize = 64 * 1024;
 
@@ -26,6 +26,21 @@ fn table() -> Vec<u8> {
     table
 }
 
+/// Eight cores and sixteen tasks whose raising takes 633,708 rounds to its solution.
+fn sheet() -> Vec<u8> {
+    let mut sheet = vec![1, 8, 0, 1, 2, 3, 4, 5, 6, 7, 16];
+    let above = [0, 1, 1, 2, 2, 3, 3, 4, 4, 5, 5, 6, 6, 7, 7, 7];
+    for (k, above) in above.into_iter().enumerate() {
+        let budget = 49_996 + above;
+        let wish = if k < 7 { 1_600_000 } else { budget + 166_661 + u32::from(k < 10) };
+        for field in [100_000, budget, wish] {
+            sheet.extend(field.to_le_bytes());
+        }
+    }
+    sheet.push(0);
+    sheet
+}
+
 /// One release in each tick, in turns, with the whole budget as demand.
 fn log() -> Vec<u8> {
     let mut log = (ENTRIES as u16).to_le_bytes().to_vec();
@@ -39,25 +54,30 @@ fn log() -> Vec<u8> {
 
 #[test]
 fn every_call_on_a_stack_of_64_kib() {
-    let (table, log) = (table(), log());
+    let (table, sheet, log) = (table(), sheet(), log());
     let mut plan = vec![0xee; 8 * 16];
     let mut names = vec![0xee; 8];
+    let mut offsets = vec![0xee; 12 * 16];
     let mut answer = vec![0xee; 8 * ENTRIES as usize];
     let mut text = vec![0xee; LONGEST.len()];
     let calls = move || {
         let judged = judge(&table, &mut plan);
         let named = counted(&table, &mut names);
+        let wished = wish(&sheet, &mut offsets);
         let run = run_log(&table, &log, &mut answer);
         let told = sentence_into(10, u32::MAX, u64::MAX, &mut text);
-        (judged, named, run, told, plan, names, answer, text)
+        ((judged, named, wished, run, told), (plan, names, offsets, answer, text))
     };
     let thread = Builder::new().stack_size(STACK).spawn(calls).expect("the thread starts");
-    let (judged, named, run, told, plan, names, answer, text) =
+    let ((judged, named, wished, run, told), (plan, names, offsets, answer, text)) =
         thread.join().expect("the calls come back");
     assert_eq!(judged, Ok(16));
     // All weights are equal: the lowest seven of the sixteen are counted.
     assert_eq!(named, Ok(7));
     assert_eq!(names, [0, 1, 2, 3, 4, 5, 6, 0xee]);
+    assert_eq!(wished, Ok(16));
+    assert_eq!(offsets[..12], [100_000, 150_069, 300_065].map(u32::to_le_bytes).concat());
+    assert_eq!(offsets[180..], [16_593, 150_068, 216_664].map(u32::to_le_bytes).concat());
     assert_eq!(run, Ok((ENTRIES as usize, 0)));
     assert_eq!(plan[..8], [11, 0, 0, 0, 35, 0, 0, 0]);
     // No task ever waits: the eight released last run.

@@ -1,8 +1,9 @@
-//! The judgement of a show table, the engine's release and step, and the log run, written for
-//! speed: the proved code is timed against them. Numbers have at most 64 bits, and nothing is on
-//! the heap. The judgement makes one pass over the tasks where one is enough, and one division by H
-//! and one by m for each round of the slack search. The engine advances a state where it lies. The
-//! log run goes from event to event and not from tick to tick.
+//! The judgement of a show table, the engine's release and step, the log run, and the offsets from
+//! wishes, written for speed: the proved code is timed against them. Numbers have at most 64 bits,
+//! and nothing is on the heap. The judgement makes one pass over the tasks where one is enough, and
+//! one division by H and one by m for each round of the slack search. The engine advances a state
+//! where it lies. The log run goes from event to event and not from tick to tick. A wish sheet that
+//! takes many rounds leaps over most of them.
 
 #![forbid(unsafe_code)]
 
@@ -11,9 +12,11 @@ mod heads;
 mod log;
 mod slack;
 mod table;
+mod wish;
 
 pub use engine::{release, step, tick};
 pub use log::{run_log, run_log_by_ticks};
+pub use wish::{wish_by_rounds_into, wish_into, wish_rounds};
 
 use std::hint::black_box;
 

@@ -1,4 +1,4 @@
-//! The table's bytes taken apart and its own fields tested: 1 to 8.
+//! The table's bytes taken apart and its own fields tested: 1 to 8, or 26 on a wish sheet.
 
 use crate::refuse;
 use records::{Refusal, Tasks};
@@ -59,8 +59,27 @@ pub fn cores_of(labels: &[u8]) -> Result<usize, Refusal> {
     Ok(labels.len())
 }
 
-/// 5 to 8. One pass reads the fields and keeps a bit for each task that fails 6, 7 or 8.
+/// 5 to 8.
 pub fn read_tasks(entries: &[[u8; 12]], cores: usize) -> Result<Tasks, Refusal> {
+    read_fields(entries, cores, 8, |separation, _, offset| offset > separation)
+}
+
+/// 5 to 7 and 26: the offsets are wishes.
+pub fn read_wishes(entries: &[[u8; 12]], cores: usize) -> Result<Tasks, Refusal> {
+    // Where a separation is so long that 16 × T does not fit, 6 is met before.
+    read_fields(entries, cores, 26, |separation, budget, wish| {
+        wish < budget || wish > separation.saturating_mul(16)
+    })
+}
+
+/// One pass reads the fields and keeps a bit for each task that fails 6, 7 or the number `last`,
+/// which the last field fails.
+fn read_fields(
+    entries: &[[u8; 12]],
+    cores: usize,
+    last: u32,
+    fails: impl Fn(u32, u32, u32) -> bool,
+) -> Result<Tasks, Refusal> {
     let count = entries.len();
     if count <= cores || count > TASKS {
         return refuse(5, 0);
@@ -75,9 +94,9 @@ pub fn read_tasks(entries: &[[u8; 12]], cores: usize) -> Result<Tasks, Refusal> 
         // A 0 less 1 wraps to the largest number, so one comparison tests both ends.
         failing[0] |= u32::from(separation.wrapping_sub(1) >= LONGEST_SEPARATION) << i;
         failing[1] |= u32::from(budget.wrapping_sub(1) >= separation) << i;
-        failing[2] |= u32::from(offset > separation) << i;
+        failing[2] |= u32::from(fails(separation, budget, offset)) << i;
     }
-    for (number, tasks) in (6..).zip(failing) {
+    for (number, tasks) in [6, 7, last].into_iter().zip(failing) {
         if tasks != 0 {
             return refuse(number, tasks.trailing_zeros() as usize);
         }

@@ -1,9 +1,10 @@
-//! The judgement of a show table, the engine's release and step, the log run and the sentences of
-//! refusals, written from documents 01 and 02 alone, in their order and with their words beside
-//! each step. They are what the proved code is compared with, so they are plain before they are
-//! quick: the judgement's numbers are 128 bits wide, the log run goes tick by tick on a machine of
-//! its own, and nothing is worked out in a shorter way than the documents say it. The wording of
-//! the sentences, which they leave free, is written out a second time.
+//! The judgement of a show table, the engine's release and step, the log run, the sentences of
+//! refusals and the offsets from wishes, written from documents 01 and 02 alone, in their order and
+//! with their words beside each step. They are what the proved code is compared with, so they are
+//! plain before they are quick: the numbers of a judgement and of a wish are 128 bits wide, the log
+//! run goes tick by tick on a machine of its own, and nothing is worked out in a shorter way than
+//! the documents say it. The wording of the sentences, which they leave free, is written out a
+//! second time.
 
 #![forbid(unsafe_code)]
 
@@ -16,6 +17,7 @@ mod slack;
 mod state;
 mod table;
 mod text;
+mod wish;
 
 pub use records::{IDLE, Refusal, Report, State, Task, Tasks};
 
@@ -28,3 +30,4 @@ pub use slack::Analysis;
 pub use state::{Clause, Job, LAST_TICK, MOST_JOBS, broken, known, open, queue, set_queue};
 pub use table::Table;
 pub use text::text;
+pub use wish::{wish, wish_by_trying, wish_into};

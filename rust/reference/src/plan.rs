@@ -39,8 +39,9 @@ impl Plan {
 /// The plan of a table's bytes, or which of 1 to 13 they meet.
 pub fn judge(bytes: &[u8]) -> Result<Plan, Refusal> {
     let table = Table::read(bytes)?;
-    test_cores(&table)?;
-    test_tasks(&table)?;
+    test_entries(&table)?;
+    // 8: "An offset is above its separation."
+    test_each(8, &table.tasks, |_, task| task.offset <= task.separation)?;
     let plan = with_slack(table)?;
     // 13: "A bound is above 16 × T."
     test_each(13, &plan.tasks, |k, task| plan.bound(k) <= 16 * wide(task.separation))?;
@@ -87,6 +88,12 @@ pub fn write(plan: &Plan) -> Vec<u8> {
     table.bytes()
 }
 
+/// 3 to 7, which a wish sheet is tested by as well.
+pub fn test_entries(table: &Table) -> Result<(), Refusal> {
+    test_cores(table)?;
+    test_tasks(table)
+}
+
 /// 3 and 4.
 fn test_cores(table: &Table) -> Result<(), Refusal> {
     // 3: "Cores are not 2 to 8."
@@ -99,7 +106,7 @@ fn test_cores(table: &Table) -> Result<(), Refusal> {
     })
 }
 
-/// 5 to 8.
+/// 5 to 7.
 fn test_tasks(table: &Table) -> Result<(), Refusal> {
     let tasks = &table.tasks;
     // 5: "Loops are fewer than cores + 1 or more than 16."
@@ -109,13 +116,11 @@ fn test_tasks(table: &Table) -> Result<(), Refusal> {
     // 6: "A separation is not 1 to 100,000."
     test_each(6, tasks, |_, task| (1..=100_000).contains(&task.separation))?;
     // 7: "A budget is not 1 to its separation."
-    test_each(7, tasks, |_, task| (1..=task.separation).contains(&task.budget))?;
-    // 8: "An offset is above its separation."
-    test_each(8, tasks, |_, task| task.offset <= task.separation)
+    test_each(7, tasks, |_, task| (1..=task.separation).contains(&task.budget))
 }
 
-/// 9 to 12: the table with its slack, offered or found.
-fn with_slack(table: Table) -> Result<Plan, Refusal> {
+/// 9 and 10, which do not look at offsets: a wish sheet is tested by them as well.
+pub fn test_shares(table: &Table) -> Result<Analysis<'_>, Refusal> {
     // 9: "H is above 1,000,000."
     let analysis = Analysis::new(table.labels.len(), &table.tasks).ok_or(Refusal::whole(9))?;
     // 10: "The shares add up to more than m × H."
@@ -123,6 +128,12 @@ fn with_slack(table: Table) -> Result<Plan, Refusal> {
     if load > capacity {
         return Err(Refusal::whole(10));
     }
+    Ok(analysis)
+}
+
+/// 9 to 12: the table with its slack, offered or found.
+fn with_slack(table: Table) -> Result<Plan, Refusal> {
+    let analysis = test_shares(&table)?;
     // 11: "The slack count is neither 0 nor n."
     if !table.slack.is_empty() && table.slack.len() != table.tasks.len() {
         return Err(Refusal::whole(11));
@@ -145,13 +156,13 @@ fn test_offer(analysis: &Analysis, offer: &[u32]) -> Result<Vec<u32>, Refusal> {
 }
 
 /// Found slack in a table's width.
-fn narrow(found: Vec<u128>) -> Vec<u32> {
+pub fn narrow(found: Vec<u128>) -> Vec<u32> {
     let entry = |x| u32::try_from(x).expect("found slack is far below 2^32");
     found.into_iter().map(entry).collect()
 }
 
 /// A refusal over all entries, with the lowest one that fails as its index.
-fn test_each<T>(
+pub fn test_each<T>(
     number: u32,
     entries: &[T],
     passes: impl Fn(usize, &T) -> bool,

@@ -24,6 +24,12 @@ impl<'a> Analysis<'a> {
         Some(Analysis { cores, tasks, hyperperiod, shares })
     }
 
+    /// The same tasks with other offsets: neither H nor a share has any in it.
+    pub fn with_offsets<'b>(&self, tasks: &'b [Task]) -> Analysis<'b> {
+        let shares = self.shares.clone();
+        Analysis { cores: self.cores, tasks, hyperperiod: self.hyperperiod, shares }
+    }
+
     /// What 10 compares: all shares added up, and m × H.
     pub fn load_and_capacity(&self) -> (u128, u128) {
         (self.shares.iter().sum(), self.cores * self.hyperperiod)
@@ -91,7 +97,7 @@ impl<'a> Analysis<'a> {
     }
 
     /// Each entry raised to the smallest whole x for which "m × H × x + H × C is at least A".
-    fn raised_once(&self, slack: &[u128]) -> Vec<u128> {
+    pub fn raised_once(&self, slack: &[u128]) -> Vec<u128> {
         let amount = self.amount(slack);
         let smallest = |k: usize| {
             let budget = self.hyperperiod * wide(self.tasks[k].budget);

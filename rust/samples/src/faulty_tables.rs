@@ -44,12 +44,12 @@ fn add_fault(random: &mut Random, table: &mut Table) {
     }
 }
 
-fn change_cores(random: &mut Random, table: &mut Table) {
+pub fn change_cores(random: &mut Random, table: &mut Table) {
     let count = random.pick(&[0, 1, 2, 8, 9, 10, 255]);
     table.labels = (0..count).collect();
 }
 
-fn change_label(random: &mut Random, labels: &mut [u8]) {
+pub fn change_label(random: &mut Random, labels: &mut [u8]) {
     if labels.is_empty() {
         return;
     }
@@ -63,7 +63,7 @@ fn change_label(random: &mut Random, labels: &mut [u8]) {
     };
 }
 
-fn change_tasks(random: &mut Random, table: &mut Table) {
+pub fn change_tasks(random: &mut Random, table: &mut Table) {
     let any = Task { separation: 10, budget: 1, offset: 10 };
     let count = match random.index(4) {
         0 => table.labels.len(),
@@ -74,7 +74,7 @@ fn change_tasks(random: &mut Random, table: &mut Table) {
     table.tasks.resize(count, any);
 }
 
-fn change_task(random: &mut Random, table: &mut Table, change: fn(&mut Random, &mut Task)) {
+pub fn change_task(random: &mut Random, table: &mut Table, change: fn(&mut Random, &mut Task)) {
     if !table.tasks.is_empty() {
         let task = random.index(table.tasks.len());
         change(random, &mut table.tasks[task]);
@@ -82,7 +82,7 @@ fn change_task(random: &mut Random, table: &mut Table, change: fn(&mut Random, &
 }
 
 /// A number that is 0, just above the limit, or far above it; and now and then the limit itself.
-fn outside(random: &mut Random, limit: u32) -> u32 {
+pub fn outside(random: &mut Random, limit: u32) -> u32 {
     match random.index(6) {
         0 | 1 => 0,
         2 | 3 => limit.saturating_add(1),

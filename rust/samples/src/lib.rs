@@ -1,16 +1,19 @@
-//! What judgements, engines, log runs and sentences are compared on, and the first three timed on,
-//! made from a fixed seed.
+//! What judgements, engines, log runs, sentences and wishes are compared on, and all but the
+//! sentences timed on, made from a fixed seed.
 //!
 //! Show tables: valid ones, tight ones, ones with an H near its limit, ones that offer slack around
 //! compliance, faulty ones and damaged bytes. Engine states: sound ones, and ones damaged in one
 //! clause of soundness. Release logs: ones that keep their table, ones that do not, and damaged
 //! bytes. Refusals to be told: of known and of unknown numbers, and pairs that differ in little.
+//! Wish sheets: ones with room, ones at the edge of having a solution, ones with wishes at the ends
+//! of their range, faulty ones, and the slowest that were found.
 
 #![forbid(unsafe_code)]
 
 mod damaged_logs;
 mod damaged_states;
 mod damaged_tables;
+mod faulty_sheets;
 mod faulty_tables;
 mod log_tables;
 mod logs;
@@ -18,12 +21,15 @@ mod offering_tables;
 mod plain_tables;
 mod random;
 mod refusals;
+mod slow_sheets;
 mod sound_states;
 mod tight_tables;
+mod wish_sheets;
 
 pub use damaged_logs::{damaged_log, noise_log};
 pub use damaged_states::damaged_state;
 pub use damaged_tables::{damaged_table, noise_table};
+pub use faulty_sheets::{faulty_sheet, offering_sheet};
 pub use faulty_tables::faulty_table;
 pub use log_tables::{any_accepted, short_accepted};
 pub use logs::{LogKind, log};
@@ -34,5 +40,10 @@ pub use refusals::{
     LAST_NUMBER, Told, cut_at_zeros, cut_elsewhere, exchanged, known_refusal, one_bit_apart,
     one_digit_apart, unknown_refusal,
 };
+pub use slow_sheets::{deep_sheets, slow_sheets};
 pub use sound_states::{accepted_plan, brisk, busy, sound, tied};
 pub use tight_tables::{any_tight, overfull, tight};
+pub use wish_sheets::{
+    any_sheet, edge_sheets, end_sheet, roomy_sheet, tight_edge_sheets, tight_sheet, tiny_sheet,
+    wishing,
+};
