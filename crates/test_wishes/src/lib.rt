@@ -30,14 +30,20 @@ fn say_tasks(plan: Plan) {
 }
 
 // "The plan found, with its slack left out, is accepted by the judge with the same slack."
-fn judged_same(plan: Plan) -> bool {
+fn say_written(plan: Plan) {
     let mut buffer = [FILL; 400];
     let written = writer::write(plan, &mut buffer);
     let Written::Length(length) = written else {
-        return false;
+        say::text(b"not written\n");
+        return;
     };
-    let again = table::judge(front(&buffer, length));
-    same_plan(again.plan, plan)
+    let bytes = front(&buffer, length);
+    say::bytes(b"written", bytes);
+    let again = table::judge(bytes);
+    say::fact(
+        b"judged they are the same plan",
+        same_plan(again.plan, plan),
+    );
 }
 
 fn say_plan(plan: Plan) {
@@ -50,7 +56,7 @@ fn say_plan(plan: Plan) {
     }
     say_tasks(plan);
     say::fact(b"unused places are zero", unused_zero(plan));
-    say::fact(b"written and judged it is the same plan", judged_same(plan));
+    say_written(plan);
 }
 
 // A sheet of any bytes.
