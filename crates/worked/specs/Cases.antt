@@ -19,13 +19,14 @@ use lib.Dec.{T, eqb}
 use Rattle.laws.specs.First.{first}
 use Rattle.laws.specs.Every.{sameList}
 use Rattle.laws.specs.Sum.{sum, sumOver}
+use Rattle.laws.specs.Settle.{same, settle}
 use Rattle.laws.specs.Tab.{tab, cut}
 use Rattle.laws.specs.Rank.{place, ranked, largest}
 use Rattle.laws.specs.Multiple.{lcm, lcmBelow}
 use Rattle.tasks.specs.declared.Task.{Task}
 use Rattle.tasks.specs.declared.Answer.{Answer}
 use Rattle.tasks.specs.declared.Answer.the-variants.{Accepted, Refused}
-use Rattle.tasks.specs.TaskSet.{plainTask as loop, hyperperiod, share, weight, surplus, counted, amount, cover, covers, needed, row, raise, same, settle, found, bound, late}
+use Rattle.tasks.specs.TaskSet.{plainTask as loop, hyperperiod, share, weight, surplus, counted, amount, cover, covers, needed, row, raise, found, bound, late}
 use Rattle.tasks.specs.Content.{noTask, countedOf}
 use Rattle.tasks.specs.Tests.{lowest, firstMet, outside, badLabel, test3, test4, test5, test6, test7, test8, test9, test10, test11, test12, test13, tests, unlessRefused}
 use Rattle.machine.specs.Machine.{opened, joined, admitted, waiting, point, before, chosen, runs, served, advanced, tick}
