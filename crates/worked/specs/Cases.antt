@@ -324,18 +324,18 @@ turnedAway loops k i = record { loops = loops; answer = Refused k i; offsets = 0
 abbrev p1Wishing : ℕ → ℕ → ℕ → List Task
 p1Wishing u v w = loop 10 9 u ∷ loop 10 9 v ∷ loop 100 20 w ∷ []
 
--- "P1's loops wishing 29, 99, 90 get offsets 10, 10, 69 and slack 6, 6, 1." The third wish lowered to where a solution just exists, and
--- one tick further. W = C, which no solution keeps, and the tick more that one keeps. W = 16 × T; and one tick beyond each limit of 26.
+-- "P1's loops wishing 29, 99, 90 get offsets 10, 10, 69 and slack 6, 6, 1." Behind it W = C, which no solution keeps, and the tick more that
+-- one keeps; W = 16 × T, and one tick beyond each limit of 26; P1's third wish where a solution just exists, and one tick less
 pub sheets : List SheetCase
 sheets =
     solvedBy (p1Wishing 29 99 90) (10 ∷ 10 ∷ 69 ∷ []) (6 ∷ 6 ∷ 1 ∷ [])
-    ∷ solvedBy (p1Wishing 29 99 70) (10 ∷ 10 ∷ 45 ∷ []) (10 ∷ 10 ∷ 5 ∷ [])
-    ∷ turnedAway (p1Wishing 29 99 69) 27 0
     ∷ turnedAway (loop 2 1 1 ∷ loop 2 1 32 ∷ loop 2 1 32 ∷ []) 27 0
     ∷ solvedBy (loop 2 1 2 ∷ loop 2 1 32 ∷ loop 2 1 32 ∷ []) (0 ∷ 2 ∷ 2 ∷ []) (1 ∷ 1 ∷ 1 ∷ [])
     ∷ solvedBy (p1Wishing 160 160 1600) (10 ∷ 10 ∷ 100 ∷ []) (6 ∷ 6 ∷ 0 ∷ [])
     ∷ turnedAway (p1Wishing 29 99 19) 26 2
     ∷ turnedAway (p1Wishing 29 161 90) 26 1
+    ∷ solvedBy (p1Wishing 29 99 70) (10 ∷ 10 ∷ 45 ∷ []) (10 ∷ 10 ∷ 5 ∷ [])
+    ∷ turnedAway (p1Wishing 29 99 69) 27 0
     ∷ []
 
 -- the first entries of the plan that is handed back, as many as the case has
