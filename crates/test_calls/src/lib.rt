@@ -12,11 +12,18 @@ use test_sentences::told;
 use test_tables::draft::Draft;
 use test_tables::judged;
 use test_tables::written;
+use test_wishes::wished;
 use test_world::world::World;
 
 fn judge(table: Draft, words: &[u8]) {
     let bytes = table.bytes;
     judged::bytes(words, front(&bytes, table.length));
+}
+
+// `wish NAME`: the table in the making is the sheet.
+fn wish(table: Draft, words: &[u8]) {
+    let bytes = table.bytes;
+    wished(words, front(&bytes, table.length));
 }
 
 // `write ROOM NAME`: the table in the making is what should come out.
@@ -67,13 +74,29 @@ fn release(state: State, words: &[u8]) -> State {
     )
 }
 
+// A call of the table alone or of numbers alone. Whether the line is one.
+fn of_table(table: Draft, what: &[u8], words: &[u8]) -> bool {
+    if check::same(what, b"judge") {
+        judge(table, words);
+        return true;
+    }
+    if check::same(what, b"wish") {
+        wish(table, words);
+        return true;
+    }
+    if check::same(what, b"sentence") {
+        sentence(words);
+        return true;
+    }
+    false
+}
+
 fn stateless(world: World, what: &[u8], words: &[u8]) {
     let table = world.table;
     let log = world.log;
     let plan = world.plan;
     let state = world.state;
-    if check::same(what, b"judge") {
-        judge(table, words);
+    if of_table(table, what, words) {
         return;
     }
     if check::same(what, b"write") {
@@ -82,10 +105,6 @@ fn stateless(world: World, what: &[u8], words: &[u8]) {
     }
     if check::same(what, b"run") {
         run_log(table, log, words);
-        return;
-    }
-    if check::same(what, b"sentence") {
-        sentence(words);
         return;
     }
     if check::same(what, b"open") {

@@ -9,6 +9,8 @@
 --     Shown, texts, prints    a table's loops and the text that `plan` prints for them
 --     worked       the definitions agree in every case, with the log run on the abstract machine, and in every text
 --     worked-runs  and so does the delivered engine's run
+--     SheetCase, sheets, meets    a wish sheet's loops and what document 02, §3, says of them: P1's, and sheets of ours beside the limits
+--     worked-sheets               the definitions say the same of every sheet
 use Prim.Native.Nat.{ℕ, suc}
 use Prim.Native.String.{String}
 use mathlib.Core.Bool.{Bool, true, false, _&&_}
@@ -19,14 +21,15 @@ use lib.Dec.{T, eqb}
 use Rattle.laws.specs.First.{first}
 use Rattle.laws.specs.Every.{sameList}
 use Rattle.laws.specs.Sum.{sum, sumOver}
+use Rattle.laws.specs.Settle.{same, settle}
 use Rattle.laws.specs.Tab.{tab, cut}
 use Rattle.laws.specs.Rank.{place, ranked, largest}
 use Rattle.laws.specs.Multiple.{lcm, lcmBelow}
 use Rattle.tasks.specs.declared.Task.{Task}
 use Rattle.tasks.specs.declared.Answer.{Answer}
 use Rattle.tasks.specs.declared.Answer.the-variants.{Accepted, Refused}
-use Rattle.tasks.specs.TaskSet.{plainTask as loop, hyperperiod, share, weight, surplus, counted, amount, cover, covers, needed, row, raise, same, settle, found, bound, late}
-use Rattle.tasks.specs.Content.{noTask, countedOf}
+use Rattle.tasks.specs.TaskSet.{plainTask as loop, hyperperiod, share, weight, surplus, counted, amount, cover, covers, needed, row, raise, found, bound, late}
+use Rattle.tasks.specs.Content.{noTask, taskOf, planOf, zeroPlan, countedOf}
 use Rattle.tasks.specs.Tests.{lowest, firstMet, outside, badLabel, test3, test4, test5, test6, test7, test8, test9, test10, test11, test12, test13, tests, unlessRefused}
 use Rattle.machine.specs.Machine.{opened, joined, admitted, waiting, point, before, chosen, runs, served, advanced, tick}
 use Rattle.machine.specs.Admission.{joinTests, admitTests}
@@ -42,6 +45,8 @@ use Rattle.decimal.specs.Decimal.{words, digitsIn, decimal, said}
 use Rattle.text.specs.Printed.{pairLine, countsLine, taskLine, refusalLine, lineOf, countedLine, planLines, planText, printed}
 use Rattle.codec.specs.Table.{coreCount, taskCount, tasksAt, slackCount, slackAt, taskIn, taskSetIn, contentIn, test1, test2, verdict, taskBytes}
 use Rattle.table.specs.Judged.{countedIn}
+use Rattle.wishes.specs.Wish.{withOffsets, largestOffset, atSlack, wished, passes, noSolution, test26, sheet11, test27, wishTests, solved}
+use Rattle.sheet.specs.Wished.{wishVerdict, wishOf}
 
 pub record Case : Type 0 where
   -- document 01's number: 1 for P1; 0 for a table of ours
@@ -298,3 +303,52 @@ all-delivered (c ∷ l) t =
 
 pub worked-runs : T (runAll cases)
 worked-runs = all-delivered cases (parts (agreeAll cases) (printAll texts) worked .0)
+
+-- ---- wish sheets
+
+pub record SheetCase : Type 0 where
+  -- each with its wish in the offset's place
+  pub loops : List Task
+  pub answer : Answer
+  pub offsets : List ℕ
+  pub slack : List ℕ
+
+abbrev solvedBy : List Task → List ℕ → List ℕ → SheetCase
+solvedBy loops offsets slack = record { loops = loops; answer = Accepted; offsets = offsets; slack = slack }
+
+-- "A refused judgement … hands back a plan … of zeros", and so does a refused sheet
+abbrev turnedAway : List Task → ℕ → ℕ → SheetCase
+turnedAway loops k i = record { loops = loops; answer = Refused k i; offsets = 0 ∷ 0 ∷ 0 ∷ []; slack = 0 ∷ 0 ∷ 0 ∷ [] }
+
+-- P1's loops with these wishes
+abbrev p1Wishing : ℕ → ℕ → ℕ → List Task
+p1Wishing u v w = loop 10 9 u ∷ loop 10 9 v ∷ loop 100 20 w ∷ []
+
+-- "P1's loops wishing 29, 99, 90 get offsets 10, 10, 69 and slack 6, 6, 1." Behind it W = C, which no solution keeps, and the tick more that
+-- one keeps; W = 16 × T, and one tick beyond each limit of 26; P1's third wish where a solution just exists, and one tick less
+pub sheets : List SheetCase
+sheets =
+    solvedBy (p1Wishing 29 99 90) (10 ∷ 10 ∷ 69 ∷ []) (6 ∷ 6 ∷ 1 ∷ [])
+    ∷ turnedAway (loop 2 1 1 ∷ loop 2 1 32 ∷ loop 2 1 32 ∷ []) 27 0
+    ∷ solvedBy (loop 2 1 2 ∷ loop 2 1 32 ∷ loop 2 1 32 ∷ []) (0 ∷ 2 ∷ 2 ∷ []) (1 ∷ 1 ∷ 1 ∷ [])
+    ∷ solvedBy (p1Wishing 160 160 1600) (10 ∷ 10 ∷ 100 ∷ []) (6 ∷ 6 ∷ 0 ∷ [])
+    ∷ turnedAway (p1Wishing 29 99 19) 26 2
+    ∷ turnedAway (p1Wishing 29 161 90) 26 1
+    ∷ solvedBy (p1Wishing 29 99 70) (10 ∷ 10 ∷ 45 ∷ []) (10 ∷ 10 ∷ 5 ∷ [])
+    ∷ turnedAway (p1Wishing 29 99 69) 27 0
+    ∷ []
+
+-- the first entries of the plan that is handed back, as many as the case has
+pub meets : SheetCase → Bool
+meets c =
+    sameAnswer (wishOf (tableWith 2 (c .loops) []) .answer) (c .answer)
+    && sameList (tab (λ i. taskOf (wishOf (tableWith 2 (c .loops) []) .plan .task) i .offset) (length (c .offsets))) (c .offsets)
+    && sameList (tab (row (wishOf (tableWith 2 (c .loops) []) .plan .slack)) (length (c .slack))) (c .slack)
+
+pub meetAll : List SheetCase → Bool
+meetAll [] = true
+meetAll (c ∷ l) = meets c && meetAll l
+
+pub worked-sheets : T (meetAll sheets)
+unfolding sheets meets meetAll concat tableWith sameAnswer sameList first sum sumOver tab cut place ranked largest lcm lcmBelow hyperperiod share weight surplus counted amount cover covers needed row raise same settle noTask taskOf planOf zeroPlan lowest firstMet outside badLabel test3 test4 test5 test6 test7 test9 test10 byte number digits coreCount taskCount tasksAt slackCount slackAt taskIn taskSetIn contentIn test1 test2 taskBytes withOffsets largestOffset atSlack wished passes noSolution test26 sheet11 test27 wishTests solved wishVerdict wishOf
+worked-sheets = tt
