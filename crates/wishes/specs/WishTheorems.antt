@@ -4,16 +4,17 @@
 --     Best               a solution whose slack is the least and whose offsets are the largest of all
 --     solved-best        what is found is that; best-only: and nothing else is
 --     unsolved-exactly   27 is met exactly if no solution exists
+--     offered-exactly    11 is met exactly if the slack count is not 0
 --     solved-accepted    the plan found meets none of 3 to 13, its slack being the one found for its offsets
 use Prim.Native.Nat.{ℕ, _*_, _≤_, _<_}
 use mathlib.Core.Path.{_≡_, refl, sym, _∙_, ap}
 use mathlib.Core.Bool.{Bool, true, false, not}
 use mathlib.Core.List.{[], _∷_}
-use mathlib.Core.Logic.{_↔_}
+use mathlib.Core.Logic.{_↔_, _≢_}
 use native.Mathlib.Nat.{le-antisymm, le-trans}
 use native.Mathlib.Omega.{arith}
 use lib.Dec.{ltb, eqb}
-use borrow.Author.Tests.{ltb-true, ltb-false, le-ltb, lt-ltb, eq-eqb, not-false}
+use borrow.Author.Tests.{ltb-true, ltb-false, le-ltb, lt-ltb, eq-eqb, ne-eqb, not-false}
 use Rattle.laws.specs.First.{first}
 use Rattle.laws.specs.FirstLaws.{first-le, first-holds, first-none}
 use Rattle.tasks.specs.declared.Answer.{Answer}
@@ -21,7 +22,7 @@ use Rattle.tasks.specs.declared.Answer.the-variants.{Accepted, Refused}
 use Rattle.tasks.specs.TaskSet.{TaskSet, hyperperiod, share, Compliant, found, bound, row}
 use Rattle.tasks.specs.Content.{Content}
 use Rattle.tasks.specs.Limits.{Limits}
-use Rattle.tasks.specs.Tests.{refuse, orNext, firstMet, overBound, test3, test4, test5, test6, test7, test8, test9, test10, test11, test12, test13, tests}
+use Rattle.tasks.specs.Tests.{refuse, orNext, firstMet, numberOf, overBound, test3, test4, test5, test6, test7, test8, test9, test10, test11, test12, test13, tests}
 use Rattle.tasks.specs.AnswerLaws.{refuse-passed, refuse-met, pass-lowest, lowest-passed, orNext-passed, firstMet-passed, pass-firstMet, firstMet-append, outside-passed}
 use Rattle.tasks.specs.LimitsLaws.{limitTests, slackTests, tests-split, limits-passed}
 use Rattle.tasks.specs.FoundLaws.{found-compliant, found-least}
@@ -161,6 +162,19 @@ module _ (c : Content) where
           → refuse 27 (noSolution (c .tasks)) ≡ Refused 27 0
       unmet none true e = refuse-met 27 _ e
       unmet none false e = absurd (none _ _ (within-best (c .tasks) S e .solution))
+
+  pub offered-exactly : sheetLimits c ≡ Accepted → (wishTests c ≡ Refused 11 0) ↔ (c .offers ≢ 0)
+  unfolding sheet11 test27 firstMet
+  offered-exactly a = (λ q z. met (noSolution (c .tasks)) (eq-eqb _ _ z) (sym at-last ∙ q), λ ne. at-last ∙ rw (ne-eqb _ _ ne))
+    where
+      at-last : wishTests c ≡ firstMet (sheet11 c ∷ test27 c ∷ [])
+      at-last = wish-split c ∙ rw a
+
+      met :
+          (b : Bool) → eqb (c .offers) 0 ≡ true
+          → firstMet (sheet11 c ∷ refuse 27 b ∷ []) ≡ Refused 11 0 → ⊥
+      met true e q = let w : Refused 27 0 ≡ Refused 11 0 = rw e at q in omega (arith, ap numberOf w)
+      met false e q = let w : Accepted ≡ Refused 11 0 = rw e at q in omega (arith, ap numberOf w)
 
 -- with the offsets found, the found slack is the wished one: with them it is a solution's too
 module _ (s : TaskSet) (S : Sheet s) (e : noSolution s ≡ false) where
