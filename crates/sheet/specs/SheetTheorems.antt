@@ -8,31 +8,25 @@
 --     wish-unsolved    27 is met exactly if no solution exists
 use Prim.Native.Nat.{ℕ, _≤_}
 use mathlib.Core.Path.{_≡_, refl, sym, ap, _∙_}
-use mathlib.Core.Bool.{Bool, true, false, not}
-use mathlib.Core.List.{List, [], _∷_}
+use mathlib.Core.List.{List, []}
 use mathlib.Core.Logic.{_↔_, inl}
-use lib.Dec.{eqb}
 use lib.ListN.{length}
 use borrow.Author.Tests.{eq-eqb}
 use Rattle.laws.specs.TabLaws.{cut-above}
 use Rattle.tasks.specs.declared.Plan.{Plan}
-use Rattle.tasks.specs.declared.Answer.{Answer}
 use Rattle.tasks.specs.declared.Answer.the-variants.{Accepted, Refused}
-use Rattle.tasks.specs.TaskSet.{TaskSet, row}
-use Rattle.tasks.specs.Content.{Content, noTask, countedOf, contentOf, planOf, tidy}
+use Rattle.tasks.specs.Content.{noTask, countedOf, contentOf, planOf, tidy}
 use Rattle.tasks.specs.ContentLaws.{Fits, fits-back}
-use Rattle.tasks.specs.Limits.{Limits}
-use Rattle.tasks.specs.Tests.{refuse, orNext, firstMet, tests, testPlan}
+use Rattle.tasks.specs.Tests.{tests, testPlan}
 use Rattle.tasks.specs.TestsLaws.{tests-limits}
 use Rattle.tasks.specs.AnswerLaws.{firstMet-passed, firstMet-pass, orNext-passed}
 use Rattle.codec.specs.Table.{slackCount, taskSetIn, contentIn, bytesOf, test1, test2}
 use Rattle.table.specs.Judged.{judgedAs, judged}
 use Rattle.writer.specs.Written.{writeTest}
 use Rattle.roundtrip.specs.RoundTrip.{judged-back, write-accepts, leftBy, plan-again}
-use Rattle.wishes.specs.Wish.{Solution, withOffset, withOffsets, largestOffset, atSlack, wished, noSolution, sheet11, test27, wishTests, solved}
+use Rattle.wishes.specs.Wish.{Solution, withOffsets, atSlack, sheet11, test27, wishTests, solved}
 use Rattle.wishes.specs.WishLaws.{wished-past}
 use Rattle.wishes.specs.WishTheorems.{sheetLimits, wish-split, sheet-passed, Best, solved-best, unsolved-exactly, solved-accepted}
-use Rattle.sheet.specs.declared.Wished.{Wished}
 use Rattle.sheet.specs.Wished.{wishVerdict, wishOf}
 use Rattle.sheet.specs.WishedLaws.{unused, alone}
 

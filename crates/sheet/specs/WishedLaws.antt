@@ -7,12 +7,10 @@
 --     sheet-from     one that meets neither
 use Prim.Native.Nat.{ℕ, _+_, _-_, _≤_, _<_, min}
 use mathlib.Core.Path.{_≡_, refl, sym, ap, _∙_}
-use mathlib.Core.Bool.{Bool, true, false}
+use mathlib.Core.Bool.{false}
 use mathlib.Core.List.{List, [], _∷_}
 use mathlib.Core.Logic.{⊎-elim}
 use native.Mathlib.Omega.{arith}
-use lib.Dec.{ltb}
-use borrow.Author.Tests.{ltb-true, ltb-false}
 use Rattle.laws.specs.EveryLaws.{below-or-not}
 use Rattle.laws.specs.Tab.{tab, cut}
 use Rattle.laws.specs.TabLaws.{tab-ext, getD-tab, cut-below, cut-above}
@@ -23,7 +21,7 @@ use Rattle.tasks.specs.declared.Answer.the-variants.{Accepted, Refused}
 use Rattle.tasks.specs.TaskSet.{TaskSet, row}
 use Rattle.tasks.specs.Content.{Content, noTask, taskOf, contentOf, planOf, zeroPlan}
 use Rattle.tasks.specs.ContentLaws.{plan-ext, withSlack}
-use Rattle.tasks.specs.Tests.{firstMet, orNext, unlessRefused, outside, test3, test4, test5, test6, test7, test9, test10}
+use Rattle.tasks.specs.Tests.{firstMet, unlessRefused, test3, test4, test5, test6, test7, test9, test10}
 use Rattle.tasks.specs.AnswerLaws.{refuse-passed, firstMet-append, firstMet-passed, outside-passed}
 use Rattle.codec.specs.Table.{coreCount, taskCount, slackCount, taskSetIn, contentIn, test1, test2}
 use Rattle.reader.specs.Counted.{countsTest}

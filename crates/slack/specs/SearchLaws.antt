@@ -5,7 +5,7 @@
 --     turn-raised     where d is what A of x needs, y is x raised
 --     turn-over       and nothing changed: y is the found slack; turn-counted: and the tasks counted at x are those counted at it
 --     turn-less       or something changed: the distance to the ceiling falls
-use Prim.Native.Nat.{ℕ, _+_, _*_, _-_, _/_, _%_, _≤_, _<_}
+use Prim.Native.Nat.{ℕ, _*_, _-_, _/_, _%_, _≤_, _<_}
 use mathlib.Core.Path.{_≡_, refl, sym, _∙_, ap}
 use mathlib.Core.Bool.{Bool, true, false, not}
 use mathlib.Core.List.{List}

@@ -1,7 +1,7 @@
 -- What settles a plan's slack, from what the stages have worked out.
 --     frame-passed, ranges-passed    what 3 to 8 leave
 --     arrays-of                    the rates and columns of a task set past 3 to 10
---     cores-low … amounts            what ties the arrays to a task set keeps every number small
+--     cores-low … surplus-high       what ties the arrays to a task set keeps every number small
 --     counted-row                    the tasks that the code counts are those counted
 --     amount-row                     the amount that the code works out is A
 --     uncovered-test                 the code's test of one task is the condition's
@@ -27,8 +27,6 @@ use Rattle.tasks.specs.declared.Answer.the-variants.{Accepted, Refused}
 use Rattle.tasks.specs.TaskSet.{TaskSet, hyperperiod, share, surplus, weight, counted, amount, cover, covers, row}
 use Rattle.tasks.specs.Limits.{Limits}
 use Rattle.tasks.specs.ShareLaws.{share-high, surpluses-high, hyperperiod-low}
-use Rattle.tasks.specs.AmountLaws.{amount-high}
-use Rattle.tasks.specs.RisingLaws.{Rising, rising-high}
 use Rattle.tasks.specs.Tests.{lowest}
 use Rattle.tasks.specs.AnswerLaws.{refuse-passed, lowest-passed, lowest-found, lowest-none, firstMet-passed, outside-passed}
 use Rattle.slack.specs.declared.rates.Rates.{Rates}
@@ -133,9 +131,6 @@ module _ {s : TaskSet} {shares budgets offsets : List ℕ} {h surpluses m n : �
 
   pub surplus-high : surpluses < 1000000000000000000
   surplus-high = omega (arith, g .surplus, surpluses-high s (g .limits) (s .count) (omega arith))
-
-  pub amounts : (x : List ℕ) → Rising s (row x) → amount s (row x) ≤ 40000000000000000
-  amounts x z = amount-high s (g .limits) (row x) (λ i t. omega (arith, rising-high s (g .limits) (row x) z i t))
 
   weight-row : (x : List ℕ) (i : ℕ) → i < s .count → weightRow shares offsets x i ≡ weight s (row x) i
   unfolding weightRow weight

@@ -3,13 +3,13 @@
 --     Rising                what holds of every slack on the way: the next turn takes nothing off it, and no compliant slack is below it
 --     rising-start          zeros
 --     rising-step           what a turn makes of it
---     rising-high           it is at most 800,000 at every loop; raised-high: what the next turn needs is too
+--     rising-high           it is at most 800,000 at every loop
 --     rising-sum            so its sum is at most n × 800,000
 --     rising-more           a turn that changes a loop makes the sum larger
 --     rising-falls          and n × 800,000 less the sum smaller: the search's measure
 --     still-compliant       slack that a turn leaves as it is is compliant
 use Prim.Native.Nat.{ℕ, _-_, _*_, _≤_, _<_}
-use mathlib.Core.Path.{_≡_, refl}
+use mathlib.Core.Path.{_≡_}
 use mathlib.Core.Logic.{_≢_}
 use native.Mathlib.Nat.{le-trans}
 use native.Mathlib.Omega.{arith}
@@ -45,10 +45,6 @@ module _ (s : TaskSet) (L : Limits s) where
 
   pub rising-high : (x : ℕ → ℕ) → Rising s x → (k : ℕ) → k < s .count → x k ≤ 800000
   rising-high x r = r .least (λ k. ceiling) (ceiling-compliant s L)
-
-  pub raised-high : (x : ℕ → ℕ) → Rising s x → (k : ℕ) → k < s .count → needed s (amount s x) k ≤ 800000
-  unfolding Raised
-  raised-high x r k h = rising-high (needed s (amount s x)) (rising-step x _ r (λ i l. refl)) k h
 
   pub rising-sum : (x : ℕ → ℕ) → Rising s x → sum x (s .count) ≤ s .count * 800000
   rising-sum x r = sum-le-mul x 800000 (s .count) (rising-high x r)

@@ -4,8 +4,8 @@
 --     slope-high        the gains are at most m × H
 --     far-under         what A could cover in steps of m is below no solution's number
 --     ahead-all         m such numbers, from `start` on, are of all
-use Prim.Native.Nat.{ℕ, _+_, _-_, _*_, _/_, _%_, _≤_, _<_, min}
-use mathlib.Core.Path.{_≡_, refl, sym, _∙_, ap}
+use Prim.Native.Nat.{ℕ, _+_, _-_, _*_, _/_, _%_, _≤_, _<_}
+use mathlib.Core.Path.{_≡_, refl, sym, _∙_}
 use mathlib.Core.Bool.{Bool, true, false, cond}
 use mathlib.Core.List.{List}
 use mathlib.Core.Logic.{_⊎_, ⊎-elim}
@@ -14,17 +14,15 @@ use native.Mathlib.Omega.{arith}
 use lib.Dec.{ltb}
 use lib.ListN.{take}
 use borrow.Author.Tests.{ltb-true, ltb-false}
-use Rattle.laws.specs.EveryLaws.{below-or-not}
 use Rattle.laws.specs.Member.{member}
 use Rattle.laws.specs.Sum.{sum}
 use Rattle.laws.specs.SumLaws.{sum-ext, sum-mono}
 use Rattle.laws.specs.Tab.{tab, cut}
 use Rattle.tasks.specs.TaskSet.{TaskSet, hyperperiod, share, counted, amount, needed, row}
-use Rattle.tasks.specs.Limits.{Limits}
 use Rattle.tasks.specs.ShareLaws.{hyperperiod-low}
 use Rattle.tasks.specs.AmountLaws.{amount-high}
 use Rattle.tasks.specs.SlackLaws.{needed-least}
-use Rattle.slack.specs.Arrays.{lifted, need, upto, ArraysOf}
+use Rattle.slack.specs.Arrays.{lifted, upto, ArraysOf}
 use Rattle.slack.specs.NeedLaws.{need-covers, needed-rounded}
 use Rattle.slack.specs.SearchLaws.{turn-lifted}
 use Rattle.slack.specs.StageLaws.{counted-row, amount-row}

@@ -19,7 +19,7 @@ use Rattle.fields.specs.StageLaws.{not-both, wishes-scan}
 use Rattle.slack.specs.StageLaws.{Framed}
 use Rattle.analysis.specs.SlackTest.{offering}
 use Rattle.analysis.specs.SlackTestLaws.{columns-set, frame-tests, rates-tests, stopped, passed-on}
-use Rattle.wishes.specs.Wish.{largestOffset, wished, noSolution, test26, sheet11, test27, wishTests}
+use Rattle.wishes.specs.Wish.{largestOffset, test26, sheet11, test27, wishTests}
 use Rattle.wishes.specs.PlainWishLaws.{plain-wished, plain-none}
 use Rattle.wish_search.specs.declared.solve.Solved.{Solved}
 use Rattle.wish_search.specs.Solved.{WishRanges, lastTests, FoundIn, RatesSolved, wishTaskTests, TasksSolved, PlanSolved}

@@ -10,7 +10,6 @@ use mathlib.Core.Path.{_≡_}
 use mathlib.Core.Bool.{Bool, true, false}
 use mathlib.Core.List.{List}
 use lib.Dec.{ltb}
-use Rattle.laws.specs.First.{first}
 use Rattle.laws.specs.Tab.{tab}
 use Rattle.tasks.specs.TaskSet.{TaskSet, hyperperiod, share, amount, needed, row}
 use Rattle.wishes.specs.Wish.{room, atSlack, wished, passes, noSolution}

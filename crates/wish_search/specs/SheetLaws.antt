@@ -3,18 +3,16 @@
 --     offset-row                  the offsets that the code works out are the largest
 --     at-arrays                   with the largest offsets and their surpluses the arrays are those of the tasks at a slack; arrays: so there are such
 --     past-test                   the code's test of one task is the definition's
-use Prim.Native.Nat.{ℕ, _+_, _*_, _-_, _≤_, _<_, min}
-use mathlib.Core.Path.{_≡_, refl, sym, _∙_, ap}
-use mathlib.Core.Bool.{Bool, true, false}
+use Prim.Native.Nat.{ℕ, _*_, _-_, _≤_, _<_}
+use mathlib.Core.Path.{_≡_, refl, _∙_}
 use mathlib.Core.List.{List}
 use native.Mathlib.Omega.{arith}
-use lib.Dec.{ltb}
 use Rattle.laws.specs.Sum.{sum}
 use Rattle.laws.specs.SumLaws.{sum-ext}
 use Rattle.laws.specs.Tab.{tab, cut}
 use Rattle.tasks.specs.TaskSet.{TaskSet, hyperperiod, share, surplus, row}
 use Rattle.tasks.specs.Limits.{Limits}
-use Rattle.tasks.specs.ShareLaws.{hyperperiod-low, share-high}
+use Rattle.tasks.specs.ShareLaws.{share-high}
 use Rattle.slack.specs.Arrays.{ArraysOf}
 use Rattle.slack.specs.RatesLaws.{row-filled}
 use Rattle.wishes.specs.Wish.{room, withOffsets, largestOffset, atSlack, passes}

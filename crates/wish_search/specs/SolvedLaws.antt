@@ -3,20 +3,18 @@
 --     sheet-of         past 9 and 10 the arrays are those of the sheet
 --     solve-refused, solve-offered, solve-none, solve-found    the answer by what was met
 --     wishes-passed    what 6, 7 and 26 leave
-use Prim.Native.Nat.{ℕ, _-_, _*_, _≤_, _<_, min}
+use Prim.Native.Nat.{ℕ, _≤_, _<_}
 use mathlib.Core.Path.{_≡_, refl, sym, _∙_, ap}
-use mathlib.Core.Bool.{Bool, true, false}
+use mathlib.Core.Bool.{false}
 use mathlib.Core.List.{List}
 use mathlib.Core.Logic.{⊎-elim}
 use native.Mathlib.Omega.{arith}
-use lib.Dec.{ltb, eqb}
-use borrow.Author.Tests.{ltb-true, ltb-false, ne-eqb, eq-eqb}
+use borrow.Author.Tests.{ltb-false, ne-eqb, eq-eqb}
 use Rattle.laws.specs.First.{first}
 use Rattle.laws.specs.FirstLaws.{first-le, first-holds, first-none}
 use Rattle.laws.specs.EveryLaws.{below-or-not}
 use Rattle.laws.specs.Tab.{tab, cut}
 use Rattle.laws.specs.TabLaws.{getD-tab, tab-ext, cut-below, cut-above}
-use Rattle.tasks.specs.declared.Answer.{Answer}
 use Rattle.tasks.specs.declared.Answer.the-variants.{Accepted, Refused}
 use Rattle.tasks.specs.TaskSet.{TaskSet, hyperperiod, share, row}
 use Rattle.tasks.specs.Limits.{Limits}
@@ -32,11 +30,10 @@ use Rattle.slack.specs.StageLaws.{Framed}
 use Rattle.analysis.specs.SlackTestLaws.{stopped, passed-on}
 use Rattle.wishes.specs.Wish.{room, withOffsets, largestOffset, atSlack, wished, noSolution}
 use Rattle.wishes.specs.WishLaws.{largest-low}
-use Rattle.wishes.specs.WishTheorems.{Sheet}
 use Rattle.wish_search.specs.declared.solve.Solved.{Solved}
 use Rattle.wish_search.specs.SheetArrays.{roomRow, offsetRow, pastRow, SheetOf, Ended}
 use Rattle.wish_search.specs.SheetLaws.{past-test, offset-row}
-use Rattle.wish_search.specs.Solved.{WishRanges, lastTests, FoundIn, RatesSolved}
+use Rattle.wish_search.specs.Solved.{WishRanges, lastTests, RatesSolved}
 
 offset-le : (separation room slack : List ℕ) (i : ℕ) → offsetRow separation room slack i ≤ row separation i
 unfolding offsetRow

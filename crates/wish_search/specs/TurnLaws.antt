@@ -6,15 +6,14 @@
 --     ended-still     nothing changed: the search has ended with the wished slack
 --     ended-past      some task's slack is above W − C: it has ended without a solution
 use Prim.Native.Nat.{ℕ, _+_, _*_, _-_, _/_, _%_, _≤_, _<_}
-use mathlib.Core.Path.{_≡_, refl, sym, _∙_, ap}
+use mathlib.Core.Path.{_≡_, sym, _∙_}
 use mathlib.Core.Bool.{true, false, true≢false}
 use mathlib.Core.List.{List}
 use mathlib.Core.Logic.{⊎-elim}
 use native.Mathlib.Nat.{le-trans, mul-le-mul-left}
 use native.Mathlib.Omega.{arith}
 use lib.ListN.{length}
-use lib.Dec.{ltb}
-use borrow.Author.Tests.{ltb-true, ltb-false, le-ltb}
+use borrow.Author.Tests.{ltb-true, ltb-false}
 use Rattle.laws.specs.First.{first}
 use Rattle.laws.specs.FirstLaws.{first-le, first-holds, first-none}
 use Rattle.laws.specs.EveryLaws.{below-or-not}
@@ -24,7 +23,7 @@ use Rattle.laws.specs.Tab.{tab, cut}
 use Rattle.laws.specs.TabLaws.{ext-tab}
 use Rattle.tasks.specs.TaskSet.{TaskSet, hyperperiod, amount, needed, row}
 use Rattle.tasks.specs.ShareLaws.{hyperperiod-low}
-use Rattle.slack.specs.Arrays.{lifted, need, upto, Needs}
+use Rattle.slack.specs.Arrays.{lifted, upto, Needs}
 use Rattle.slack.specs.NeedLaws.{need-covers, need-least, needed-rounded}
 use Rattle.slack.specs.SearchLaws.{changes, turn-lifted, turn-length, turn-past, turn-still, turn-changed}
 use Rattle.wishes.specs.Wish.{room, withOffsets, atSlack, wished, passes, noSolution}

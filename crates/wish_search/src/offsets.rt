@@ -1,7 +1,6 @@
 // What a wish leaves for a task's offset, and whether a slack takes more than it leaves.
 ghost use mathlib.Core.Path.{_≡_};
 ghost use Prim.Native.Nat.{ℕ, _-_, _<_, _≤_, min};
-ghost use lib.Dec.{ltb};
 ghost use Rattle.laws.specs.First.{first};
 ghost use Rattle.laws.specs.Tab.{tab, cut};
 ghost use Rattle.tasks.specs.TaskSet.{row};

@@ -3,8 +3,8 @@
 --     Climbs         tasks whose share A gains with each tick of their slack: it rises, and it is counted or its offset is cut
 --     rises-by       slack that is not 0 rises by 1 with each m that its number rises
 --     leap-cost      A at a solution's slack is at least A at x and j times the shares of such tasks, where the number rises by m × j
-use Prim.Native.Nat.{ℕ, _+_, _-_, _*_, _≤_, _<_, min}
-use mathlib.Core.Path.{_≡_, refl, sym, _∙_, ap}
+use Prim.Native.Nat.{ℕ, _+_, _-_, _*_, _≤_, _<_}
+use mathlib.Core.Path.{_≡_, refl, sym, ap}
 use mathlib.Core.Bool.{Bool, true, false, cond, true≢false}
 use mathlib.Core.Logic.{_⊎_, ⊎-elim}
 use native.Mathlib.Nat.{mul-le-mul-left, lt-of-mul-lt-mul-left}

@@ -11,12 +11,11 @@ use Prim.Native.Nat.{ℕ, _+_, _-_, _≤_, _<_}
 use mathlib.Core.Path.{_≡_, refl, sym, _∙_}
 use mathlib.Core.Bool.{Bool, true, false}
 use mathlib.Core.Logic.{_≢_, ⊎-elim}
-use native.Mathlib.Nat.{le-of-eq, le-trans, le-antisymm}
+use native.Mathlib.Nat.{le-trans, le-antisymm}
 use native.Mathlib.Omega.{arith}
-use lib.Dec.{ltb}
-use borrow.Author.Tests.{ltb-true, ltb-false, lt-ltb, le-ltb}
+use borrow.Author.Tests.{ltb-false, le-ltb}
 use Rattle.laws.specs.First.{first}
-use Rattle.laws.specs.FirstLaws.{first-le, first-holds, first-none, none-first}
+use Rattle.laws.specs.FirstLaws.{first-le, first-none, none-first}
 use Rattle.laws.specs.EveryLaws.{below-or-not}
 use Rattle.laws.specs.Sum.{sum}
 use Rattle.laws.specs.SumLaws.{sum-less, sum-mono}

@@ -1,20 +1,21 @@
 -- The amount A of a sheet's tasks with the largest offsets that a slack leaves, and the slack that is found by raising.
---     share-kept, needed-kept        share, and what an amount needs, do not depend on the offsets
 --     largest-low                    a largest offset is at most T; largest-mono-at: x + Y does not fall and Y does not rise as x rises
---     at-mono                      A, with the largest offsets that a slack leaves, does not fall as the slack rises
+--     at-mono                        A, with the largest offsets that a slack leaves, does not fall as the slack rises
 --     offsets-lower                  A does not rise as an offset rises
 --     Within                         at every slack the tasks are within the limits
 --     Kept                           slack that is compliant with the largest offsets that it leaves
+--     need-mono                      what an amount needs does not fall as the amount rises
 --     kept-needed, needed-kept-at    such slack is nowhere below what its own A needs, and the other way
 --     wished-kept, wished-least, wished-length, wished-past    the wished slack is such, and no larger at any loop than any other; one entry for each loop
+--     solution-offset, solution-room    a solution's offsets are at most the largest that its slack leaves, and its slack at most W − C
 --     solution-kept, kept-solution   a solution's slack is such, and slack that is such and passes nowhere W − C is a solution's
-use Prim.Native.Nat.{ℕ, _+_, _-_, _*_, _≤_, _<_, min}
-use mathlib.Core.Path.{_≡_, refl, sym, _∙_}
+use Prim.Native.Nat.{ℕ, _+_, _-_, _*_, _≤_, _<_}
+use mathlib.Core.Path.{_≡_}
 use mathlib.Core.Bool.{Bool, true, false, cond}
-use native.Mathlib.Nat.{le-of-eq, le-trans, le-refl, add-le-add, mul-le-mul-left, mul-add}
+use native.Mathlib.Nat.{le-of-eq, le-trans, add-le-add, mul-le-mul-left, mul-add}
 use native.Mathlib.Omega.{arith}
 use lib.ListN.{length, List·getD-eq-default}
-use Rattle.laws.specs.Sum.{sum, count}
+use Rattle.laws.specs.Sum.{count}
 use Rattle.laws.specs.SumLaws.{sumIn, sum-add, sum-mono}
 use Rattle.laws.specs.Member.{member}
 use Rattle.laws.specs.LargestLaws.{largest-mono}
@@ -28,14 +29,6 @@ use Rattle.tasks.specs.CeilingLaws.{ceiling-compliant}
 use Rattle.wishes.specs.Wish.{room, withOffsets, Solution, largestOffset, atSlack, wished}
 
 module _ (s : TaskSet) where
-  pub share-kept : (y : ℕ → ℕ) (i : ℕ) → share (withOffsets s y) i ≡ share s i
-  unfolding share hyperperiod withOffsets
-  share-kept y i = refl
-
-  pub needed-kept : (y : ℕ → ℕ) (a k : ℕ) → needed (withOffsets s y) a k ≡ needed s a k
-  unfolding needed hyperperiod withOffsets
-  needed-kept y a k = refl
-
   -- A by slack and offsets: it does not fall as x + Y rises and Y falls
   pub offsets-mono :
       (y z x v : ℕ → ℕ) → ((i : ℕ) → i < s .count → (x i + y i ≤ v i + z i) × (z i ≤ y i))

@@ -13,16 +13,15 @@ use mathlib.Core.List.{[], _∷_}
 use mathlib.Core.Logic.{_↔_, _≢_}
 use native.Mathlib.Nat.{le-antisymm, le-trans}
 use native.Mathlib.Omega.{arith}
-use lib.Dec.{ltb, eqb}
-use borrow.Author.Tests.{ltb-true, ltb-false, le-ltb, lt-ltb, eq-eqb, ne-eqb, not-false}
+use lib.Dec.{eqb}
+use borrow.Author.Tests.{ltb-true, ltb-false, le-ltb, eq-eqb, ne-eqb}
 use Rattle.laws.specs.First.{first}
 use Rattle.laws.specs.FirstLaws.{first-le, first-holds, first-none}
 use Rattle.tasks.specs.declared.Answer.{Answer}
 use Rattle.tasks.specs.declared.Answer.the-variants.{Accepted, Refused}
-use Rattle.tasks.specs.TaskSet.{TaskSet, hyperperiod, share, Compliant, found, bound, row}
+use Rattle.tasks.specs.TaskSet.{TaskSet, hyperperiod, share, found, bound, row}
 use Rattle.tasks.specs.Content.{Content}
-use Rattle.tasks.specs.Limits.{Limits}
-use Rattle.tasks.specs.Tests.{refuse, orNext, firstMet, numberOf, overBound, test3, test4, test5, test6, test7, test8, test9, test10, test11, test12, test13, tests}
+use Rattle.tasks.specs.Tests.{refuse, orNext, firstMet, numberOf, test3, test4, test5, test6, test7, test8, test9, test10, test11, test12, test13, tests}
 use Rattle.tasks.specs.AnswerLaws.{refuse-passed, refuse-met, pass-lowest, lowest-passed, orNext-passed, firstMet-passed, pass-firstMet, firstMet-append, outside-passed}
 use Rattle.tasks.specs.LimitsLaws.{limitTests, slackTests, tests-split, limits-passed}
 use Rattle.tasks.specs.FoundLaws.{found-compliant, found-least}

@@ -1,7 +1,6 @@
 -- `fields::ranges::met` meets its contract.
 use mathlib.Core.Path.{sym, _∙_}
 use borrow.Author.Needs.{needs}
-use borrow.Author.Tests.{ltb-false}
 use Rattle.tasks.specs.AnswerLaws.{outside-passed}
 use Rattle.fields.specs.Stages.{metBy}
 use Rattle.fields.proofs.ranges.met.Statement.{statement}

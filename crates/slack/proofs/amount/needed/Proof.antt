@@ -1,11 +1,8 @@
 -- A is small while the slack is, so that what it needs fits 32 bits.
 use native.Mathlib.Omega.{arith}
-use Prim.Native.Nat.{ℕ, _+_, _*_, _-_, _/_, _≤_, _<_}
-use mathlib.Core.Path.{_≡_, refl, sym, _∙_}
+use Prim.Native.Nat.{ℕ, _+_, _-_, _/_, _≤_, _<_}
+use mathlib.Core.Path.{_≡_, _∙_}
 use mathlib.Core.List.{List}
-use lib.ListN.{take}
-use Rattle.laws.specs.Sum.{sumOver}
-use Rattle.laws.specs.Rank.{largest}
 use Rattle.tasks.specs.TaskSet.{TaskSet, hyperperiod, amount, row}
 use Rattle.tasks.specs.ShareLaws.{hyperperiod-low}
 use Rattle.tasks.specs.AmountLaws.{amount-high}

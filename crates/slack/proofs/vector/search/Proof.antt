@@ -5,7 +5,7 @@ use native.Mathlib.Nat.{le-trans, div-le-self}
 use borrow.Author.Tests.{ltb-true, ltb-false}
 use lib.Dec.{ltb}
 use mathlib.Core.Bool.{Bool, true, false}
-use Prim.Native.Nat.{_/_, _%_}
+use Prim.Native.Nat.{_/_}
 use lib.ListN.{getD-replicate, replicate}
 use Rattle.laws.specs.Sum.{sum}
 use Rattle.largest.specs.Chosen.{Arranged}

@@ -1,12 +1,10 @@
 -- `wish_search::leap::far` meets its contract.
-use Prim.Native.Nat.{ℕ, _-_, _*_, _/_, _≤_}
-use mathlib.Core.List.{List, []}
-use mathlib.Core.Path.{_≡_, refl, _∙_}
+use Prim.Native.Nat.{ℕ, _/_, _≤_}
+use mathlib.Core.Path.{refl}
 use native.Mathlib.Omega.{arith}
 use native.Mathlib.Nat.{le-trans, div-le-self}
-use lib.ListN.{length, take}
 use borrow.Author.Needs.{needs}
-use Rattle.tasks.specs.TaskSet.{TaskSet, row}
+use Rattle.tasks.specs.TaskSet.{row}
 use Rattle.slack.specs.StageLaws.{few, surplus-high}
 use Rattle.wish_search.specs.SheetLaws.{cores-low, cores-high, tasks-high, more, shares-high, separation-high, multiple-high, offset-low, at-arrays}
 use Rattle.wish_search.specs.GainLaws.{gains-high}

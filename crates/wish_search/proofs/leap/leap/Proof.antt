@@ -1,7 +1,7 @@
 -- Each turn of the loop looks at one more number.
 use Prim.Native.Nat.{ℕ, _+_, _-_, _/_, _%_, _≤_, _<_, min}
 use mathlib.Core.List.{List}
-use mathlib.Core.Path.{_≡_, sym, _∙_}
+use mathlib.Core.Path.{_≡_}
 use mathlib.Core.Logic.{⊎-elim}
 use native.Mathlib.Omega.{arith}
 use borrow.Author.Needs.{needs}
@@ -11,7 +11,7 @@ use Rattle.largest.specs.Chosen.{Arranged}
 use Rattle.tasks.specs.TaskSet.{TaskSet, row}
 use Rattle.wish_search.specs.SheetArrays.{SheetOf}
 use Rattle.wish_search.specs.SheetLaws.{cores-low, cores-high}
-use Rattle.wish_search.specs.Leaps.{needAt, Far}
+use Rattle.wish_search.specs.Leaps.{Far}
 use Rattle.wish_search.specs.FarLaws.{ahead-all}
 use Rattle.wish_search.proofs.leap.leap.Statement.{statement}
 use Rattle.wish_search.proofs.leap.leap.Tie as tie

@@ -1,8 +1,7 @@
 -- `wish_search::leap::reach` meets its contract: what A lacks, divided by what it lacks less with each step, and rounded up.
-use Prim.Native.Nat.{ℕ, _+_, _-_, _*_, _/_, _≤_, _<_}
+use Prim.Native.Nat.{ℕ, _+_, _-_, _*_, _/_, _≤_}
 use native.Mathlib.Omega.{arith}
-use native.Mathlib.Nat.{mul-le-mul, mul-le-mul-left, div-le-self, le-trans}
-use mathlib.Core.Path.{_≡_}
+use native.Mathlib.Nat.{mul-le-mul, div-le-self, le-trans}
 use borrow.Author.Needs.{needs}
 use Rattle.wish_search.specs.GainLaws.{reach-never, reach-turns}
 use Rattle.wish_search.proofs.leap.reach.Statement.{statement}

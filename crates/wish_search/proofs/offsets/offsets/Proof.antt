@@ -8,7 +8,6 @@ use borrow.Author.Needs.{needs}
 use native.Mathlib.Omega.{arith}
 use Prim.Native.Nat.{ℕ, _≤_, _-_}
 use mathlib.Core.Path.{_≡_, ap, _∙_}
-use mathlib.Core.List.{List}
 use lib.ListN.{set}
 use Rattle.wish_search.proofs.offsets.offsets.Statement.{statement}
 use Rattle.wish_search.proofs.offsets.offsets.Tie as tie

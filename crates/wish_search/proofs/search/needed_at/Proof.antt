@@ -1,5 +1,4 @@
 -- The arrays are those of the tasks at the slack.
-use Prim.Native.Nat.{ℕ, _<_}
 use Rattle.wish_search.specs.SheetLaws.{tasks-high, shares-high, separation-high, offset-low, at-arrays}
 use Rattle.wish_search.proofs.search.needed_at.Statement.{statement}
 use Rattle.wish_search.proofs.search.needed_at.Tie as tie

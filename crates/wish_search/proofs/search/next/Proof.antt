@@ -1,5 +1,4 @@
 -- `wish_search::search::next` meets its contract.
-use Prim.Native.Nat.{_≤_}
 use Rattle.wish_search.specs.TurnLaws.{onward-round, onward-leap}
 use Rattle.wish_search.proofs.search.next.Statement.{statement}
 use Rattle.wish_search.proofs.search.next.Tie as tie

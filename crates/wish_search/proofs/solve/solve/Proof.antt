@@ -1,6 +1,4 @@
 -- `wish_search::solve::solve` meets its contract: the sheet's arrays are known once 9 and 10 are passed.
-use mathlib.Core.Path.{refl, sym, _∙_}
-use native.Mathlib.Omega.{arith}
 use borrow.Author.Needs.{needs}
 use Rattle.fields.specs.Columns.{setFrom}
 use Rattle.wish_search.specs.SolvedLaws.{widest-ranges, sheet-of, solve-refused, solve-offered, solve-none, solve-found}
