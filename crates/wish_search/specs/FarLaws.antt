@@ -31,10 +31,12 @@ use Rattle.wishes.specs.Wish.{room, withOffsets, atSlack}
 use Rattle.wishes.specs.WishLaws.{need-mono, kept-needed}
 use Rattle.wishes.specs.RaisingLaws.{Solving}
 use Rattle.wishes.specs.LeapLaws.{Climbs, rises-by, leap-cost}
-use Rattle.wish_search.specs.SheetArrays.{offsetRow, SheetOf}
+use Rattle.wish_offsets.specs.Rows.{offsetRow}
+use Rattle.wish_search.specs.SheetArrays.{SheetOf}
 use Rattle.wish_search.specs.SheetLaws.{arrays, at-arrays}
-use Rattle.wish_search.specs.Leaps.{Gains, needAt, Far, Ahead}
-use Rattle.wish_search.specs.GainLaws.{gains-high}
+use Rattle.wish_gains.specs.Gains.{Gains}
+use Rattle.wish_search.specs.Leaps.{needAt, Far, Ahead}
+use Rattle.wish_gains.specs.GainLaws.{gains-high}
 
 -- the same with the code's numbers
 by-numbers :

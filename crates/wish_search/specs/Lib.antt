@@ -1,7 +1,6 @@
 pub mod SheetArrays
 pub mod SheetLaws
 pub mod Leaps
-pub mod GainLaws
 pub mod FarLaws
 pub mod TurnLaws
 pub mod Solved

@@ -1,29 +1,16 @@
 -- A wish sheet as the code works on it, from arrays.
---     roomRow       W − C
---     offsetRow     the smaller of T and W − C − x
---     pastRow       whether x is above W − C
 --     SheetOf       the arrays and numbers are those of the sheet s
 --     Onward        a number by which the slack x can be raised: it covers A, and every solution's slack covers what it needs
 --     Ended         where the search ends: at the wished slack, or where it shows that there is no solution
-use Prim.Native.Nat.{ℕ, _-_, _*_, _≤_, _<_, min}
+use Prim.Native.Nat.{ℕ, _*_, _≤_, _<_}
 use mathlib.Core.Path.{_≡_}
-use mathlib.Core.Bool.{Bool, true, false}
+use mathlib.Core.Bool.{true, false}
 use mathlib.Core.List.{List}
-use lib.Dec.{ltb}
 use Rattle.laws.specs.Tab.{tab}
 use Rattle.tasks.specs.TaskSet.{TaskSet, hyperperiod, share, amount, needed, row}
 use Rattle.wishes.specs.Wish.{room, atSlack, wished, passes, noSolution}
 use Rattle.wishes.specs.WishTheorems.{Sheet}
 use Rattle.wishes.specs.RaisingLaws.{Solving, Below}
-
-unfoldable pub roomRow : List ℕ → List ℕ → ℕ → ℕ
-roomRow wish budget i = row wish i - row budget i
-
-unfoldable pub offsetRow : List ℕ → List ℕ → List ℕ → ℕ → ℕ
-offsetRow separation rooms slack i = min (row separation i) (row rooms i - row slack i)
-
-unfoldable pub pastRow : List ℕ → List ℕ → ℕ → Bool
-pastRow slack rooms i = ltb (row rooms i) (row slack i)
 
 pub record SheetOf (s : TaskSet) (shares separations budgets rooms : List ℕ) (h m n : ℕ) : Type 0 where
   pub sheet : Sheet s

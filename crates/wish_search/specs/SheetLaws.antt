@@ -17,7 +17,8 @@ use Rattle.slack.specs.Arrays.{ArraysOf}
 use Rattle.slack.specs.RatesLaws.{row-filled}
 use Rattle.wishes.specs.Wish.{room, withOffsets, largestOffset, atSlack, passes}
 use Rattle.wishes.specs.WishLaws.{largest-low}
-use Rattle.wish_search.specs.SheetArrays.{offsetRow, pastRow, SheetOf}
+use Rattle.wish_offsets.specs.Rows.{offsetRow, pastRow}
+use Rattle.wish_search.specs.SheetArrays.{SheetOf}
 
 module _ {s : TaskSet} {shares separations budgets rooms : List ℕ} {h m n : ℕ} (g : SheetOf s shares separations budgets rooms h m n) where
   -- at slack 0, as at any other

@@ -31,7 +31,8 @@ use Rattle.analysis.specs.SlackTestLaws.{stopped, passed-on}
 use Rattle.wishes.specs.Wish.{room, withOffsets, largestOffset, atSlack, wished, noSolution}
 use Rattle.wishes.specs.WishLaws.{largest-low}
 use Rattle.wish_search.specs.declared.solve.Solved.{Solved}
-use Rattle.wish_search.specs.SheetArrays.{roomRow, offsetRow, pastRow, SheetOf, Ended}
+use Rattle.wish_offsets.specs.Rows.{roomRow, offsetRow, pastRow}
+use Rattle.wish_search.specs.SheetArrays.{SheetOf, Ended}
 use Rattle.wish_search.specs.SheetLaws.{past-test, offset-row}
 use Rattle.wish_search.specs.Solved.{WishRanges, lastTests, RatesSolved}
 

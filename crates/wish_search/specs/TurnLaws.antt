@@ -29,7 +29,8 @@ use Rattle.slack.specs.SearchLaws.{changes, turn-lifted, turn-length, turn-past
 use Rattle.wishes.specs.Wish.{room, withOffsets, atSlack, wished, passes, noSolution}
 use Rattle.wishes.specs.WishLaws.{at-mono, need-mono, wished-past}
 use Rattle.wishes.specs.RaisingLaws.{Solving, Below, below-next, below-round, below-less, below-over, below-past}
-use Rattle.wish_search.specs.SheetArrays.{pastRow, SheetOf, Onward, Ended}
+use Rattle.wish_offsets.specs.Rows.{pastRow}
+use Rattle.wish_search.specs.SheetArrays.{SheetOf, Onward, Ended}
 use Rattle.wish_search.specs.SheetLaws.{arrays, past-test}
 use Rattle.wish_search.specs.Leaps.{needAt, Ahead}
 use Rattle.wish_search.specs.FarLaws.{number-under}

@@ -1,108 +1,24 @@
 // Many rounds of the search in one. While the counted tasks and the offsets that are cut stay the same, A rises evenly with the slack, and it
 // never rises less; so what A lacks at one slack says how far every solution's number is away.
-use crate::offsets::offsets;
 use slack::amount::amount;
 use slack::rates::surplus_of;
 use slack::rates::total;
 use slack::vector::raise;
+use wish_gains::count_gains;
+use wish_gains::cut_gains;
+use wish_gains::reach;
+use wish_offsets::offsets;
 ghost use mathlib.Core.Path.{_≡_};
-ghost use mathlib.Core.List.{List, []};
-ghost use Prim.Native.Nat.{ℕ, _+_, _-_, _*_, _/_, _%_, _<_, _≤_, min};
-ghost use lib.ListN.{length, take};
+ghost use mathlib.Core.List.{List};
+ghost use Prim.Native.Nat.{ℕ, _+_, _-_, _/_, _%_, _<_, _≤_, min};
 ghost use Rattle.laws.specs.Tab.{tab, cut};
 ghost use Rattle.tasks.specs.TaskSet.{TaskSet, row};
 ghost use Rattle.largest.specs.Chosen.{Arranged};
 ghost use Rattle.wish_search.specs.SheetArrays.{SheetOf};
-ghost use Rattle.wish_search.specs.Leaps.{Gain, Gains, Far, Ahead};
-
-// No number of a solution is this large.
-const NEVER: u64 = 1_000_000_000_000_000_000;
+ghost use Rattle.wish_search.specs.Leaps.{Far, Ahead};
 
 // No search goes further: the largest number that a search is told of.
 const FURTHEST: u64 = 12_000_000;
-
-// The least number from `start` on, in steps of the number of cores, at which A could be covered: A is `whole` at `start` and gains at least
-// `slope` with each step, and what covers it gains m × H.
-fn reach(whole: u64, slope: u64, multiple: u64, cores: u64, start: u64) -> u64
-    requires { ⌜ (whole ≤ 40000000000000000) × (slope ≤ cores * multiple) × (multiple ≤ 1000000) × (cores ≤ 8) × (start ≤ 12000007) ⌝ }
-    ensures { λ r. ⌜ (start ≤ r) × ((j : ℕ) → whole + j * slope ≤ multiple * (start + cores * j) → r ≤ start + cores * j) ⌝ }
-{
-    let held = multiple * start;
-    if whole <= held {
-        return start;
-    }
-    let left = cores * multiple - slope;
-    if left == 0 {
-        return NEVER;
-    }
-    start + cores * ((whole - held + (left - 1)) / left)
-}
-
-// A task's share where its slack rises and its offset is cut, so that its surplus rises with it.
-fn cut_gain(share: u64, separation: u32, room: u32, slack: u32) -> u64
-    ensures { λ r. ⌜ Gain share separation room slack r ⌝ }
-{
-    if slack == 0 {
-        return 0;
-    }
-    if room <= slack {
-        return share;
-    }
-    if room - slack <= separation {
-        return share;
-    }
-    0
-}
-
-// That of every task.
-fn cut_gains(
-    share: &[u64; 16],
-    separation: &[u32; 16],
-    room: &[u32; 16],
-    slack: &[u32; 16],
-    tasks: usize,
-) -> [u64; 16]
-    requires { ⌜ tasks ≤ 16 ⌝ }
-    ensures { λ r. ⌜ Gains (now (share .entry)) (now (separation .entry)) (now (room .entry)) (now (slack .entry)) [] tasks r ⌝ }
-{
-    let mut gain = [0u64; 16];
-    let mut i = 0;
-    while i < tasks {
-        gain[i] = cut_gain(share[i], separation[i], room[i], slack[i]);
-        i += 1;
-    }
-    gain
-}
-
-// A counted task's share where its slack rises: its weight rises with it.
-fn counted_gain(share: u64, slack: u32) -> u64
-    ensures { λ r. ⌜ Gain share 0 0 slack r ⌝ }
-{
-    if slack == 0 {
-        return 0;
-    }
-    share
-}
-
-// The gains with those of the first names.
-fn count_gains(
-    gain: &mut [u64; 16],
-    share: &[u64; 16],
-    slack: &[u32; 16],
-    names: &[u8; 16],
-    many: usize,
-    tasks: usize,
-)
-    requires { ⌜ (many ≤ tasks) × (tasks ≤ 16) × ((a : ℕ) → a < tasks → row (now names) a < tasks) × (tasks ≤ length (now names)) × (length (now gain) ≡ 16) ⌝ }
-    ensures { λ _. ⌜ ((separation room : List ℕ) → Gains (now (share .entry)) separation room (now (slack .entry)) [] tasks (now (gain .entry)) → Gains (now (share .entry)) separation room (now (slack .entry)) (take many (now (names .entry))) tasks (now (gain .exit))) ⌝ }
-{
-    let mut a = 0;
-    while a < many {
-        let i = names[a] as usize;
-        gain[i] = counted_gain(share[i], slack[i]);
-        a += 1;
-    }
-}
 
 // The least number from `start` on, in steps of the number of cores, that a solution's A could need.
 fn far(

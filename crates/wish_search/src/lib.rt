@@ -1,5 +1,4 @@
 // Offsets and slack for a wish sheet: document 02, §3.
 mod leap;
-pub mod offsets;
 pub mod search;
 pub mod solve;

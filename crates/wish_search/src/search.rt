@@ -1,12 +1,12 @@
 // The search for a wish sheet's slack: raised from zeros, each time with the largest offsets that it leaves.
 use crate::leap::leap;
-use crate::offsets::first_past;
-use crate::offsets::offsets;
 use slack::amount::needed;
 use slack::rates::surplus_of;
 use slack::vector::quotients;
 use slack::vector::raise;
 use slack::vector::remainders;
+use wish_offsets::first_past;
+use wish_offsets::offsets;
 ghost use mathlib.Core.Path.{_≡_};
 ghost use mathlib.Core.List.{List};
 ghost use Prim.Native.Nat.{ℕ, _-_, _/_, _%_, _<_, _≤_};

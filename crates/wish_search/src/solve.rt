@@ -1,7 +1,4 @@
 // The tests of a wish sheet, and the offsets and the slack that are found for it.
-use crate::offsets::first_past;
-use crate::offsets::offsets;
-use crate::offsets::rooms;
 use crate::search::search;
 use fields::columns::split;
 use fields::frame::frame;
@@ -11,6 +8,9 @@ use slack::rates::rate;
 use tasks::Answer;
 use tasks::Plan;
 use tasks::refusal;
+use wish_offsets::first_past;
+use wish_offsets::offsets;
+use wish_offsets::rooms;
 ghost use mathlib.Core.Path.{_≡_};
 ghost use Rattle.fields.specs.Columns.{setFrom};
 ghost use Rattle.slack.specs.StageLaws.{Framed};

@@ -7,7 +7,7 @@ use borrow.Author.Needs.{needs}
 use Rattle.tasks.specs.TaskSet.{row}
 use Rattle.slack.specs.StageLaws.{few, surplus-high}
 use Rattle.wish_search.specs.SheetLaws.{cores-low, cores-high, tasks-high, more, shares-high, separation-high, multiple-high, offset-low, at-arrays}
-use Rattle.wish_search.specs.GainLaws.{gains-high}
+use Rattle.wish_gains.specs.GainLaws.{gains-high}
 use Rattle.wish_search.specs.FarLaws.{whole-high, slope-high, far-under}
 use Rattle.wish_search.proofs.leap.far.Statement.{statement}
 use Rattle.wish_search.proofs.leap.far.Tie as tie

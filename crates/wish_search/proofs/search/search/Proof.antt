@@ -15,7 +15,8 @@ use Rattle.largest.specs.Chosen.{Arranged}
 use Rattle.tasks.specs.TaskSet.{TaskSet, row}
 use Rattle.slack.specs.SearchLaws.{turn-length, turn-past}
 use Rattle.wishes.specs.RaisingLaws.{Below, below-start}
-use Rattle.wish_search.specs.SheetArrays.{pastRow, SheetOf}
+use Rattle.wish_offsets.specs.Rows.{pastRow}
+use Rattle.wish_search.specs.SheetArrays.{SheetOf}
 use Rattle.wish_search.specs.SheetLaws.{cores-low, cores-high, tasks-high, room-high, arrays}
 use Rattle.wish_search.specs.TurnLaws.{within, turn-below, turn-falls, ended-still, ended-past}
 use Rattle.wish_search.proofs.search.search.Statement.{statement}

@@ -3,13 +3,13 @@ use Rattle.laws.specs.Tab.{tab, cut}
 use Rattle.laws.specs.TabLaws.{filled-none}
 use Rattle.tasks.specs.TaskSet.{row}
 use Rattle.fields.specs.StageLaws.{column-more}
-use Rattle.wish_search.specs.SheetArrays.{roomRow}
+use Rattle.wish_offsets.specs.Rows.{roomRow}
 use borrow.Author.Needs.{needs}
 use native.Mathlib.Omega.{arith}
 use Prim.Native.Nat.{_≤_, _-_}
 use mathlib.Core.Path.{_≡_}
-use Rattle.wish_search.proofs.offsets.rooms.Statement.{statement}
-use Rattle.wish_search.proofs.offsets.rooms.Tie as tie
+use Rattle.wish_offsets.proofs.rooms.Statement.{statement}
+use Rattle.wish_offsets.proofs.rooms.Tie as tie
 
 abbrev Inv-loop : tie.InvT-loop
 Inv-loop wish budget tasks room₀ i₀ room i = (i ≤ tasks) × (room ≡ tab (cut i (roomRow wish budget) 0) 16)

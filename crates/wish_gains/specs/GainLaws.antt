@@ -22,7 +22,7 @@ use Rattle.laws.specs.MemberLaws.{member-at}
 use Rattle.tasks.specs.TaskSet.{row}
 use Rattle.slack.specs.Arrays.{need}
 use Rattle.slack.specs.NeedLaws.{need-least}
-use Rattle.wish_search.specs.Leaps.{Gain, Gains}
+use Rattle.wish_gains.specs.Gains.{Gain, Gains}
 
 -- what an entry is
 abbrev pub Entry : List ℕ → List ℕ → List ℕ → List ℕ → List ℕ → ℕ → ℕ → Type 0

@@ -3,14 +3,14 @@ use Rattle.laws.specs.Tab.{tab, cut}
 use Rattle.laws.specs.TabLaws.{filled-none}
 use Rattle.tasks.specs.TaskSet.{row}
 use Rattle.fields.specs.StageLaws.{column-more}
-use Rattle.wish_search.specs.SheetArrays.{offsetRow}
+use Rattle.wish_offsets.specs.Rows.{offsetRow}
 use borrow.Author.Needs.{needs}
 use native.Mathlib.Omega.{arith}
 use Prim.Native.Nat.{ℕ, _≤_, _-_}
 use mathlib.Core.Path.{_≡_, ap, _∙_}
 use lib.ListN.{set}
-use Rattle.wish_search.proofs.offsets.offsets.Statement.{statement}
-use Rattle.wish_search.proofs.offsets.offsets.Tie as tie
+use Rattle.wish_offsets.proofs.offsets.Statement.{statement}
+use Rattle.wish_offsets.proofs.offsets.Tie as tie
 
 abbrev Inv-loop : tie.InvT-loop
 Inv-loop separation room slack tasks offset₀ i₀ offset i = (i ≤ tasks) × (offset ≡ tab (cut i (offsetRow separation room slack) 0) 16)

@@ -4,7 +4,7 @@ ghost use Prim.Native.Nat.{ℕ, _-_, _<_, _≤_, min};
 ghost use Rattle.laws.specs.First.{first};
 ghost use Rattle.laws.specs.Tab.{tab, cut};
 ghost use Rattle.tasks.specs.TaskSet.{row};
-ghost use Rattle.wish_search.specs.SheetArrays.{roomRow, offsetRow, pastRow};
+ghost use Rattle.wish_offsets.specs.Rows.{roomRow, offsetRow, pastRow};
 
 // W − C of each task.
 pub fn rooms(wish: &[u32; 16], budget: &[u32; 16], tasks: usize) -> [u32; 16]

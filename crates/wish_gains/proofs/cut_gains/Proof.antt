@@ -6,10 +6,10 @@ use mathlib.Core.Path.{_≡_, refl, _∙_}
 use lib.ListN.{length, length-set}
 use borrow.Author.Needs.{needs}
 use Rattle.tasks.specs.TaskSet.{row}
-use Rattle.wish_search.specs.Leaps.{Gains}
-use Rattle.wish_search.specs.GainLaws.{gains-cut, gains-next}
-use Rattle.wish_search.proofs.leap.cut_gains.Statement.{statement}
-use Rattle.wish_search.proofs.leap.cut_gains.Tie as tie
+use Rattle.wish_gains.specs.Gains.{Gains}
+use Rattle.wish_gains.specs.GainLaws.{gains-cut, gains-next}
+use Rattle.wish_gains.proofs.cut_gains.Statement.{statement}
+use Rattle.wish_gains.proofs.cut_gains.Tie as tie
 
 abbrev Inv-loop : tie.InvT-loop
 Inv-loop share separation room slack tasks gain₀ i₀ gain i =

@@ -6,10 +6,10 @@ use mathlib.Core.Path.{_≡_, _∙_}
 use lib.ListN.{length, take, length-set}
 use borrow.Author.Needs.{needs}
 use Rattle.tasks.specs.TaskSet.{row}
-use Rattle.wish_search.specs.Leaps.{Gains}
-use Rattle.wish_search.specs.GainLaws.{gains-named, gains-counted, gains-set, named-at}
-use Rattle.wish_search.proofs.leap.count_gains.Statement.{statement}
-use Rattle.wish_search.proofs.leap.count_gains.Tie as tie
+use Rattle.wish_gains.specs.Gains.{Gains}
+use Rattle.wish_gains.specs.GainLaws.{gains-named, gains-counted, gains-set, named-at}
+use Rattle.wish_gains.proofs.count_gains.Statement.{statement}
+use Rattle.wish_gains.proofs.count_gains.Tie as tie
 
 abbrev Inv-loop : tie.InvT-loop
 Inv-loop gain₀ share slack names many tasks a₀ gain a =

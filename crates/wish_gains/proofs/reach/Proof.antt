@@ -1,11 +1,11 @@
--- `wish_search::leap::reach` meets its contract: what A lacks, divided by what it lacks less with each step, and rounded up.
+-- `wish_gains::reach` meets its contract: what A lacks, divided by what it lacks less with each step, and rounded up.
 use Prim.Native.Nat.{ℕ, _+_, _-_, _*_, _/_, _≤_}
 use native.Mathlib.Omega.{arith}
 use native.Mathlib.Nat.{mul-le-mul, div-le-self, le-trans}
 use borrow.Author.Needs.{needs}
-use Rattle.wish_search.specs.GainLaws.{reach-never, reach-turns}
-use Rattle.wish_search.proofs.leap.reach.Statement.{statement}
-use Rattle.wish_search.proofs.leap.reach.Tie as tie
+use Rattle.wish_gains.specs.GainLaws.{reach-never, reach-turns}
+use Rattle.wish_gains.proofs.reach.Statement.{statement}
+use Rattle.wish_gains.proofs.reach.Tie as tie
 
 held-high : (h start : ℕ) → h ≤ 1000000 → start ≤ 12000007 → h * start ≤ 12000007000000
 held-high h start k l = mul-le-mul {n₂ = 1000000} {m₂ = 12000007} k l

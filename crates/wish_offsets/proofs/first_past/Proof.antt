@@ -3,13 +3,13 @@ use borrow.Author.Tests.{lt-ltb, le-ltb}
 use Rattle.laws.specs.First.{first}
 use Rattle.laws.specs.FirstLaws.{none-more, found-at}
 use Rattle.tasks.specs.TaskSet.{row}
-use Rattle.wish_search.specs.SheetArrays.{pastRow}
+use Rattle.wish_offsets.specs.Rows.{pastRow}
 use borrow.Author.Needs.{needs}
 use native.Mathlib.Omega.{arith}
 use Prim.Native.Nat.{_≤_, _-_}
 use mathlib.Core.Path.{_≡_, refl, sym}
-use Rattle.wish_search.proofs.offsets.first_past.Statement.{statement}
-use Rattle.wish_search.proofs.offsets.first_past.Tie as tie
+use Rattle.wish_offsets.proofs.first_past.Statement.{statement}
+use Rattle.wish_offsets.proofs.first_past.Tie as tie
 
 abbrev Inv-loop : tie.InvT-loop
 Inv-loop slack room tasks i₀ i = (i ≤ tasks) × (first (pastRow slack room) i ≡ i)

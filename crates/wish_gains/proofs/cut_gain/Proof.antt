@@ -1,10 +1,10 @@
--- `wish_search::leap::cut_gain` meets its contract.
+-- `wish_gains::cut_gain` meets its contract.
 use mathlib.Core.Logic.{inl, inr}
 use mathlib.Core.Path.{refl}
 use native.Mathlib.Omega.{arith}
 use borrow.Author.Needs.{needs}
-use Rattle.wish_search.proofs.leap.cut_gain.Statement.{statement}
-use Rattle.wish_search.proofs.leap.cut_gain.Tie as tie
+use Rattle.wish_gains.proofs.cut_gain.Statement.{statement}
+use Rattle.wish_gains.proofs.cut_gain.Tie as tie
 
 pub cut-gain-spec : {M : Type 1} → statement M
 cut-gain-spec =
