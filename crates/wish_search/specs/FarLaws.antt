@@ -3,7 +3,7 @@
 --     at-whole, whole-high    A, and that it is small
 --     slope-high        the gains are at most m × H
 --     far-under         what A could cover in steps of m is below no solution's number
---     ahead-all         m such numbers, from `start` on, are of all
+--     ahead-all         m such numbers, from `start` on, or those below the least of them, are of all
 use Prim.Native.Nat.{ℕ, _+_, _-_, _*_, _/_, _%_, _≤_, _<_}
 use mathlib.Core.Path.{_≡_, refl, sym, _∙_}
 use mathlib.Core.Bool.{Bool, true, false, cond}
@@ -14,6 +14,7 @@ use native.Mathlib.Omega.{arith}
 use lib.Dec.{ltb}
 use lib.ListN.{take}
 use borrow.Author.Tests.{ltb-true, ltb-false}
+use Rattle.laws.specs.EveryLaws.{below-or-not}
 use Rattle.laws.specs.Member.{member}
 use Rattle.laws.specs.Sum.{sum}
 use Rattle.laws.specs.SumLaws.{sum-ext, sum-mono}
@@ -135,9 +136,15 @@ module _ {s : TaskSet} {shares separations budgets rooms : List ℕ} {h m n : �
                 let step : s .cores ≡ m = sym (g .cores) in
                 rw (e, step) (enough j (by-numbers start j at-whole slope-is (g .multiple) (g .cores) (le-trans cost (rw e at covers))))
 
--- far enough for each of m numbers in a row is far enough for all
-pub ahead-all : (s : TaskSet) (start best : ℕ) → 1 ≤ s .cores → ((k : ℕ) → k < s .cores → Far s (start + k) best) → Ahead s start best
-ahead-all s start best low each v p h =
+-- far enough for each of m numbers in a row, or for those below it, is far enough for all
+pub ahead-all :
+    (s : TaskSet) (start best i : ℕ) → 1 ≤ s .cores → ((k : ℕ) → k < i → Far s (start + k) best) → (s .cores ≤ i) ⊎ (best ≤ start + i)
+    → Ahead s start best
+ahead-all s start best i low each why v p h =
     let d = needAt s v - start in
     let m = s .cores in
-    each (d % m) (mod-lt d low) v p (d / m) (omega (arith, div-add-mod d m))
+    let whole = div-add-mod d m in
+    ⊎-elim (λ (l : d % m < i). each (d % m) l v p (d / m) (omega arith))
+    (λ (l : i ≤ d % m).
+    ⊎-elim (λ (c : m ≤ i). absurd (omega (arith, mod-lt d low))) (λ (c : best ≤ start + i). omega arith) why)
+    (below-or-not (d % m) i)

@@ -81,6 +81,9 @@ pub fn leap(
     let mut best = FURTHEST;
     let mut i = 0;
     while i < cores {
+        if best <= (start + (i as u32)) as u64 {
+            return best as u32;
+        }
         let to = far(
             share,
             separation,

@@ -46,7 +46,7 @@ fn needed_at(
 }
 
 // So many rounds are made one by one. Few sheets need more; those that do can need some 800,000.
-const ROUNDS: u32 = 64;
+const ROUNDS: u32 = 16;
 
 fn one_less(x: u32) -> u32
     ensures { λ r. ⌜ r ≡ x - 1 ⌝ }

@@ -2,7 +2,7 @@
 use Prim.Native.Nat.{ℕ, _+_, _-_, _/_, _%_, _≤_, _<_, min}
 use mathlib.Core.List.{List}
 use mathlib.Core.Path.{_≡_}
-use mathlib.Core.Logic.{⊎-elim}
+use mathlib.Core.Logic.{inl, inr, ⊎-elim}
 use native.Mathlib.Omega.{arith}
 use borrow.Author.Needs.{needs}
 use Rattle.laws.specs.EveryLaws.{below-or-not}
@@ -43,7 +43,7 @@ abbrev μ-loop : tie.MeasureT-loop
 
 loop-again : tie.Need-loop-again Inv-loop μ-loop
 loop-again c =
-    let l = c .before .before .before .before .loop in
+    let l = c .before .before .before .before .before .loop in
     let f = c .before .far .ensures in
     let m = c .lesser .ensures in (
       omega arith,
@@ -55,10 +55,19 @@ loop-again c =
 
 returns : tie.Need-returns Inv-loop μ-loop
 returns c =
+    let l = c .before .before .loop in (
+      λ s b g q r.
+          ahead-all s _ _ (l .i) (omega (arith, cores-low g, g .cores)) (l .inv .4 s b g q r) (inr (c .if1 .taken)),
+      l .inv .3,
+      l .inv .2,
+      l .inv .1,
+    )
+
+returns-2 : tie.Need-returns-2 Inv-loop μ-loop
+returns-2 c =
     let l = c .before .loop in (
       λ s b g q r.
-          let e : l .i ≡ c .before .before .args .cores = omega arith in
-          ahead-all s _ _ (omega (arith, cores-low g, g .cores)) (λ k h. l .inv .4 s b g q r k (omega (arith, e, g .cores))),
+          ahead-all s _ _ (l .i) (omega (arith, cores-low g, g .cores)) (l .inv .4 s b g q r) (inl (omega (arith, g .cores))),
       l .inv .3,
       l .inv .2,
       l .inv .1,
@@ -71,14 +80,19 @@ leap-spec =
     Inv-loop
     μ-loop
     (λ c. (omega arith, omega arith, c .pre .2, c .pre .1, λ s b g q r k h. absurd (omega arith)))
-    (λ c. omega (arith, cores-high (c .before .before .before .pre .0 .2)))
-    (λ c. omega (arith, cores-high (c .before .before .before .pre .0 .2), c .before .before .before .pre .2))
+    (λ c. omega (arith, cores-high (c .before .before .pre .0 .2)))
+    (λ c. omega (arith, cores-high (c .before .before .pre .0 .2), c .before .before .pre .2))
+    (λ c. omega (arith, cores-high (c .before .before .pre .0 .2), c .before .before .pre .2))
+    (λ c. omega (arith, c .before .before .loop .inv .1))
+    returns
+    (λ c. omega (arith, cores-high (c .before .before .before .before .pre .0 .2)))
+    (λ c. omega (arith, cores-high (c .before .before .before .before .pre .0 .2), c .before .before .before .before .pre .2))
     (λ c κs.
-    let s = c .before .before .before in
-    (s .pre .0, c .before .before .loop .inv .3, omega (arith, cores-high (s .pre .0 .2), s .pre .2)))
+    let s = c .before .before .before .before in
+    (s .pre .0, c .before .before .before .loop .inv .3, omega (arith, cores-high (s .pre .0 .2), s .pre .2)))
     (λ c κs. search needs)
     (λ c. search needs)
     (λ c. search needs)
     loop-again
     (λ c. omega (arith, c .before .loop .inv .1))
-    returns)
+    returns-2)
