@@ -1,24 +1,24 @@
 -- The C functions' answers and the bytes that they leave behind, from what their code has seen.
---     judge-refused    1 to 13, judge-short 24, judge-done the report; judge-plan: what is reported
---     wish-refused, wish-short, wish-done, wish-plan    the same of a wish sheet
+--     judge-plan, judge-answered      what is reported of a judgement, and its answer
+--     wish-plan, wish-answered        the same of a wish sheet
 --     counted-refused, counted-short, counted-done    the same of the names
 --     run-refused, run-done      the log run's answer
 --     told-length, told-refused  the sentence's, by the cases of what came back
 use Prim.Native.Nat.{ℕ, _+_, _*_, _≤_, _<_}
 use mathlib.Core.Path.{_≡_, sym, _∙_, ap}
 use mathlib.Core.Bool.{true, false}
-use mathlib.Core.List.{List, _++_}
+use mathlib.Core.List.{List}
 use native.Mathlib.Omega.{arith}
-use lib.ListN.{length, take, drop}
+use lib.ListN.{length, take}
 use lib.Seq.{sets}
 use borrow.Author.Tests.{lt-ltb, le-ltb}
 use Rattle.tasks.specs.declared.Answer.the-variants.{Accepted, Refused}
-use Rattle.tasks.specs.Tests.{firstMet, tests}
+use Rattle.tasks.specs.Tests.{firstMet, unlessRefused, tests}
 use Rattle.tasks.specs.AnswerLaws.{firstMet-passed}
 use Rattle.table.specs.declared.Judgement.{Judgement}
 use Rattle.numbers.specs.Bytes.{entries}
 use Rattle.laws.specs.SetsLaws.{sets-whole}
-use Rattle.codec.specs.Table.{taskCount, taskSetIn, contentIn, verdict}
+use Rattle.codec.specs.Table.{taskSetIn, contentIn, verdict}
 use Rattle.table.specs.Judged.{countedIn, judged}
 use Rattle.table.specs.NamesLaws.{names-count, names-first}
 use Rattle.wishes.specs.Wish.{withOffsets, atSlack, solved}
@@ -30,92 +30,51 @@ use Rattle.wording.specs.declared.Composed.the-variants.{Length, Refused as Not
 use Rattle.wording.specs.Told.{answerOfComposed, lengthOfComposed, sentenceTest, sentenceLength}
 use Rattle.replay.specs.declared.run.Ran.{Ran}
 use Rattle.replay.specs.Ran.{runTest, ranOf}
-use Rattle.dahomike.specs.Answers.{answerNumber, judgeTest, judgeNumber, reportBytes, judgeLeaves, wishTest, wishNumber, foundBytes, wishLeaves, countedTest, countedNumber, countedLeaves, runNumber, sentenceNumber, entryOf}
-use Rattle.dahomike.specs.ReportLaws.{Reported, tasks-are, report-leaves}
+use Rattle.dahomike.specs.Answers.{answerNumber, judgeTest, judgeNumber, judgeLeaves, wishTest, wishNumber, wishLeaves, countedTest, countedNumber, countedLeaves, runNumber, sentenceNumber, roomTest, entryOf}
+use Rattle.dahomike.specs.ReportLaws.{Reported, answered-is}
 
 -- ---- the judgement
 
-module _ (t out : List ℕ) (j : Judgement) (e : j ≡ judged t) where
+module _ (t : List ℕ) (j : Judgement) (e : j ≡ judged t) where
   verdict-is : j .answer ≡ verdict t
   unfolding judged
   verdict-is = ap (λ (r : Judgement). r .answer) e
 
-  pub judge-refused : (k i : ℕ) → j .answer ≡ Refused k i → (answerNumber (Refused k i) 0 ≡ judgeNumber t (length out)) × (out ≡ judgeLeaves t out)
-  unfolding judgeNumber judgeLeaves judgeTest firstMet answerNumber
-  judge-refused k i a = let v = sym verdict-is ∙ a in (rw v, rw v)
+  pub judge-plan : j .answer ≡ Accepted → Reported (contentIn t) (j .plan)
+  unfolding judged verdict
+  judge-plan a =
+      let accepted : verdict t ≡ Accepted = sym verdict-is ∙ a in
+      record {
+        plan-is = ap (λ (r : Judgement). r .plan) e ∙ rw accepted;
+        passed = firstMet-passed (tests (contentIn t)) _ (firstMet-passed _ _ (firstMet-passed _ _ accepted .1) .1) .0;
+      }
 
-  module _ (a : j .answer ≡ Accepted) where
-    accepted : verdict t ≡ Accepted
-    accepted = sym verdict-is ∙ a
-
-    pub judge-plan : Reported (contentIn t) (j .plan)
-    unfolding judged verdict
-    judge-plan =
-        record {
-          plan-is = ap (λ (r : Judgement). r .plan) e ∙ rw accepted;
-          passed = firstMet-passed (tests (contentIn t)) _ (firstMet-passed _ _ (firstMet-passed _ _ accepted .1) .1) .0;
-        }
-
-    count-is : j .plan .tasks ≡ taskCount t
-    unfolding contentIn taskSetIn
-    count-is = tasks-are false judge-plan
-
-    pub judge-short :
-        length out < 8 * j .plan .tasks → (answerNumber (Refused 24 0) 0 ≡ judgeNumber t (length out)) × (out ≡ judgeLeaves t out)
-    unfolding judgeNumber judgeLeaves judgeTest firstMet answerNumber
-    judge-short h =
-        let l : length out < 8 * taskCount t = omega (arith, count-is) in
-        (rw (accepted, lt-ltb (length out) (8 * taskCount t) l), rw (accepted, lt-ltb (length out) (8 * taskCount t) l))
-
-    pub judge-done :
-        8 * j .plan .tasks ≤ length out →
-        (j .plan .tasks ≡ judgeNumber t (length out)) × (sets out 0 (entries (entryOf false (j .plan)) (j .plan .tasks)) ≡ judgeLeaves t out)
-    unfolding judgeNumber judgeLeaves judgeTest firstMet answerNumber reportBytes
-    judge-done h =
-        let l : 8 * taskCount t ≤ length out = omega (arith, count-is) in (
-          rw (accepted, le-ltb (length out) (8 * taskCount t) l) count-is,
-          rw (accepted, le-ltb (length out) (8 * taskCount t) l) (report-leaves false judge-plan out h ∙ ap (λ (n : ℕ). reportBytes (contentIn t) ++ drop (8 * n) out) count-is),
-        )
+  pub judge-answered : (out : List ℕ) (r : ℕ) (left : List ℕ)
+      → (r ≡ answerNumber (roomTest false (j .answer) (j .plan .tasks) (length out)) (j .plan .tasks))
+      × (left ≡ unlessRefused (roomTest false (j .answer) (j .plan .tasks) (length out)) (sets out 0 (entries (entryOf false (j .plan)) (j .plan .tasks))) out)
+      → (r ≡ judgeNumber t (length out)) × (left ≡ judgeLeaves t out)
+  unfolding judgeNumber judgeLeaves judgeTest roomTest contentIn taskSetIn
+  judge-answered out r left h = rw verdict-is at (answered-is false (j .answer) judge-plan out r left h)
 
 -- ---- the wishes
 
-module _ (t out : List ℕ) (w : Wished) (e : w ≡ wishOf t) where
+module _ (t : List ℕ) (w : Wished) (e : w ≡ wishOf t) where
   wish-verdict : w .answer ≡ wishVerdict t
   unfolding wishOf
   wish-verdict = ap (λ (r : Wished). r .answer) e
 
-  pub wish-refused : (k i : ℕ) → w .answer ≡ Refused k i → (answerNumber (Refused k i) 0 ≡ wishNumber t (length out)) × (out ≡ wishLeaves t out)
-  unfolding wishNumber wishLeaves wishTest firstMet answerNumber
-  wish-refused k i a = let v = sym wish-verdict ∙ a in (rw v, rw v)
+  pub wish-plan : w .answer ≡ Accepted → Reported (solved (contentIn t)) (w .plan)
+  unfolding wishOf
+  wish-plan a =
+      let met : wishVerdict t ≡ Accepted = sym wish-verdict ∙ a in
+      record { plan-is = ap (λ (r : Wished). r .plan) e ∙ rw met; passed = wish-accepted t met }
 
-  module _ (a : w .answer ≡ Accepted) where
-    met : wishVerdict t ≡ Accepted
-    met = sym wish-verdict ∙ a
-
-    pub wish-plan : Reported (solved (contentIn t)) (w .plan)
-    unfolding wishOf
-    wish-plan = record { plan-is = ap (λ (r : Wished). r .plan) e ∙ rw met; passed = wish-accepted t met }
-
-    wishers : w .plan .tasks ≡ taskCount t
-    unfolding solved atSlack withOffsets contentIn taskSetIn
-    wishers = tasks-are true wish-plan
-
-    pub wish-short :
-        length out < 12 * w .plan .tasks → (answerNumber (Refused 24 0) 0 ≡ wishNumber t (length out)) × (out ≡ wishLeaves t out)
-    unfolding wishNumber wishLeaves wishTest firstMet answerNumber
-    wish-short h =
-        let l : length out < 12 * taskCount t = omega (arith, wishers) in
-        (rw (met, lt-ltb (length out) (12 * taskCount t) l), rw (met, lt-ltb (length out) (12 * taskCount t) l))
-
-    pub wish-done :
-        12 * w .plan .tasks ≤ length out →
-        (w .plan .tasks ≡ wishNumber t (length out)) × (sets out 0 (entries (entryOf true (w .plan)) (w .plan .tasks)) ≡ wishLeaves t out)
-    unfolding wishNumber wishLeaves wishTest firstMet answerNumber foundBytes
-    wish-done h =
-        let l : 12 * taskCount t ≤ length out = omega (arith, wishers) in (
-          rw (met, le-ltb (length out) (12 * taskCount t) l) wishers,
-          rw (met, le-ltb (length out) (12 * taskCount t) l) (report-leaves true wish-plan out h ∙ ap (λ (n : ℕ). foundBytes (solved (contentIn t)) ++ drop (12 * n) out) wishers),
-        )
+  pub wish-answered : (out : List ℕ) (r : ℕ) (left : List ℕ)
+      → (r ≡ answerNumber (roomTest true (w .answer) (w .plan .tasks) (length out)) (w .plan .tasks))
+      × (left ≡ unlessRefused (roomTest true (w .answer) (w .plan .tasks) (length out)) (sets out 0 (entries (entryOf true (w .plan)) (w .plan .tasks))) out)
+      → (r ≡ wishNumber t (length out)) × (left ≡ wishLeaves t out)
+  unfolding wishNumber wishLeaves wishTest roomTest solved atSlack withOffsets contentIn taskSetIn
+  wish-answered out r left h = rw wish-verdict at (answered-is true (w .answer) wish-plan out r left h)
 
 -- ---- the names
 
@@ -123,11 +82,11 @@ module _ (t out : List ℕ) (j : Judgement) (e : j ≡ judged t) where
   pub counted-refused :
       (k i : ℕ) → j .answer ≡ Refused k i → (answerNumber (Refused k i) 0 ≡ countedNumber t (length out)) × (out ≡ countedLeaves t out)
   unfolding countedNumber countedLeaves countedTest firstMet answerNumber
-  counted-refused k i a = let v = sym (verdict-is t out j e) ∙ a in (rw v, rw v)
+  counted-refused k i a = let v = sym (verdict-is t j e) ∙ a in (rw v, rw v)
 
   module _ (a : j .answer ≡ Accepted) where
     names : verdict t ≡ Accepted
-    names = sym (verdict-is t out j e) ∙ a
+    names = sym (verdict-is t j e) ∙ a
 
     pub counted-short :
         length out < j .count → (answerNumber (Refused 24 0) 0 ≡ countedNumber t (length out)) × (out ≡ countedLeaves t out)

@@ -11,6 +11,7 @@
 --     foundBytes      offset, slack and bound for each loop; wishLeaves: the lent buffer afterwards
 --     runNumber       the log run's answer; what it leaves behind is replay's `runLeaves`
 --     sentenceNumber  the answer of the sentence; what it leaves behind is wording's `sentenceLeaves`
+--     roomTest        a plan's answer, and then 24
 --     entrySize, entryBytes, entryOf, Reportable    one task's bytes from a plan, with its offset first where it was found, and what the plan keeps to so
 --                                       that they fit
 use Prim.Native.Nat.{ℕ, _+_, _*_, _≤_, _<_}
@@ -78,6 +79,10 @@ entryBytes false offset slack bound = digits 4 slack ++ digits 4 bound
 
 unfoldable pub entryOf : Bool → Plan → ℕ → List ℕ
 entryOf wishes p i = entryBytes wishes (taskOf (p .task) i .offset) (row (p .slack) i) (boundIn p i)
+
+-- a plan's answer, and then 24 where the buffer is shorter than its entries
+unfoldable pub roomTest : Bool → Answer → ℕ → ℕ → Answer
+roomTest wishes a n room = firstMet (a ∷ refuse 24 (ltb room (entrySize wishes * n)) ∷ [])
 
 pub record Reportable (wishes : Bool) (p : Plan) (room : ℕ) : Type 0 where
   pub few : p .tasks ≤ 16

@@ -16,7 +16,10 @@ ghost use lib.ListN.{length};
 ghost use lib.Seq.{sets};
 ghost use Rattle.numbers.specs.Bytes.{digits, entries};
 ghost use Rattle.replay.specs.Ran.{runLeaves};
-ghost use Rattle.dahomike.specs.Answers.{answerNumber, judgeNumber, judgeLeaves, countedNumber, countedLeaves, wishNumber, wishLeaves, runNumber, sentenceNumber, entrySize, entryBytes, entryOf, Reportable};
+ghost use Rattle.dahomike.specs.Answers.{answerNumber, judgeNumber, judgeLeaves, countedNumber, countedLeaves, wishNumber, wishLeaves, runNumber, sentenceNumber, entrySize, entryBytes, entryOf, roomTest, Reportable};
+ghost use Rattle.dahomike.specs.ReportLaws.{Reported};
+ghost use Rattle.tasks.specs.Content.{Content};
+ghost use Rattle.tasks.specs.Tests.{unlessRefused};
 ghost use Rattle.wording.specs.Told.{sentenceLeaves};
 
 // "4,294,967,296 × refusal number + index for a refused call"
@@ -74,6 +77,38 @@ fn report(plan: Plan, out: &mut [u8], wishes: bool)
     }
 }
 
+// Eight bytes for a judgement, twelve for a wish.
+fn entry_size(wishes: bool) -> usize
+    ensures { λ r. ⌜ r ≡ entrySize wishes ⌝ }
+{
+    if wishes {
+        return 12;
+    }
+    8
+}
+
+// A plan's answer: its number of tasks, and each task's entry in `out`; or the refusal, 24 last.
+fn answered(answer: Answer, plan: Plan, out: &mut [u8], wishes: bool) -> u64
+    requires { ⌜ (answer ≡ Answer.Accepted → (c : Content) × Reported c plan) ⌝ }
+    ensures { λ r. ⌜
+        (r ≡ answerNumber (roomTest wishes answer (plan .tasks) (length (now (out .entry)))) (plan .tasks))
+        × (now (out .exit) ≡ unlessRefused (roomTest wishes answer (plan .tasks) (length (now (out .entry)))) (sets (now (out .entry)) 0 (entries (entryOf wishes plan) (plan .tasks))) (now (out .entry)))
+        ⌝ }
+{
+    let Answer::Accepted = answer else {
+        return refused(answer);
+    };
+    let tasks = plan.tasks;
+    if out.len() < entry_size(wishes) * tasks {
+        return refused(Answer::Refused {
+            number: refusal::BUFFER_TOO_SHORT,
+            index: 0,
+        });
+    }
+    report(plan, out, wishes);
+    tasks as u64
+}
+
 // The judgement of a table: n and each task's slack and bound, or the refusal.
 #[no_mangle]
 pub extern "C" fn dahomike_judge(table: &[u8], out: &mut [u8]) -> u64
@@ -81,19 +116,8 @@ pub extern "C" fn dahomike_judge(table: &[u8], out: &mut [u8]) -> u64
 {
     let judgement = judge(table);
     let answer = judgement.answer;
-    let Answer::Accepted = answer else {
-        return refused(answer);
-    };
     let plan = judgement.plan;
-    let tasks = plan.tasks;
-    if out.len() < 8 * tasks {
-        return refused(Answer::Refused {
-            number: refusal::BUFFER_TOO_SHORT,
-            index: 0,
-        });
-    }
-    report(plan, out, false);
-    tasks as u64
+    answered(answer, plan, out, false)
 }
 
 // Offsets and slack for a wish sheet: n and each task's offset, slack and bound, or the refusal.
@@ -103,19 +127,8 @@ pub extern "C" fn dahomike_wish(sheet: &[u8], out: &mut [u8]) -> u64
 {
     let wished = wish(sheet);
     let answer = wished.answer;
-    let Answer::Accepted = answer else {
-        return refused(answer);
-    };
     let plan = wished.plan;
-    let tasks = plan.tasks;
-    if out.len() < 12 * tasks {
-        return refused(Answer::Refused {
-            number: refusal::BUFFER_TOO_SHORT,
-            index: 0,
-        });
-    }
-    report(plan, out, true);
-    tasks as u64
+    answered(answer, plan, out, true)
 }
 
 // The loops counted in the judgement of a table: how many, and a byte for each, largest weight first; or the refusal.
