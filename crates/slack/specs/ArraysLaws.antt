@@ -2,13 +2,15 @@
 --     upto-below, upto-above, upto-more    a row that is f below n and g from n on
 --     sweep-none, sweep-old, sweep-set    an array changed in order: the start, and a turn
 --     changed-more, changed-same                      whether the test held at an index below n
-use Prim.Native.Nat.{ℕ, _+_, _≤_, _<_}
+--     zero-array       an array of zeros; divided-low: a number divided by the number of cores is no larger
+use Prim.Native.Nat.{ℕ, _+_, _/_, _≤_, _<_}
 use mathlib.Core.Path.{_≡_, refl, sym, _∙_, ap}
 use mathlib.Core.Bool.{Bool, true, false, cond}
 use mathlib.Core.List.{List}
 use mathlib.Core.Logic.{⊎-elim}
+use native.Mathlib.Nat.{le-trans, div-le-self}
 use native.Mathlib.Omega.{arith}
-use lib.ListN.{set, length}
+use lib.ListN.{set, length, getD, replicate, getD-replicate, List·getD-eq-default}
 use lib.Dec.{ltb, eqb}
 use borrow.Author.Tests.{lt-ltb, le-ltb, ltb-true, ltb-false, eqb-true, eqb-false}
 use Rattle.laws.specs.First.{first}
@@ -79,3 +81,16 @@ module _ (p : ℕ → Bool) where
       (λ (q : first p n < n).
       k ∙ lt-ltb (first p n) n q ∙ sym (lt-ltb (first p (n + 1)) (n + 1) (omega (arith, found-stays p n (n + 1) q (omega arith)))))
       (first-or-none p n)
+
+-- ---- where a search starts, and the number that it raises by
+
+pub zero-array : (k : ℕ) → row (replicate 16 0) k ≡ 0
+unfolding row
+zero-array k = go (ltb k 16) refl
+  where
+    go : (b : Bool) → ltb k 16 ≡ b → _≡_ {A = ℕ} (getD (replicate 16 0) k 0) 0
+    go true e = getD-replicate 16 k 0 0 (ltb-true k 16 e)
+    go false e = List·getD-eq-default (replicate 16 0) 0 (ltb-false k 16 e)
+
+pub divided-low : (d m c : ℕ) → d ≤ c → 2 ≤ m → d / m ≤ c
+divided-low d m c h l = le-trans (div-le-self d m) h

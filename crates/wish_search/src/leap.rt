@@ -11,10 +11,9 @@ use wish_offsets::offsets;
 ghost use mathlib.Core.Path.{_≡_};
 ghost use mathlib.Core.List.{List};
 ghost use Prim.Native.Nat.{ℕ, _+_, _-_, _/_, _%_, _<_, _≤_, min};
-ghost use Rattle.laws.specs.Tab.{tab, cut};
-ghost use Rattle.tasks.specs.TaskSet.{TaskSet, row};
+ghost use Rattle.tasks.specs.TaskSet.{TaskSet};
 ghost use Rattle.largest.specs.Chosen.{Arranged};
-ghost use Rattle.wish_search.specs.SheetArrays.{SheetOf};
+ghost use Rattle.wish_search.specs.SheetArrays.{SheetWith};
 ghost use Rattle.wish_search.specs.Leaps.{Far, Ahead};
 
 // No search goes further: the largest number that a search is told of.
@@ -33,8 +32,8 @@ fn far(
     tasks: usize,
     start: u32,
 ) -> u64
-    requires { ⌜ ((s : TaskSet) × (b : List ℕ) × SheetOf s (now share) (now separation) b (now room) multiple cores tasks × (now quotient ≡ tab (cut tasks (λ i. row b i / cores) 0) 16) × (now rest ≡ tab (cut tasks (λ i. row b i % cores) 0) 16)) × Arranged (now names) tasks × (start ≤ 12000007) ⌝ }
-    ensures { λ r. ⌜ ((s : TaskSet) (b : List ℕ) → SheetOf s (now (share .entry)) (now (separation .entry)) b (now (room .entry)) multiple cores tasks → (now (quotient .entry) ≡ tab (cut tasks (λ i. row b i / cores) 0) 16) → (now (rest .entry) ≡ tab (cut tasks (λ i. row b i % cores) 0) 16) → Far s start r) × Arranged (now (names .exit)) tasks × (start ≤ r) ⌝ }
+    requires { ⌜ ((s : TaskSet) × (b : List ℕ) × SheetWith s (now share) (now separation) b (now room) (now quotient) (now rest) multiple cores tasks) × Arranged (now names) tasks × (start ≤ 12000007) ⌝ }
+    ensures { λ r. ⌜ ((s : TaskSet) (b : List ℕ) → SheetWith s (now (share .entry)) (now (separation .entry)) b (now (room .entry)) (now (quotient .entry)) (now (rest .entry)) multiple cores tasks → Far s start r) × Arranged (now (names .exit)) tasks × (start ≤ r) ⌝ }
 {
     let divisor = cores as u32;
     let many = cores - 1;
@@ -75,8 +74,8 @@ pub fn leap(
     tasks: usize,
     start: u32,
 ) -> u32
-    requires { ⌜ ((s : TaskSet) × (b : List ℕ) × SheetOf s (now share) (now separation) b (now room) multiple cores tasks × (now quotient ≡ tab (cut tasks (λ i. row b i / cores) 0) 16) × (now rest ≡ tab (cut tasks (λ i. row b i % cores) 0) 16)) × Arranged (now names) tasks × (start ≤ 12000000) ⌝ }
-    ensures { λ r. ⌜ ((s : TaskSet) (b : List ℕ) → SheetOf s (now (share .entry)) (now (separation .entry)) b (now (room .entry)) multiple cores tasks → (now (quotient .entry) ≡ tab (cut tasks (λ i. row b i / cores) 0) 16) → (now (rest .entry) ≡ tab (cut tasks (λ i. row b i % cores) 0) 16) → Ahead s start r) × Arranged (now (names .exit)) tasks × (start ≤ r) × (r ≤ 12000000) ⌝ }
+    requires { ⌜ ((s : TaskSet) × (b : List ℕ) × SheetWith s (now share) (now separation) b (now room) (now quotient) (now rest) multiple cores tasks) × Arranged (now names) tasks × (start ≤ 12000000) ⌝ }
+    ensures { λ r. ⌜ ((s : TaskSet) (b : List ℕ) → SheetWith s (now (share .entry)) (now (separation .entry)) b (now (room .entry)) (now (quotient .entry)) (now (rest .entry)) multiple cores tasks → Ahead s start r) × Arranged (now (names .exit)) tasks × (start ≤ r) × (r ≤ 12000000) ⌝ }
 {
     let mut best = FURTHEST;
     let mut i = 0;

@@ -10,12 +10,11 @@ use wish_offsets::offsets;
 ghost use mathlib.Core.Path.{_≡_};
 ghost use mathlib.Core.List.{List};
 ghost use Prim.Native.Nat.{ℕ, _-_, _/_, _%_, _<_, _≤_};
-ghost use Rattle.laws.specs.Tab.{tab, cut};
 ghost use Rattle.tasks.specs.TaskSet.{TaskSet, row};
 ghost use Rattle.largest.specs.Chosen.{Arranged};
 ghost use Rattle.slack.specs.Arrays.{Needs};
 ghost use Rattle.wishes.specs.Wish.{atSlack};
-ghost use Rattle.wish_search.specs.SheetArrays.{SheetOf, Onward, Ended};
+ghost use Rattle.wish_search.specs.SheetArrays.{SheetOf, SheetWith, Onward, Ended};
 
 // What A needs at a slack.
 fn needed_at(
@@ -45,7 +44,7 @@ fn needed_at(
     )
 }
 
-// So many rounds are made one by one. Few sheets need more; those that do can need some 800,000.
+// So many rounds are made one by one, since a leap costs up to as many as there are cores. A sheet can need some 800,000.
 const ROUNDS: u32 = 16;
 
 fn one_less(x: u32) -> u32
@@ -71,8 +70,8 @@ fn next(
     tasks: usize,
     rounds: u32,
 ) -> u32
-    requires { ⌜ ((s : TaskSet) × (b : List ℕ) × SheetOf s (now share) (now separation) b (now room) multiple cores tasks × (now quotient ≡ tab (cut tasks (λ i. row b i / cores) 0) 16) × (now rest ≡ tab (cut tasks (λ i. row b i % cores) 0) 16)) × Arranged (now names) tasks × ((i : ℕ) → i < tasks → row (now slack) i ≤ 1600000) ⌝ }
-    ensures { λ r. ⌜ ((s : TaskSet) (b : List ℕ) → SheetOf s (now (share .entry)) (now (separation .entry)) b (now (room .entry)) multiple cores tasks → (now (quotient .entry) ≡ tab (cut tasks (λ i. row b i / cores) 0) 16) → (now (rest .entry) ≡ tab (cut tasks (λ i. row b i % cores) 0) 16) → Onward s (row (now (slack .entry))) r) × Arranged (now (names .exit)) tasks × (r ≤ 12000000) ⌝ }
+    requires { ⌜ ((s : TaskSet) × (b : List ℕ) × SheetWith s (now share) (now separation) b (now room) (now quotient) (now rest) multiple cores tasks) × Arranged (now names) tasks × ((i : ℕ) → i < tasks → row (now slack) i ≤ 1600000) ⌝ }
+    ensures { λ r. ⌜ ((s : TaskSet) (b : List ℕ) → SheetWith s (now (share .entry)) (now (separation .entry)) b (now (room .entry)) (now (quotient .entry)) (now (rest .entry)) multiple cores tasks → Onward s (row (now (slack .entry))) r) × Arranged (now (names .exit)) tasks × (r ≤ 12000000) ⌝ }
 {
     let least = needed_at(
         share,

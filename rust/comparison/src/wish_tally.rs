@@ -152,10 +152,16 @@ impl WishTally {
         );
     }
 
-    /// By the fast form, since nothing depends on it: after 64 rounds the leaps begin.
+    /// By the fast form, since nothing depends on it. After 16 rounds the proved code leaps, after 64
+    /// the fast form.
     fn count_rounds(&mut self, bytes: &[u8], solved: bool) {
         let rounds = fast::wish_rounds(bytes).expect("no number before 27 is met");
         for (met, with, without) in [
+            (
+                (14..=19).contains(&rounds),
+                "accepted after 14 to 19 rounds",
+                "refused 27 after 14 to 19 rounds",
+            ),
             (
                 (62..=67).contains(&rounds),
                 "accepted after 62 to 67 rounds",

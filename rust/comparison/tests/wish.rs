@@ -32,7 +32,7 @@ const EDGES: [Edges; 2] = [(20_000, edge_sheets), (10_000, tight_edge_sheets)];
 const REFUSED_AT_LEAST: u64 = 2_000;
 
 /// How often each of these is met, at least.
-const AT_LEAST: [(u64, &str); 40] = [
+const AT_LEAST: [(u64, &str); 42] = [
     (40_000, "accepted"),
     (15_000, "accepted, shares exactly m × H"),
     (20_000, "accepted, buffer exactly long enough"),
@@ -45,9 +45,11 @@ const AT_LEAST: [(u64, &str); 40] = [
     (20_000, "accepted, a slack above T"),
     (3_000, "accepted, some W = 16 × T"),
     (100, "accepted, a bound of 16 × T"),
+    (1_000, "accepted after 14 to 19 rounds"),
     (300, "accepted after 62 to 67 rounds"),
     (2_000, "accepted after more than 64 rounds"),
     (100, "accepted after more than 500 rounds"),
+    (1_000, "refused 27 after 14 to 19 rounds"),
     (300, "refused 27 after 62 to 67 rounds"),
     (2_000, "refused 27 after more than 64 rounds"),
     (500, "refused 27 after more than 500 rounds"),

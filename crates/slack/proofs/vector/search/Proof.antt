@@ -1,14 +1,8 @@
 -- The slack rises from zeros and stays below every compliant slack; the names can be handed to the choice again.
 use borrow.Author.Tests.{not-true, not-false}
-use lib.ListN.{List·getD-eq-default}
-use native.Mathlib.Nat.{le-trans, div-le-self}
-use borrow.Author.Tests.{ltb-true, ltb-false}
-use lib.Dec.{ltb}
-use mathlib.Core.Bool.{Bool, true, false}
-use Prim.Native.Nat.{_/_}
-use lib.ListN.{getD-replicate, replicate}
 use Rattle.laws.specs.Sum.{sum}
 use Rattle.largest.specs.Chosen.{Arranged}
+use Rattle.slack.specs.ArraysLaws.{zero-array, divided-low}
 use Rattle.tasks.specs.TaskSet.{TaskSet, row}
 use Rattle.tasks.specs.RisingLaws.{Rising, rising-start, rising-high}
 use Rattle.slack.specs.Arrays.{ArraysOf}
@@ -17,21 +11,9 @@ use Rattle.slack.specs.SearchLaws.{turn-rising, turn-length, turn-past, 
 use native.Mathlib.Omega.{arith}
 use Prim.Native.Nat.{ℕ, _≤_, _*_, _-_}
 use mathlib.Core.Path.{_≡_, refl, sym, _∙_}
-use lib.ListN.{length, getD}
+use lib.ListN.{length}
 use Rattle.slack.proofs.vector.search.Statement.{statement}
 use Rattle.slack.proofs.vector.search.Tie as tie
-
-zeros : (k : ℕ) → row (replicate 16 0) k ≡ 0
-unfolding row
-zeros k = go (ltb k 16) refl
-  where
-    go : (b : Bool) → ltb k 16 ≡ b → _≡_ {A = ℕ} (getD (replicate 16 0) k 0) 0
-    go true e = getD-replicate 16 k 0 0 (ltb-true k 16 e)
-    go false e = List·getD-eq-default (replicate 16 0) 0 (ltb-false k 16 e)
-
--- what is needed, divided by the number of cores, fits 32 bits
-fits : (d m : ℕ) → d ≤ 12000000 → 2 ≤ m → d / m ≤ 12000000
-fits d m h l = le-trans (div-le-self d m) h
 
 abbrev Inv-loop : tie.InvT-loop
 Inv-loop share budget offset names₀ multiple surplus cores tasks divisor quotient rest slack₀ names slack =
@@ -56,7 +38,7 @@ remainders-requires c κs = let g = c .before .pre .0 .1 in (tasks-high g, omega
 loop-holds : tie.Need-loop-holds Inv-loop μ-loop
 loop-holds c =
     let s = c .before .before in
-    (refl, λ k l. zeros k, s .pre .1, λ t k. rising-start t _ (λ i l. zeros i))
+    (refl, λ k l. zero-array k, s .pre .1, λ t k. rising-start t _ (λ i l. zero-array i))
 
 needed-requires : tie.Need-needed-requires Inv-loop μ-loop
 needed-requires c κs =
@@ -74,7 +56,7 @@ raise-requires : tie.Need-raise-requires Inv-loop μ-loop
 raise-requires c κs =
     let g = c .before .before .before .before .before .before .before .before .before .pre .0 .1 in
     let d = c .before .before .before .needed .ensures .0 _ _ g .limit in
-    (c .before .before .before .before .before .before .loop .inv .0, tasks-high g, omega (arith, fits _ _ d (cores-low g)))
+    (c .before .before .before .before .before .before .loop .inv .0, tasks-high g, omega (arith, divided-low _ _ _ d (cores-low g)))
 
 loop-less : tie.Need-loop-less Inv-loop μ-loop
 loop-less c =

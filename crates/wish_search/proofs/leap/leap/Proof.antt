@@ -1,15 +1,14 @@
 -- Each turn of the loop looks at one more number.
-use Prim.Native.Nat.{ℕ, _+_, _-_, _/_, _%_, _≤_, _<_, min}
+use Prim.Native.Nat.{ℕ, _+_, _-_, _≤_, _<_, min}
 use mathlib.Core.List.{List}
 use mathlib.Core.Path.{_≡_}
 use mathlib.Core.Logic.{inl, inr, ⊎-elim}
 use native.Mathlib.Omega.{arith}
 use borrow.Author.Needs.{needs}
 use Rattle.laws.specs.EveryLaws.{below-or-not}
-use Rattle.laws.specs.Tab.{tab, cut}
 use Rattle.largest.specs.Chosen.{Arranged}
-use Rattle.tasks.specs.TaskSet.{TaskSet, row}
-use Rattle.wish_search.specs.SheetArrays.{SheetOf}
+use Rattle.tasks.specs.TaskSet.{TaskSet}
+use Rattle.wish_search.specs.SheetArrays.{SheetWith}
 use Rattle.wish_search.specs.SheetLaws.{cores-low, cores-high}
 use Rattle.wish_search.specs.Leaps.{Far}
 use Rattle.wish_search.specs.FarLaws.{ahead-all}
@@ -31,9 +30,7 @@ Inv-loop share separation room quotient rest names₀ multiple cores tasks start
     × (best ≤ 12000000)
     × (start ≤ best)
     × Arranged names tasks
-    × ((s : TaskSet) (b : List ℕ) → SheetOf s share separation b room multiple cores tasks
-    → quotient ≡ tab (cut tasks (λ i. row b i / cores) 0) 16
-    → rest ≡ tab (cut tasks (λ i. row b i % cores) 0) 16
+    × ((s : TaskSet) (b : List ℕ) → SheetWith s share separation b room quotient rest multiple cores tasks
     → (k : ℕ)
     → k < i
     → Far s (start + k) best)
@@ -50,14 +47,14 @@ loop-again c =
       omega (arith, m, l .inv .1),
       omega (arith, m, l .inv .2, f .2),
       f .1,
-      λ s b g q r. rw m (one-more s _ _ _ _ (l .inv .4 s b g q r) (f .0 s b g q r)),
+      λ s b g. rw m (one-more s _ _ _ _ (l .inv .4 s b g) (f .0 s b g)),
     )
 
 returns : tie.Need-returns Inv-loop μ-loop
 returns c =
     let l = c .before .before .loop in (
-      λ s b g q r.
-          ahead-all s _ _ (l .i) (omega (arith, cores-low g, g .cores)) (l .inv .4 s b g q r) (inr (c .if1 .taken)),
+      λ s b g.
+          ahead-all s _ _ (l .i) (omega (arith, cores-low (g .of), g .of .cores)) (l .inv .4 s b g) (inr (c .if1 .taken)),
       l .inv .3,
       l .inv .2,
       l .inv .1,
@@ -66,8 +63,8 @@ returns c =
 returns-2 : tie.Need-returns-2 Inv-loop μ-loop
 returns-2 c =
     let l = c .before .loop in (
-      λ s b g q r.
-          ahead-all s _ _ (l .i) (omega (arith, cores-low g, g .cores)) (l .inv .4 s b g q r) (inl (omega (arith, g .cores))),
+      λ s b g.
+          ahead-all s _ _ (l .i) (omega (arith, cores-low (g .of), g .of .cores)) (l .inv .4 s b g) (inl (omega (arith, g .of .cores))),
       l .inv .3,
       l .inv .2,
       l .inv .1,
@@ -79,17 +76,17 @@ leap-spec =
     (tie.spec
     Inv-loop
     μ-loop
-    (λ c. (omega arith, omega arith, c .pre .2, c .pre .1, λ s b g q r k h. absurd (omega arith)))
-    (λ c. omega (arith, cores-high (c .before .before .pre .0 .2)))
-    (λ c. omega (arith, cores-high (c .before .before .pre .0 .2), c .before .before .pre .2))
-    (λ c. omega (arith, cores-high (c .before .before .pre .0 .2), c .before .before .pre .2))
+    (λ c. (omega arith, omega arith, c .pre .2, c .pre .1, λ s b g k h. absurd (omega arith)))
+    (λ c. omega (arith, cores-high (c .before .before .pre .0 .2 .of)))
+    (λ c. omega (arith, cores-high (c .before .before .pre .0 .2 .of), c .before .before .pre .2))
+    (λ c. omega (arith, cores-high (c .before .before .pre .0 .2 .of), c .before .before .pre .2))
     (λ c. omega (arith, c .before .before .loop .inv .1))
     returns
-    (λ c. omega (arith, cores-high (c .before .before .before .before .pre .0 .2)))
-    (λ c. omega (arith, cores-high (c .before .before .before .before .pre .0 .2), c .before .before .before .before .pre .2))
+    (λ c. omega (arith, cores-high (c .before .before .before .before .pre .0 .2 .of)))
+    (λ c. omega (arith, cores-high (c .before .before .before .before .pre .0 .2 .of), c .before .before .before .before .pre .2))
     (λ c κs.
     let s = c .before .before .before .before in
-    (s .pre .0, c .before .before .before .loop .inv .3, omega (arith, cores-high (s .pre .0 .2), s .pre .2)))
+    (s .pre .0, c .before .before .before .loop .inv .3, omega (arith, cores-high (s .pre .0 .2 .of), s .pre .2)))
     (λ c κs. search needs)
     (λ c. search needs)
     (λ c. search needs)

@@ -1,17 +1,15 @@
 -- No solution's slack is below the slack on its way; the names can be handed to the choice again.
-use borrow.Author.Tests.{ltb-true, ltb-false, not-true, not-false}
-use native.Mathlib.Nat.{le-trans, div-le-self}
+use borrow.Author.Tests.{not-true, not-false}
 use native.Mathlib.Omega.{arith}
 use borrow.Author.Needs.{needs}
-use lib.Dec.{ltb}
-use lib.ListN.{length, getD, replicate, getD-replicate, List·getD-eq-default}
-use mathlib.Core.Bool.{Bool, true, false}
+use lib.ListN.{length}
 use mathlib.Core.List.{List}
 use mathlib.Core.Path.{_≡_, refl, sym, _∙_}
-use Prim.Native.Nat.{ℕ, _+_, _-_, _/_, _≤_, _<_}
+use Prim.Native.Nat.{ℕ, _+_, _-_, _≤_, _<_}
 use Rattle.laws.specs.First.{first}
 use Rattle.laws.specs.Sum.{sum}
 use Rattle.largest.specs.Chosen.{Arranged}
+use Rattle.slack.specs.ArraysLaws.{zero-array, divided-low}
 use Rattle.tasks.specs.TaskSet.{TaskSet, row}
 use Rattle.slack.specs.SearchLaws.{turn-length, turn-past}
 use Rattle.wishes.specs.RaisingLaws.{Below, below-start}
@@ -21,18 +19,6 @@ use Rattle.wish_search.specs.SheetLaws.{cores-low, cores-high, tasks-hig
 use Rattle.wish_search.specs.TurnLaws.{within, turn-below, turn-falls, ended-still, ended-past}
 use Rattle.wish_search.proofs.search.search.Statement.{statement}
 use Rattle.wish_search.proofs.search.search.Tie as tie
-
-zeros : (k : ℕ) → row (replicate 16 0) k ≡ 0
-unfolding row
-zeros k = go (ltb k 16) refl
-  where
-    go : (b : Bool) → ltb k 16 ≡ b → _≡_ {A = ℕ} (getD (replicate 16 0) k 0) 0
-    go true e = getD-replicate 16 k 0 0 (ltb-true k 16 e)
-    go false e = List·getD-eq-default (replicate 16 0) 0 (ltb-false k 16 e)
-
--- what is needed, divided by the number of cores, fits 32 bits
-fits : (d m : ℕ) → d ≤ 12000000 → 2 ≤ m → d / m ≤ 12000000
-fits d m h l = le-trans (div-le-self d m) h
 
 -- the code saw that no task's slack is above W − C
 not-below : {f a n : ℕ} → a ≡ f → n ≤ a → n ≤ f
@@ -57,18 +43,18 @@ abbrev μ-loop : tie.MeasureT-loop
     sum (row room) tasks + 1 - sum (row slack) tasks
 
 loop-holds : tie.Need-loop-holds Inv-loop μ-loop
-loop-holds c = (refl, λ k l. zeros k, c .before .before .pre .1, λ t k. below-start t (k .sheet .limits) _ (λ i l. zeros i))
+loop-holds c = (refl, λ k l. zero-array k, c .before .before .pre .1, λ t k. below-start t (k .sheet .limits) _ (λ i l. zero-array i))
 
 next-requires : tie.Need-next-requires Inv-loop μ-loop
 next-requires c κs =
     let g = c .before .before .before .before .before .before .before .before .before .before .pre .0 .1 in
     let l = c .before .before .before .before .before .before .before .loop in
-    ((_, _, g, c .before .before .before .before .before .before .before .before .before .quotients .ensures, c .before .before .before .before .before .before .before .before .remainders .ensures), l .inv .2, λ i h. low g (l .slack) (l .inv .3 _ g) (not-below (c .before .before .before .before .before .first-past .ensures) (c .before .before .before .before .if1 .left)) i h)
+    ((_, _, record { of = g; quotients = c .before .before .before .before .before .before .before .before .before .quotients .ensures; remainders = c .before .before .before .before .before .before .before .before .remainders .ensures }), l .inv .2, λ i h. low g (l .slack) (l .inv .3 _ g) (not-below (c .before .before .before .before .before .first-past .ensures) (c .before .before .before .before .if1 .left)) i h)
 
 raise-requires : tie.Need-raise-requires Inv-loop μ-loop
 raise-requires c κs =
     let g = c .before .before .before .before .before .before .before .before .before .before .before .before .before .before .before .pre .0 .1 in
-    (c .before .before .before .before .before .before .before .before .before .before .before .before .loop .inv .0, tasks-high g, omega (arith, fits _ _ (c .before .before .before .before .next .ensures .2) (cores-low g)))
+    (c .before .before .before .before .before .before .before .before .before .before .before .before .loop .inv .0, tasks-high g, omega (arith, divided-low _ _ _ (c .before .before .before .before .next .ensures .2) (cores-low g)))
 
 loop-less : tie.Need-loop-less Inv-loop μ-loop
 loop-less c =
@@ -79,7 +65,7 @@ loop-less c =
     let r = c .before .before .before .before .before .before .before .before .before .before .before .before .before .before .before .remainders .ensures in
     let d = c .before .before .before .before .before .before .next .ensures in
     let v = c .before .raise .ensures in
-    turn-falls g (l .slack) (l .inv .3 _ g) _ _ _ q r _ (v .0) e (d .0 _ _ g q r .high) (sym (not-false _ (c .if2 .left)) ∙ v .1)
+    turn-falls g (l .slack) (l .inv .3 _ g) _ _ _ q r _ (v .0) e (d .0 _ _ (record { of = g; quotients = q; remainders = r }) .high) (sym (not-false _ (c .if2 .left)) ∙ v .1)
 
 loop-again : tie.Need-loop-again Inv-loop μ-loop
 loop-again c =
@@ -93,7 +79,7 @@ loop-again c =
       turn-length (arrays g (l .slack)) _ _ _ q r (l .slack) _ (v .0),
       turn-past (arrays g (l .slack)) _ _ _ q r (l .slack) _ (v .0) (l .inv .1),
       d .1,
-      λ t k. let b = l .inv .3 t k in turn-below k (l .slack) b _ _ _ q r _ (v .0) (d .0 _ _ k q r .under b),
+      λ t k. let b = l .inv .3 t k in turn-below k (l .slack) b _ _ _ q r _ (v .0) (d .0 _ _ (record { of = k; quotients = q; remainders = r }) .under b),
     )
 
 returns : tie.Need-returns Inv-loop μ-loop
@@ -111,7 +97,7 @@ returns-2 c =
     let r = c .before .before .before .before .before .before .before .before .before .before .before .before .before .before .before .remainders .ensures in
     let d = c .before .before .before .before .before .before .next .ensures in
     let v = c .before .raise .ensures in
-    ended-still k (l .slack) (l .inv .3 t k) _ _ _ q r _ (v .0) e (d .0 _ _ k q r .high) (sym (not-true _ (c .if2 .taken)) ∙ v .1) (l .inv .1)
+    ended-still k (l .slack) (l .inv .3 t k) _ _ _ q r _ (v .0) e (d .0 _ _ (record { of = k; quotients = q; remainders = r }) .high) (sym (not-true _ (c .if2 .taken)) ∙ v .1) (l .inv .1)
 
 pub search-spec : {M : Type 1} → statement M
 search-spec =
