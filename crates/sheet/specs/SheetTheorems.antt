@@ -19,7 +19,7 @@ use Rattle.tasks.specs.Content.{noTask, countedOf, contentOf, planOf, tidy}
 use Rattle.tasks.specs.ContentLaws.{Fits, fits-back}
 use Rattle.tasks.specs.Tests.{tests, testPlan}
 use Rattle.tasks.specs.TestsLaws.{tests-limits}
-use Rattle.tasks.specs.AnswerLaws.{firstMet-passed, firstMet-pass, orNext-passed}
+use Rattle.tasks.specs.AnswerLaws.{firstMet-passed, firstMet-pass, orNext-passed, firstMet-alone}
 use Rattle.codec.specs.Table.{slackCount, taskSetIn, contentIn, bytesOf, test1, test2}
 use Rattle.table.specs.Judged.{judgedAs, judged}
 use Rattle.writer.specs.Written.{writeTest}
@@ -28,7 +28,7 @@ use Rattle.wishes.specs.Wish.{Solution, withOffsets, atSlack, sheet11, test27, 
 use Rattle.wishes.specs.WishLaws.{wished-past}
 use Rattle.wishes.specs.WishTheorems.{sheetLimits, wish-split, sheet-passed, Best, solved-best, unsolved-exactly, solved-accepted}
 use Rattle.sheet.specs.Wished.{wishVerdict, wishOf}
-use Rattle.sheet.specs.WishedLaws.{unused, alone}
+use Rattle.sheet.specs.WishedLaws.{unused}
 
 module _ (t : List ℕ) (a : wishVerdict t ≡ Accepted) where
   passed : wishTests (contentIn t) ≡ Accepted
@@ -97,9 +97,9 @@ module _ (t : List ℕ) (e : test1 t ≡ Accepted) (l : test2 t ≡ Accepted) (l
   last =
       firstMet-pass (test1 t) _ e
       ∙ firstMet-pass (test2 t) _ l
-      ∙ alone (wishTests (contentIn t))
+      ∙ firstMet-alone (wishTests (contentIn t))
       ∙ wish-split (contentIn t)
-      ∙ rw limits (firstMet-pass (sheet11 (contentIn t)) _ none ∙ alone (test27 (contentIn t)))
+      ∙ rw limits (firstMet-pass (sheet11 (contentIn t)) _ none ∙ firstMet-alone (test27 (contentIn t)))
 
   pub wish-unsolved : (wishVerdict t ≡ Refused 27 0) ↔ ((y x : ℕ → ℕ) → Solution (contentIn t .tasks) y x → ⊥)
   wish-unsolved =

@@ -22,7 +22,7 @@ use Rattle.tasks.specs.TaskSet.{TaskSet, row}
 use Rattle.tasks.specs.Content.{Content, noTask, taskOf, contentOf, planOf, zeroPlan}
 use Rattle.tasks.specs.ContentLaws.{plan-ext, withSlack}
 use Rattle.tasks.specs.Tests.{firstMet, unlessRefused, test3, test4, test5, test6, test7, test9, test10}
-use Rattle.tasks.specs.AnswerLaws.{refuse-passed, firstMet-append, firstMet-passed, outside-passed}
+use Rattle.tasks.specs.AnswerLaws.{refuse-passed, firstMet-append, firstMet-passed, outside-passed, firstMet-alone}
 use Rattle.codec.specs.Table.{coreCount, taskCount, slackCount, taskSetIn, contentIn, test1, test2}
 use Rattle.reader.specs.Counted.{countsTest}
 use Rattle.analysis.specs.SlackTest.{offering}
@@ -131,11 +131,6 @@ tests-same : (c d : Content) → c .tasks ≡ d .tasks → c .label ≡ d .label
 unfolding wishTests test3 test4 test5 test6 test7 test26 test9 test10 sheet11 test27
 tests-same c d e q o = λ i. wishTests (record { tasks = e i; label = q i; offers = o i; slack = c .slack })
 
-pub alone : (a : Answer) → firstMet (a ∷ []) ≡ a
-unfolding firstMet
-alone Accepted = refl
-alone (Refused k i) = refl
-
 verdict-stops : (t : List ℕ) (k i : ℕ) → countsTest t ≡ Refused k i → wishVerdict t ≡ Refused k i
 unfolding wishVerdict countsTest
 verdict-stops t k i c = firstMet-append (test1 t ∷ test2 t ∷ []) (wishTests (contentIn t) ∷ []) ∙ rw c
@@ -177,7 +172,7 @@ module _ (t : List ℕ) where
   -- past 1 and 2 the verdict is that of the tests
   pub verdict-past : countsTest t ≡ Accepted → wishVerdict t ≡ wishTests (contentIn t)
   unfolding wishVerdict countsTest
-  verdict-past c = firstMet-append (test1 t ∷ test2 t ∷ []) (wishTests (contentIn t) ∷ []) ∙ rw c (alone (wishTests (contentIn t)))
+  verdict-past c = firstMet-append (test1 t ∷ test2 t ∷ []) (wishTests (contentIn t) ∷ []) ∙ rw c (firstMet-alone (wishTests (contentIn t)))
 
   pub sheet-refused : (r : Wished) (k i : ℕ) → countsTest t ≡ Refused k i → r .answer ≡ Refused k i → r .plan ≡ zeroPlan → r ≡ wishOf t
   unfolding wishOf

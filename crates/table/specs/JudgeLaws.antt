@@ -18,7 +18,7 @@ use Rattle.tasks.specs.TaskSet.{TaskSet, counted, found, row}
 use Rattle.tasks.specs.AmountLaws.{counted-ext}
 use Rattle.tasks.specs.Content.{Content, countedOf, contentOf, planOf, zeroPlan}
 use Rattle.tasks.specs.Tests.{firstMet, orNext, test3, test4, test5, test6, test7, test8, test9, test10, test11, tests, unlessRefused}
-use Rattle.tasks.specs.AnswerLaws.{refuse-passed, orNext-passed, firstMet-passed, firstMet-append}
+use Rattle.tasks.specs.AnswerLaws.{refuse-passed, orNext-passed, firstMet-passed, firstMet-append, firstMet-alone}
 use Rattle.tasks.specs.LimitsLaws.{limitTests, slackTests, tests-split, limits-passed}
 use Rattle.analysis.specs.SlackTest.{offering, offeredTest, hadSlack}
 use Rattle.analysis.specs.PlanTest.{boundsOf}
@@ -46,11 +46,6 @@ pub record Judges (p : Plan) (k : ℕ) (r : Judgement) : Type 0 where
   pub plan : r .plan ≡ unlessRefused (r .answer) (withSlack p (tab (hadSlack (offering p k)) 16)) zeroPlan
   pub count : r .count ≡ length (unlessRefused (r .answer) (judgedNames p k) [])
   pub counted : r .counted ≡ tab (row (unlessRefused (r .answer) (judgedNames p k) [])) 8
-
-alone : (a : Answer) → firstMet (a ∷ []) ≡ a
-unfolding firstMet
-alone Accepted = refl
-alone (Refused k i) = refl
 
 -- the table's verdict past 1 and 2 is what the judging of the plan answers
 module _ (t : List ℕ) where
@@ -168,7 +163,7 @@ module _ (t : List ℕ) where
   past-two e =
       firstMet-append (test1 t ∷ test2 t ∷ []) (tests (contentIn t) ∷ [])
       ∙ passed-on _ _ e
-      ∙ alone (tests (contentIn t))
+      ∙ firstMet-alone (tests (contentIn t))
 
   judged-case :
       (a : Answer) → a ≡ tests (contentIn t) →

@@ -3,6 +3,7 @@
 --     lowest-passed, pass-lowest      lowest k p n is no refusal exactly where p is false below n
 --     lowest-none, lowest-found       its value by what the search for p below n found
 --     lowest-ext                      tests that agree below n are met alike
+--     firstMet-none, firstMet-alone   no test, and one
 --     firstMet-pass, firstMet-stop    a list that begins with a test passed, or met
 --     firstMet-passed, pass-firstMet  no test of a list is met: not its first, and none of the rest
 --     firstMet-append                 tests of one list, then of another: orNext
@@ -59,6 +60,15 @@ orNext-assoc (Refused k i) b c = refl
 pub orNext-passed : (a b : Answer) → orNext a b ≡ Accepted → (a ≡ Accepted) × (b ≡ Accepted)
 orNext-passed Accepted b e = (refl, e)
 orNext-passed (Refused k i) b e = (cc, cc)
+
+pub firstMet-none : firstMet [] ≡ Accepted
+unfolding firstMet
+firstMet-none = refl
+
+pub firstMet-alone : (a : Answer) → firstMet (a ∷ []) ≡ a
+unfolding firstMet
+firstMet-alone Accepted = refl
+firstMet-alone (Refused k i) = refl
 
 pub firstMet-pass : (a : Answer) (l : List Answer) → a ≡ Accepted → firstMet (a ∷ l) ≡ firstMet l
 unfolding firstMet

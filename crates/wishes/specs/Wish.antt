@@ -2,11 +2,11 @@
 --     room                     W − C: what a task's wish leaves for its offset and slack together
 --     withOffset, withOffsets  a task with an offset in its wish's place, and all tasks
 --     Solution                 offsets and slack that keep every wish
---     largestOffset, atSlack      the largest offset that a slack leaves, and the sheet's tasks with these
+--     largestOffset, atSlack   the largest offset that a slack leaves, and the sheet's tasks with these
 --     wished                   the slack raised from zeros, each time with the largest offsets that it leaves
---     passes                   whether a slack leaves a task less than its budget
---     noSolution               whether the wished slack does so at some task
---     wishTests                the tests of what a sheet says, in their order
+--     passes                   whether a slack is above W − C at a task
+--     noSolution               27: whether the wished slack is, at some task
+--     test26, sheet11, test27, wishTests    the tests of what a sheet says, in their order
 --     solved                   the content that is found
 use Prim.Native.Nat.{ℕ, suc, _-_, _*_, _≤_, _<_, min}
 use mathlib.Core.Bool.{Bool, not}
@@ -55,7 +55,7 @@ atSlack s x = withOffsets s (λ i. largestOffset (s .task i) (x i))
 unfoldable pub wished : TaskSet → List ℕ
 wished s = settle (λ x. raise (atSlack s (row x)) x) (s .count) (suc (s .count * ceiling)) (replicate (s .count) 0)
 
--- whether slack x is above W − C at task k, so that no offset is left
+-- whether slack x is above W − C at task k: then Y + x + C is above W for every offset
 unfoldable pub passes : TaskSet → (ℕ → ℕ) → ℕ → Bool
 passes s x k = ltb (room (s .task k)) (x k)
 

@@ -22,7 +22,7 @@ use Rattle.tasks.specs.declared.Answer.the-variants.{Accepted, Refused}
 use Rattle.tasks.specs.TaskSet.{TaskSet, hyperperiod, share, found, bound, row}
 use Rattle.tasks.specs.Content.{Content}
 use Rattle.tasks.specs.Tests.{refuse, orNext, firstMet, numberOf, test3, test4, test5, test6, test7, test8, test9, test10, test11, test12, test13, tests}
-use Rattle.tasks.specs.AnswerLaws.{refuse-passed, refuse-met, pass-lowest, lowest-passed, orNext-passed, firstMet-passed, pass-firstMet, firstMet-append, outside-passed}
+use Rattle.tasks.specs.AnswerLaws.{refuse-passed, refuse-met, pass-lowest, lowest-passed, orNext-passed, firstMet-passed, pass-firstMet, firstMet-append, outside-passed, firstMet-none}
 use Rattle.tasks.specs.LimitsLaws.{limitTests, slackTests, tests-split, limits-passed}
 use Rattle.tasks.specs.FoundLaws.{found-compliant, found-least}
 use Rattle.wishes.specs.Wish.{room, withOffsets, Solution, largestOffset, atSlack, wished, passes, noSolution, test26, sheet11, test27, wishTests, solved}
@@ -48,10 +48,6 @@ pub record Sheet (s : TaskSet) : Type 0 where
   pub wish-low : (i : ℕ) → i < s .count → s .task i .budget ≤ s .task i .offset
   pub wish-high : (i : ℕ) → i < s .count → s .task i .offset ≤ 16 * s .task i .separation
 
-nothing-met : firstMet [] ≡ Accepted
-unfolding firstMet
-nothing-met = refl
-
 module _ (c : Content) (a : sheetLimits c ≡ Accepted) where
   pub at-limits : (x : ℕ → ℕ) → limitTests (contentAt c x) ≡ Accepted
   unfolding sheetLimits limitTests contentAt test3 test4 test5 test6 test7 test8 test9 test10 hyperperiod share atSlack withOffsets
@@ -71,7 +67,7 @@ module _ (c : Content) (a : sheetLimits c ≡ Accepted) where
       (pass-firstMet _ _ (r7 .0)
       (pass-firstMet _ _ eight
       (pass-firstMet _ _ (r9 .0)
-      (pass-firstMet _ [] (r10 .0) nothing-met)))))))
+      (pass-firstMet _ [] (r10 .0) firstMet-none)))))))
     where
       eight : test8 (contentAt c x) ≡ Accepted
       eight = pass-lowest 8 _ (c .tasks .count) (λ i h. le-ltb _ _ (largest-low (c .tasks .task i) (x i)))
@@ -228,4 +224,4 @@ module _ (c : Content) (a : wishTests c ≡ Accepted) where
   unfolding slackTests
   solved-accepted =
       tests-split (solved c)
-      ∙ rw limits (pass-firstMet _ _ eleven (pass-firstMet _ _ twelve (pass-firstMet _ [] thirteen nothing-met)))
+      ∙ rw limits (pass-firstMet _ _ eleven (pass-firstMet _ _ twelve (pass-firstMet _ [] thirteen firstMet-none)))
