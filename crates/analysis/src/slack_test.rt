@@ -2,8 +2,8 @@
 use fields::columns::split;
 use fields::frame::frame;
 use fields::ranges::task_ranges;
-use largest::first_names;
 use slack::amount::amount;
+use slack::amount::first_names;
 use slack::rates::rate;
 use slack::vector::first_uncovered;
 use slack::vector::search;

@@ -1,4 +1,4 @@
-// The amount A of a slack, and what it needs.
+// The amount A of a slack, and what it needs; and the names to begin with.
 use largest::choose;
 use multiple::wide;
 ghost use mathlib.Core.List.{List};
@@ -7,6 +7,13 @@ ghost use Rattle.tasks.specs.TaskSet.{TaskSet, row};
 ghost use Rattle.largest.specs.Chosen.{Arranged};
 ghost use Rattle.slack.specs.Arrays.{ArraysOf, Needs};
 ghost use Rattle.slack.specs.Weights.{weightRow, Few, Weighed, Amounts};
+
+// Names to begin with: the tasks in their own order.
+pub fn first_names() -> [u8; 16]
+    ensures { λ r. ⌜ ((n : ℕ) → n ≤ 16 → Arranged r n) ⌝ }
+{
+    [0, 1, 2, 3, 4, 5, 6, 7, 8, 9, 10, 11, 12, 13, 14, 15]
+}
 
 // Every weight: share × (x + Y).
 fn weigh(share: &[u64; 16], offset: &[u32; 16], slack: &[u32; 16], tasks: usize) -> [u64; 16]

@@ -3,7 +3,7 @@ use crate::search::search;
 use fields::columns::split;
 use fields::frame::frame;
 use fields::ranges::wish_ranges;
-use largest::first_names;
+use slack::amount::first_names;
 use slack::rates::rate;
 use tasks::Answer;
 use tasks::Plan;
