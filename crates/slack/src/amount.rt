@@ -15,14 +15,18 @@ pub fn first_names() -> [u8; 16]
     [0, 1, 2, 3, 4, 5, 6, 7, 8, 9, 10, 11, 12, 13, 14, 15]
 }
 
-// Every weight: share × (x + Y).
+// Every weight: share × (x + Y). The loop has at most 16 turns whatever `tasks` is, and the compiler writes them out: each weight then goes
+// straight to the caller's array, where a second array would be filled and copied in every round.
 fn weigh(share: &[u64; 16], offset: &[u32; 16], slack: &[u32; 16], tasks: usize) -> [u64; 16]
     requires { ⌜ Few (now share) tasks ⌝ }
     ensures { λ r. ⌜ Weighed (weightRow (now (share .entry)) (now (offset .entry)) (now (slack .entry))) tasks r ⌝ }
 {
     let mut weight = [0u64; 16];
     let mut i = 0;
-    while i < tasks {
+    while i < 16 {
+        if i == tasks {
+            return weight;
+        }
         weight[i] = share[i] * (wide(slack[i]) + wide(offset[i]));
         i += 1;
     }

@@ -62,8 +62,8 @@ add-weight c = search needs
 mul-weight-2 : tie.Need-mul-weight-2 Inv-loop μ-loop
 unfolding row
 mul-weight-2 c =
-    let s = c .before .before .before .before .before .before .before in
-    let i = c .before .before .before .before .before .before .loop .i in
+    let s = c .before .before .before .before .before .before .before .before in
+    let i = c .before .before .before .before .before .before .before .loop .i in
     omega (arith, high _ (c .before .before .wide .result + c .wide2 .result) (s .pre .million i (omega arith)) (omega arith))
 
 mul-weight-3 : tie.Need-mul-weight-3 Inv-loop μ-loop
@@ -81,8 +81,8 @@ loop-less c = search needs
 loop-again : tie.Need-loop-again Inv-loop μ-loop
 unfolding weightRow row
 loop-again c =
-    let s = c .before .before .before .before .before .before .before in
-    let l = c .before .before .before .before .before .before .loop in
+    let s = c .before .before .before .before .before .before .before .before in
+    let l = c .before .before .before .before .before .before .before .loop in
     let v = c .before .before .wide .result + c .wide2 .result in
     let w = weightRow (s .args .share .now) (s .args .offset .now) (s .args .slack .now) in
     let e : getD (s .args .share .now) (l .i) 0 * v ≡ w (l .i) = rw (c .wide2 .ensures .0, c .before .before .wide .ensures .0) in (
@@ -93,7 +93,12 @@ loop-again c =
 
 returns : tie.Need-returns Inv-loop μ-loop
 returns c =
-    let e : c .before .loop .i ≡ c .before .before .args .tasks = omega arith in
+    let e : c .before .before .loop .i ≡ c .before .before .before .args .tasks = omega arith in
+    record { places = rw e at (c .before .before .loop .inv .1); limit = rw e at (c .before .before .loop .inv .2) }
+
+returns-2 : tie.Need-returns-2 Inv-loop μ-loop
+returns-2 c =
+    let e : c .before .loop .i ≡ c .before .before .args .tasks = omega (arith, c .before .before .pre .sixteen) in
     record { places = rw e at (c .before .loop .inv .1); limit = rw e at (c .before .loop .inv .2) }
 
 pub weigh-spec : {M : Type 1} → statement M
@@ -103,6 +108,7 @@ weigh-spec =
     Inv-loop
     μ-loop
     loop-holds
+    returns
     mul-weight
     element-copy-out-weight
     mul-wide
@@ -118,4 +124,4 @@ weigh-spec =
     add-i
     loop-less
     loop-again
-    returns)
+    returns-2)
