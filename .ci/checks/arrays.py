@@ -1,8 +1,8 @@
 """The choice of the largest weights "and all it calls then hold no array but the weights handed in and the names handed back" (document 02, §4).
 
 Read from the code of the crate `largest`. It calls no function of another crate, so all that the choice reaches is there. Each array type in it is
-that of a parameter `weight` or `names`, a reference; nothing in it makes an array, by a literal, as a local or a result, or in a struct, an enum or a
-constant; and an array is named only with an index, or alone as an argument of a call. docs/DECISIONS.md has a row for each function that the choice
+that of a parameter `weight` or `names`, a reference: there is none in a local, a result, a struct, an enum or a constant, and no literal. The two are
+named with an index, or alone as an argument of a call, so that neither is copied. docs/DECISIONS.md has a row for each function that the choice
 reaches, with its arrays."""
 
 import re
@@ -33,7 +33,7 @@ def outside(file):
 
 
 def held(file, functions):
-    """Arrays that are not lent: in signatures, in types and constants, and in bodies."""
+    """Arrays that are not lent to a function, in signatures, types, constants and bodies."""
     faults = []
     for block in file.blocks:
         head = block.contract[0] if block.kind == "fn" else block.end + 1
@@ -50,10 +50,10 @@ def held(file, functions):
 def made(body, functions):
     for bracket in re.finditer(r"\[", body):
         if not re.search(r"(?<!\w)(weight|names)$", body[: bracket.start()]):
-            yield bracket.start(), "makes an array"
+            yield bracket.start(), "has an array that is not lent to it"
     for named in re.finditer(r"(?<!\w)(weight|names)(?!\w)", body):
         if body[named.end() :][:1] != "[" and not argument(body, named, functions):
-            yield named.start(), f"copies {named.group()}"
+            yield named.start(), f"has {named.group()} as a whole, where it is not handed on"
 
 
 def argument(body, named, functions):
