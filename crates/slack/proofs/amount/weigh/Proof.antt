@@ -4,11 +4,12 @@ use Rattle.laws.specs.Tab.{tab, cut}
 use Rattle.laws.specs.TabLaws.{filled-none}
 use Rattle.tasks.specs.TaskSet.{row}
 use Rattle.fields.specs.StageLaws.{column-more}
-use Rattle.slack.specs.Weights.{weightRow}
+use Rattle.slack.specs.Weights.{weightRow, Weighed}
 use borrow.Author.Needs.{needs}
 use native.Mathlib.Omega.{arith}
 use Prim.Native.Nat.{ℕ, _≤_, _<_, _+_, _*_, _-_}
 use mathlib.Core.Path.{_≡_}
+use mathlib.Core.List.{List}
 use lib.ListN.{getD}
 use Rattle.slack.proofs.amount.weigh.Statement.{statement}
 use Rattle.slack.proofs.amount.weigh.Tie as tie
@@ -91,15 +92,15 @@ loop-again c =
       below-more _ (l .i) (l .inv .2) (rw e at (high _ v (s .pre .million (l .i) (omega arith)) (omega arith))),
     )
 
+-- the array where the loop is left, by either way
+whole : {w : ℕ → ℕ} {weight : List ℕ} {i tasks : ℕ} → i ≡ tasks → weight ≡ tab (cut i w 0) 16 → ((j : ℕ) → j < i → w j ≤ 8589934592000000) → Weighed w tasks weight
+whole e places limit = record { places = rw e at places; limit = rw e at limit }
+
 returns : tie.Need-returns Inv-loop μ-loop
-returns c =
-    let e : c .before .before .loop .i ≡ c .before .before .before .args .tasks = omega arith in
-    record { places = rw e at (c .before .before .loop .inv .1); limit = rw e at (c .before .before .loop .inv .2) }
+returns c = let l = c .before .before .loop in whole (omega arith) (l .inv .1) (l .inv .2)
 
 returns-2 : tie.Need-returns-2 Inv-loop μ-loop
-returns-2 c =
-    let e : c .before .loop .i ≡ c .before .before .args .tasks = omega (arith, c .before .before .pre .sixteen) in
-    record { places = rw e at (c .before .loop .inv .1); limit = rw e at (c .before .loop .inv .2) }
+returns-2 c = let l = c .before .loop in whole (omega (arith, c .before .before .pre .sixteen)) (l .inv .1) (l .inv .2)
 
 pub weigh-spec : {M : Type 1} → statement M
 weigh-spec =
