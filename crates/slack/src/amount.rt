@@ -16,7 +16,7 @@ pub fn first_names() -> [u8; 16]
 }
 
 // Every weight: share × (x + Y). The loop has at most 16 turns whatever `tasks` is, and the compiler writes them out: each weight then goes
-// straight to the caller's array, where a second array would be filled and copied in every round.
+// straight to the caller's array. A loop up to `tasks` fills an array of its own, which is copied in every round of a search.
 fn weigh(share: &[u64; 16], offset: &[u32; 16], slack: &[u32; 16], tasks: usize) -> [u64; 16]
     requires { ⌜ Few (now share) tasks ⌝ }
     ensures { λ r. ⌜ Weighed (weightRow (now (share .entry)) (now (offset .entry)) (now (slack .entry))) tasks r ⌝ }
