@@ -48,6 +48,7 @@ def held(file, functions):
 
 
 def made(body, functions):
+    """Where a body has an array of its own, or one of the two as a whole."""
     for bracket in re.finditer(r"\[", body):
         if not re.search(r"(?<!\w)(weight|names)$", body[: bracket.start()]):
             yield bracket.start(), "has an array that is not lent to it"
