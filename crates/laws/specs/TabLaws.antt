@@ -6,6 +6,7 @@
 --     tab-replicate     a constant row
 --     set-tab           a store is a change of the row at one index
 --     cut-below         below n the cut row is the row; cut-above: from n on it is z
+--     cut-map           a row of what g makes of another, cut off
 --     cut-all           filled up to its length an array is the row's tab
 --     getD-tab-cut      a tab read anywhere is the row cut off at its length
 --     getD-cut          the tab of a row that is cut off below its length, read anywhere
@@ -77,6 +78,14 @@ module _ {A : Type 0} where
   pub cut-above : (n : ℕ) (f : ℕ → A) (z : A) (i : ℕ) → n ≤ i → cut n f z i ≡ z
   unfolding cut
   cut-above n f z i h = rw (le-ltb i n h)
+
+  pub cut-map : {B : Type 0} (g : B → A) (n : ℕ) (f : ℕ → B) (z : A) (w : B) → g w ≡ z → (i : ℕ) → cut n (λ j. g (f j)) z i ≡ g (cut n f w i)
+  unfolding cut
+  cut-map g n f z w e i = go (ltb i n)
+    where
+      go : (b : Bool) → cond b (g (f i)) z ≡ g (cond b (f i) w)
+      go true = refl
+      go false = sym e
 
   pub cut-all : (n : ℕ) (f : ℕ → A) (z : A) → tab (cut n f z) n ≡ tab f n
   cut-all n f z = tab-ext (cut n f z) f n (cut-below n f z)

@@ -1,12 +1,15 @@
 -- What a table or a plan says, with its unused places left out, and the plan that keeps it.
---     Content      cores' labels, tasks, the slack count and the slack
+--     dated        whether an edition's tables have deadlines
+--     inEdition    a task as an edition has it: without deadlines its deadline is an unused place
+--     Content      the edition, cores' labels, tasks, the slack count and the slack
 --     countedOf    the loops counted at its slack
+--     lateOf, late    counted from the priority point or from the deadline
 --     contentOf    what a plan says
 --     planOf       the plan that keeps a content, zeros in its unused places
 --     tidy         a plan with zeros in its unused places
 --     noTask, zeroPlan    a task and a plan of zeros; zeroTask: whether a task is one
---     Same         "two plans are the same if their used entries and that mark agree"
-use Prim.Native.Nat.{ℕ}
+--     Same         "two plans are the same if their used entries and that mark agree", and "only if editions agree too"
+use Prim.Native.Nat.{ℕ, _+_, _-_}
 use mathlib.Core.Path.{_≡_}
 use mathlib.Core.Bool.{Bool, false, cond, not, _&&_}
 use mathlib.Core.List.{List}
@@ -15,9 +18,19 @@ use lib.Dec.{eqb}
 use Rattle.laws.specs.Tab.{tab, cut}
 use Rattle.tasks.specs.declared.Task.{Task}
 use Rattle.tasks.specs.declared.Plan.{Plan}
-use Rattle.tasks.specs.TaskSet.{TaskSet, counted, row}
+use Rattle.tasks.specs.TaskSet.{TaskSet, counted, boundOf, row}
+
+-- "Edition 2 carries deadlines."
+abbrev pub dated : ℕ → Bool
+dated e = eqb e 2
+
+-- "The loop record gains the deadline, an unused place in edition 1"
+abbrev pub inEdition : ℕ → Task → Task
+inEdition e t =
+    record { separation = t .separation; budget = t .budget; offset = t .offset; deadline = cond (dated e) (t .deadline) 0 }
 
 pub record Content : Type 0 where
+  pub edition : ℕ
   pub tasks : TaskSet
   pub label : ℕ → ℕ
   -- the slack section's count: 0 where slack is found
@@ -28,16 +41,25 @@ pub record Content : Type 0 where
 unfoldable pub countedOf : Content → List ℕ
 countedOf c = counted (c .tasks) (c .slack)
 
+-- of a task with slack x: in edition 2 "late is the larger of 0 and bound − D", a difference of natural numbers; in edition 1 "x + C, counted from
+-- the priority point"
+unfoldable pub lateOf : ℕ → Task → ℕ → ℕ
+lateOf e t x = cond (dated e) (boundOf t x - t .deadline) (x + t .budget)
+
+unfoldable pub late : Content → ℕ → ℕ
+late c i = lateOf (c .edition) (c .tasks .task i) (c .slack i)
+
 unfoldable pub noTask : Task
-noTask = record { separation = 0; budget = 0; offset = 0 }
+noTask = record { separation = 0; budget = 0; offset = 0; deadline = 0 }
 
 -- whether a task is that one
 unfoldable pub zeroTask : Task → Bool
-zeroTask t = eqb (t .separation) 0 && (eqb (t .budget) 0 && eqb (t .offset) 0)
+zeroTask t = eqb (t .separation) 0 && (eqb (t .budget) 0 && (eqb (t .offset) 0 && eqb (t .deadline) 0))
 
 unfoldable pub zeroPlan : Plan
 zeroPlan =
     record {
+      edition = 0;
       offered = false;
       cores = 0;
       tasks = 0;
@@ -53,7 +75,13 @@ taskOf l i = getD l i noTask
 unfoldable pub contentOf : Plan → Content
 contentOf p =
     record {
-      tasks = record { cores = p .cores; count = p .tasks; task = cut (p .tasks) (taskOf (p .task)) noTask };
+      edition = p .edition;
+      tasks =
+          record {
+            cores = p .cores;
+            count = p .tasks;
+            task = cut (p .tasks) (λ i. inEdition (p .edition) (taskOf (p .task) i)) noTask;
+          };
       label = cut (p .cores) (row (p .labels)) 0;
       offers = cond (p .offered) (p .tasks) 0;
       slack = cut (p .tasks) (row (p .slack)) 0;
@@ -62,6 +90,7 @@ contentOf p =
 unfoldable pub planOf : Content → Plan
 planOf c =
     record {
+      edition = c .edition;
       offered = not (eqb (c .offers) 0);
       cores = c .tasks .cores;
       tasks = c .tasks .count;

@@ -1,8 +1,10 @@
 -- A plan cut at its used places, and the contents that fit a plan: the plan of such a content says that content again.
 --     plan-ext        plans with equal fields are the same
---     content-ext     contents with the same tasks, labels, slack count and slack are the same
+--     content-ext     contents with the same edition, tasks, labels, slack count and slack are the same
+--     edition-zero    a task of zeros is one in every edition; edition-again: what an edition leaves of a task, it leaves whole
+--     used-task       a task of a plan that is in use, as its edition has it
 --     withSlack       a plan with this slack in place of its own
---     Fits            the content's counts are within a plan's arrays, and its rows are zero past the counts
+--     Fits            the content's counts are within a plan's arrays, its rows are zero past the counts, and so are deadlines that its edition doesn't have
 --     row-back        a row that is zero past n, put in a list and read below n; cut-again: a row cut off at n
 --     tasks-back, labels-back, slack-back    the plan of a content whose rows are zero past the counts, with whatever slack, says its tasks and labels
 --     fits-back       the plan of such a content says it; plan-fits: what a plan says fits
@@ -10,7 +12,7 @@
 --     mark-back       the mark of a plan with tasks comes back from its slack count
 --     tidied-code     the tidied plan, array by array
 --     zero-task       a task that the test of zeros passes is the task of zeros; no-task: and back
-use Prim.Native.Nat.{ℕ, _≤_}
+use Prim.Native.Nat.{ℕ, _≤_, _<_}
 use mathlib.Core.Path.{_≡_, refl, sym, ap, fun-ext, _∙_}
 use mathlib.Core.Bool.{Bool, true, false, cond, not}
 use mathlib.Core.List.{List}
@@ -20,28 +22,59 @@ use lib.ListN.{getD}
 use lib.Dec.{ltb, eqb}
 use borrow.Author.Tests.{ltb-true, ltb-false, eqb-true, eqb-false, ne-eqb}
 use Rattle.laws.specs.Tab.{tab, cut}
-use Rattle.laws.specs.TabLaws.{getD-tab, cut-below, cut-above}
+use Rattle.laws.specs.TabLaws.{getD-tab, cut-below, cut-above, cut-map}
 use Rattle.laws.specs.EveryLaws.{both}
 use Rattle.tasks.specs.declared.Task.{Task}
 use Rattle.tasks.specs.declared.Plan.{Plan}
 use Rattle.tasks.specs.TaskSet.{TaskSet, row}
-use Rattle.tasks.specs.Content.{Content, noTask, zeroTask, taskOf, contentOf, planOf, tidy}
+use Rattle.tasks.specs.Content.{dated, inEdition, Content, noTask, zeroTask, taskOf, contentOf, planOf, tidy}
 
 pub plan-ext :
-    (p q : Plan) → p .offered ≡ q .offered → p .cores ≡ q .cores → p .tasks ≡ q .tasks
+    (p q : Plan) → p .edition ≡ q .edition → p .offered ≡ q .offered → p .cores ≡ q .cores → p .tasks ≡ q .tasks
     → p .labels ≡ q .labels → p .task ≡ q .task → p .slack ≡ q .slack → p ≡ q
-plan-ext p q o m n l t x = λ i. record { offered = o i; cores = m i; tasks = n i; labels = l i; task = t i; slack = x i }
+plan-ext p q e o m n l t x =
+    λ i. record { edition = e i; offered = o i; cores = m i; tasks = n i; labels = l i; task = t i; slack = x i }
 
 set-ext : (s u : TaskSet) → s .cores ≡ u .cores → s .count ≡ u .count → ((i : ℕ) → s .task i ≡ u .task i) → s ≡ u
 set-ext s u m n t = λ i. record { cores = m i; count = n i; task = λ k. t k i }
 
 pub content-ext :
-    (c d : Content) → c .tasks ≡ d .tasks → c .label ≡ d .label → c .offers ≡ d .offers → c .slack ≡ d .slack → c ≡ d
-content-ext c d t l o s = λ i. record { tasks = t i; label = l i; offers = o i; slack = s i }
+    (c d : Content) → c .edition ≡ d .edition → c .tasks ≡ d .tasks → c .label ≡ d .label → c .offers ≡ d .offers → c .slack ≡ d .slack → c ≡ d
+content-ext c d e t l o s = λ i. record { edition = e i; tasks = t i; label = l i; offers = o i; slack = s i }
 
 unfoldable pub withSlack : Plan → List ℕ → Plan
 withSlack p x =
-    record { offered = p .offered; cores = p .cores; tasks = p .tasks; labels = p .labels; task = p .task; slack = x }
+    record {
+      edition = p .edition;
+      offered = p .offered;
+      cores = p .cores;
+      tasks = p .tasks;
+      labels = p .labels;
+      task = p .task;
+      slack = x;
+    }
+
+pub edition-zero : (e : ℕ) → inEdition e noTask ≡ noTask
+unfolding noTask
+edition-zero e = go (dated e)
+  where
+    go : (b : Bool) → _≡_ {A = Task} (record { separation = 0; budget = 0; offset = 0; deadline = cond b 0 0 }) (record { separation = 0; budget = 0; offset = 0; deadline = 0 })
+    go true = refl
+    go false = refl
+
+pub edition-again : (e : ℕ) (t : Task) → inEdition e (inEdition e t) ≡ inEdition e t
+edition-again e t = go (dated e)
+  where
+    go :
+        (b : Bool)
+        → _≡_ {A = Task} (record { separation = t .separation; budget = t .budget; offset = t .offset; deadline = cond b (cond b (t .deadline) 0) 0 })
+        (record { separation = t .separation; budget = t .budget; offset = t .offset; deadline = cond b (t .deadline) 0 })
+    go true = refl
+    go false = refl
+
+pub used-task : (p : Plan) (i : ℕ) → i < p .tasks → contentOf p .tasks .task i ≡ inEdition (p .edition) (taskOf (p .task) i)
+unfolding contentOf
+used-task p i h = cut-below (p .tasks) _ noTask i h
 
 pub record Fits (c : Content) : Type 0 where
   pub cores-high : c .tasks .cores ≤ 8
@@ -49,6 +82,7 @@ pub record Fits (c : Content) : Type 0 where
   pub label-past : (i : ℕ) → c .tasks .cores ≤ i → c .label i ≡ 0
   pub task-past : (i : ℕ) → c .tasks .count ≤ i → c .tasks .task i ≡ noTask
   pub slack-past : (i : ℕ) → c .tasks .count ≤ i → c .slack i ≡ 0
+  pub deadlines : (i : ℕ) → inEdition (c .edition) (c .tasks .task i) ≡ c .tasks .task i
   pub offers : (c .offers ≡ 0) ⊎ (c .offers ≡ c .tasks .count)
 
 -- a row that is z from n on, put in a list of N, and read below n again
@@ -78,11 +112,15 @@ slack-back x n h past = fun-ext (row-back x 0 n 16 h past)
 module _ (c : Content) (x : List ℕ) where
   pub tasks-back :
       c .tasks .count ≤ 16 → ((i : ℕ) → c .tasks .count ≤ i → c .tasks .task i ≡ noTask)
+      → ((i : ℕ) → inEdition (c .edition) (c .tasks .task i) ≡ c .tasks .task i)
       → contentOf (withSlack (planOf c) x) .tasks ≡ c .tasks
   unfolding contentOf withSlack planOf taskOf
-  tasks-back h past =
+  tasks-back h past dates =
       set-ext (contentOf (withSlack (planOf c) x) .tasks) (c .tasks) refl refl
-      (row-back (c .tasks .task) noTask (c .tasks .count) 16 h past)
+      (λ i.
+      cut-map (inEdition (c .edition)) (c .tasks .count) (taskOf (tab (c .tasks .task) 16)) noTask noTask (edition-zero (c .edition)) i
+      ∙ ap (inEdition (c .edition)) (row-back (c .tasks .task) noTask (c .tasks .count) 16 h past i)
+      ∙ dates i)
 
   pub labels-back :
       c .tasks .cores ≤ 8 → ((i : ℕ) → c .tasks .cores ≤ i → c .label i ≡ 0) → contentOf (withSlack (planOf c) x) .label ≡ c .label
@@ -93,7 +131,8 @@ pub fits-back : (c : Content) → Fits c → contentOf (planOf c) ≡ c
 unfolding contentOf planOf withSlack
 fits-back c k =
     content-ext (contentOf (planOf c)) c
-    (tasks-back c (tab (c .slack) 16) (k .tasks-high) (k .task-past))
+    refl
+    (tasks-back c (tab (c .slack) 16) (k .tasks-high) (k .task-past) (k .deadlines))
     (labels-back c (tab (c .slack) 16) (k .cores-high) (k .label-past))
     (offers-back (c .offers) (c .tasks .count) (k .offers))
     (slack-back (c .slack) (c .tasks .count) (k .tasks-high) (k .slack-past))
@@ -106,11 +145,17 @@ module _ (p : Plan) (m : p .cores ≤ 8) (n : p .tasks ≤ 16) where
         cores-high = m;
         tasks-high = n;
         label-past = cut-above (p .cores) (row (p .labels)) 0;
-        task-past = cut-above (p .tasks) (taskOf (p .task)) noTask;
+        task-past = cut-above (p .tasks) (λ i. inEdition (p .edition) (taskOf (p .task) i)) noTask;
         slack-past = cut-above (p .tasks) (row (p .slack)) 0;
+        deadlines = λ i.
+            sym (cut-map (inEdition e) (p .tasks) (λ j. inEdition e (taskOf (p .task) j)) noTask noTask (edition-zero e) i)
+            ∙ ap (λ (f : ℕ → Task). cut (p .tasks) f noTask i) (fun-ext (λ j. edition-again e (taskOf (p .task) j)));
         offers = mark (p .offered);
       }
     where
+      e : ℕ
+      e = p .edition
+
       mark : (b : Bool) → (cond b (p .tasks) 0 ≡ 0) ⊎ (cond b (p .tasks) 0 ≡ p .tasks)
       mark true = inr refl
       mark false = inl refl
@@ -130,11 +175,11 @@ mark-back false n h = refl
 pub tidied-code :
     (p : Plan) (labels slack : List ℕ) (task : List Task) → 1 ≤ p .tasks
     → labels ≡ tab (cut (p .cores) (row (p .labels)) 0) 8
-    → task ≡ tab (cut (p .tasks) (taskOf (p .task)) noTask) 16
+    → task ≡ tab (cut (p .tasks) (λ i. inEdition (p .edition) (taskOf (p .task) i)) noTask) 16
     → slack ≡ tab (cut (p .tasks) (row (p .slack)) 0) 16
-    → _≡_ {A = Plan} (record { offered = p .offered; cores = p .cores; tasks = p .tasks; labels = labels; task = task; slack = slack }) (tidy p)
+    → _≡_ {A = Plan} (record { edition = p .edition; offered = p .offered; cores = p .cores; tasks = p .tasks; labels = labels; task = task; slack = slack }) (tidy p)
 unfolding tidy planOf contentOf
-tidied-code p labels slack task n e f g = plan-ext _ (tidy p) (sym (mark-back (p .offered) (p .tasks) n)) refl refl e f g
+tidied-code p labels slack task n e f g = plan-ext _ (tidy p) refl (sym (mark-back (p .offered) (p .tasks) n)) refl refl e f g
 
 -- ---- a task of zeros
 
@@ -145,8 +190,10 @@ zero-task t e =
     let b = both _ _ (a .1) in
     let s = eqb-true (t .separation) 0 (a .0) in
     let c = eqb-true (t .budget) 0 (b .0) in
-    let o = eqb-true (t .offset) 0 (b .1) in
-    λ i. record { separation = s i; budget = c i; offset = o i }
+    let d = both _ _ (b .1) in
+    let o = eqb-true (t .offset) 0 (d .0) in
+    let l = eqb-true (t .deadline) 0 (d .1) in
+    λ i. record { separation = s i; budget = c i; offset = o i; deadline = l i }
 
 pub no-task : (t : Task) → t ≡ noTask → zeroTask t ≡ true
 unfolding zeroTask noTask

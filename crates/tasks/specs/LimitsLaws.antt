@@ -1,8 +1,8 @@
--- What holds of a table or a plan that meets none of 3 to 10, the tests that look at no slack.
---     limitTests         3 to 10; slackTests: 11 to 13
+-- What holds of a table or a plan that meets none of 3 to 10 and 28, the tests that look at no slack.
+--     limitTests         3 to 10, and 28; slackTests: 11 to 13
 --     tests-split        the tests are these two, one after the other
 --     Labelled           the labels are below 64 and rise
---     limits-passed      none of 3 to 10 is met: the limits hold, and so does Labelled
+--     limits-passed      none of these is met: the limits hold, and so does Labelled
 use Prim.Native.Nat.{ℕ, suc, _-_, _≤_, _<_}
 use mathlib.Core.Path.{_≡_}
 use mathlib.Core.Bool.{false}
@@ -14,12 +14,12 @@ use Rattle.tasks.specs.declared.Answer.{Answer}
 use Rattle.tasks.specs.declared.Answer.the-variants.{Accepted}
 use Rattle.tasks.specs.Content.{Content}
 use Rattle.tasks.specs.Limits.{Limits}
-use Rattle.tasks.specs.Tests.{orNext, firstMet, badLabel, test3, test4, test5, test6, test7, test8, test9, test10, test11, test12, test13, tests}
+use Rattle.tasks.specs.Tests.{orNext, firstMet, badLabel, test3, test4, test5, test6, test7, test8, test28, test9, test10, test11, test12, test13, tests}
 use Rattle.tasks.specs.AnswerLaws.{refuse-passed, lowest-passed, firstMet-passed, firstMet-append, neither, outside-passed}
 
 unfoldable pub limitTests : Content → Answer
 limitTests c =
-    firstMet (test3 c ∷ test4 c ∷ test5 c ∷ test6 c ∷ test7 c ∷ test8 c ∷ test9 c ∷ test10 c ∷ [])
+    firstMet (test3 c ∷ test4 c ∷ test5 c ∷ test6 c ∷ test7 c ∷ test8 c ∷ test28 c ∷ test9 c ∷ test10 c ∷ [])
 
 unfoldable pub slackTests : Content → Answer
 slackTests c = firstMet (test11 c ∷ test12 c ∷ test13 c ∷ [])
@@ -28,7 +28,7 @@ pub tests-split : (c : Content) → tests c ≡ orNext (limitTests c) (slackTest
 unfolding tests limitTests slackTests
 tests-split c =
     firstMet-append
-    (test3 c ∷ test4 c ∷ test5 c ∷ test6 c ∷ test7 c ∷ test8 c ∷ test9 c ∷ test10 c ∷ [])
+    (test3 c ∷ test4 c ∷ test5 c ∷ test6 c ∷ test7 c ∷ test8 c ∷ test28 c ∷ test9 c ∷ test10 c ∷ [])
     (test11 c ∷ test12 c ∷ test13 c ∷ [])
 
 -- "a hardware label 0 to 63, strictly rising"
@@ -83,6 +83,7 @@ module _ (c : Content) where
       let r6 = firstMet-passed _ _ (r5 .1) in
       let r7 = firstMet-passed _ _ (r6 .1) in
       let r8 = firstMet-passed _ _ (r7 .1) in
-      let r9 = firstMet-passed _ _ (r8 .1) in
+      let r28 = firstMet-passed _ _ (r8 .1) in
+      let r9 = firstMet-passed _ _ (r28 .1) in
       let r10 = firstMet-passed _ _ (r9 .1) in
       (fields-passed (r3 .0) (r5 .0) (r6 .0) (r7 .0) (r8 .0) (r9 .0) (r10 .0), labels-passed (r4 .0))

@@ -7,7 +7,7 @@
 --     counted, amount           the tasks with the m − 1 largest weights, and A
 --     Compliant, covers         the condition, for all tasks and as a test of one
 --     raise, found              the slack raised once, and raised from zeros until nothing changes
---     boundOf, bound, late      counted from release, of one task and of a set's, and from the priority point
+--     boundOf, bound            counted from release, of one task and of a set's
 use Prim.Native.Nat.{ℕ, suc, _+_, _-_, _*_, _/_, _≤_, _<_}
 use mathlib.Core.Bool.{Bool}
 use mathlib.Core.List.{List}
@@ -27,7 +27,7 @@ pub record TaskSet : Type 0 where
 
 -- a task by the three numbers that the analysis reads, its other places 0
 abbrev pub plainTask : ℕ → ℕ → ℕ → Task
-plainTask T C Y = record { separation = T; budget = C; offset = Y }
+plainTask T C Y = record { separation = T; budget = C; offset = Y; deadline = 0 }
 
 -- a task set of such tasks
 unfoldable pub plain : TaskSet → TaskSet
@@ -101,7 +101,3 @@ boundOf t x = t .offset + x + t .budget
 
 unfoldable pub bound : TaskSet → (ℕ → ℕ) → ℕ → ℕ
 bound s x i = boundOf (s .task i) (x i)
-
--- "Late is x + C, counted from the priority point"
-unfoldable pub late : TaskSet → (ℕ → ℕ) → ℕ → ℕ
-late s x i = x i + s .task i .budget

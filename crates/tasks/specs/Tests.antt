@@ -1,12 +1,12 @@
--- Document 01, "When the planner says no": which of 3 to 13 a table's or a plan's content meets, and with which index.
+-- Document 01, "When the planner says no": which of 3 to 13, and of document 02's 28, a table's or a plan's content meets, and with which index.
 --     refuse k b      k at 0 where b holds
 --     lowest k p n    k at the lowest index below n where p holds
 --     firstMet        the first refusal of a list of tests
 --     numberOf, indexOf    number and index of a refused answer, 0 of another
 --     unlessRefused   one value where the answer is no refusal, another where it is
---     badCores … overBound      what each number tests, of what it looks at: both the tests below and the contracts of the code cite these
+--     badEdition … overBound    what each number tests, of what it looks at: both the tests below and the contracts of the code cite these
 --     compliantTest, foundTest, boundsTest      12 of offered slack, 12 of a plan marked as found, and 13
---     test3 … test13, tests, testPlan           the tests of a content, in their order, and of a plan
+--     test3 … test13, tests, testPlan           the tests of a content by 3 to 13 and 28, in their order, and of a plan
 use Prim.Native.Nat.{ℕ, _+_, _-_, _*_}
 use mathlib.Core.Bool.{Bool, true, false, cond, not, _&&_, _||_}
 use mathlib.Core.List.{List, [], _∷_}
@@ -17,9 +17,9 @@ use Rattle.tasks.specs.declared.Task.{Task}
 use Rattle.tasks.specs.declared.Plan.{Plan}
 use Rattle.tasks.specs.declared.Answer.{Answer}
 use Rattle.tasks.specs.declared.Answer.the-variants.{Accepted, Refused}
-use Rattle.tasks.specs.Numbers.{separationHigh, multipleHigh}
+use Rattle.tasks.specs.Numbers.{separationHigh, deadlineHigh, multipleHigh}
 use Rattle.tasks.specs.TaskSet.{TaskSet, hyperperiod, share, covers, found, bound, row}
-use Rattle.tasks.specs.Content.{Content, contentOf}
+use Rattle.tasks.specs.Content.{dated, Content, contentOf}
 
 abbrev pub refuse : ℕ → Bool → Answer
 refuse k true = Refused k 0
@@ -61,6 +61,10 @@ outside low high x = ltb x low || ltb high x
 
 -- ---- what each number tests
 
+-- 1: "Number 1 now refuses bytes other than 1 and 2"
+abbrev pub badEdition : ℕ → Bool
+badEdition e = not (eqb e 1 || eqb e 2)
+
 -- 3: "Cores are not 2 to 8."
 abbrev pub badCores : ℕ → Bool
 badCores m = outside 2 8 m
@@ -88,6 +92,10 @@ badOffset t = ltb (t .separation) (t .offset)
 -- 26: "W is not C to 16 × T", of a task of a wish sheet, which has "the wished bound W in the offset's place"
 abbrev pub badWish : Task → Bool
 badWish t = outside (t .budget) (16 * t .separation) (t .offset)
+
+-- 28: "an edition 2 loop's D is not 1 to 1,600,000", of a task in a table of edition e
+abbrev pub badDeadline : ℕ → Task → Bool
+badDeadline e t = dated e && outside 1 deadlineHigh (t .deadline)
 
 -- 9: "H is above 1,000,000."
 abbrev pub badMultiple : TaskSet → Bool
@@ -137,6 +145,9 @@ module _ (c : Content) where
   unfoldable pub test8 : Answer
   test8 = lowest 8 (λ i. badOffset (c .tasks .task i)) (c .tasks .count)
 
+  unfoldable pub test28 : Answer
+  test28 = lowest 28 (λ i. badDeadline (c .edition) (c .tasks .task i)) (c .tasks .count)
+
   unfoldable pub test9 : Answer
   test9 = refuse 9 (badMultiple (c .tasks))
 
@@ -155,11 +166,12 @@ module _ (c : Content) where
   unfoldable pub test13 : Answer
   test13 = boundsTest (c .tasks) (c .slack)
 
-  -- "Each of 1 to 16 is tested over all entries before the next."
+  -- "Each of 1 to 16 is tested over all entries before the next." 28 is "tested after 8".
   unfoldable pub tests : Answer
   tests =
       firstMet
-      (test3 ∷ test4 ∷ test5 ∷ test6 ∷ test7 ∷ test8 ∷ test9 ∷ test10 ∷ test11 ∷ test12 ∷ test13 ∷ [])
+      (test3 ∷ test4 ∷ test5 ∷ test6 ∷ test7 ∷ test8 ∷ test28 ∷ test9 ∷ test10 ∷ test11 ∷ test12 ∷ test13 ∷ [])
 
+-- "a plan of another edition meets 1 too": before 3
 unfoldable pub testPlan : Plan → Answer
-testPlan p = tests (contentOf p)
+testPlan p = orNext (refuse 1 (badEdition (p .edition))) (tests (contentOf p))

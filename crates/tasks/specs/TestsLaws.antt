@@ -2,17 +2,19 @@
 --     Passed                                           that, part by part
 --     tests-passed                                     it holds
 --     tests-limits, tests-compliant, tests-bounded     three of its parts
+--     plan-passed, plan-accepted                       a plan that meets none has a known edition, and its content meets none; and back
 use Prim.Native.Nat.{ℕ, _<_}
 use mathlib.Core.Path.{_≡_, refl, sym, _∙_}
 use mathlib.Core.Bool.{Bool, true, false, _||_}
 use mathlib.Core.Logic.{_⊎_, inl, inr}
 use lib.Dec.{eqb}
 use borrow.Author.Tests.{ltb-false, eqb-true, eq-eqb, not-false}
+use Rattle.tasks.specs.declared.Plan.{Plan}
 use Rattle.tasks.specs.declared.Answer.the-variants.{Accepted}
 use Rattle.tasks.specs.TaskSet.{Compliant, found, row}
-use Rattle.tasks.specs.Content.{Content}
+use Rattle.tasks.specs.Content.{Content, contentOf}
 use Rattle.tasks.specs.Limits.{Limits, Bounded}
-use Rattle.tasks.specs.Tests.{test11, test12, test13, tests}
+use Rattle.tasks.specs.Tests.{refuse, badEdition, test11, test12, test13, tests, testPlan}
 use Rattle.tasks.specs.AnswerLaws.{orNext-passed, refuse-passed, lowest-passed, firstMet-passed}
 use Rattle.tasks.specs.LimitsLaws.{limitTests, slackTests, tests-split, Labelled, limits-passed}
 use Rattle.tasks.specs.SlackLaws.{covers-compliant, compliant-ext}
@@ -90,3 +92,12 @@ module _ (c : Content) where
 
   pub tests-bounded : tests c ≡ Accepted → Bounded (c .tasks) (c .slack)
   tests-bounded a = tests-passed a .bounded
+
+module _ (p : Plan) where
+  pub plan-passed : testPlan p ≡ Accepted → (badEdition (p .edition) ≡ false) × (tests (contentOf p) ≡ Accepted)
+  unfolding testPlan
+  plan-passed a = let r = orNext-passed (refuse 1 (badEdition (p .edition))) _ a in (refuse-passed 1 _ (r .0), r .1)
+
+  pub plan-accepted : badEdition (p .edition) ≡ false → tests (contentOf p) ≡ Accepted → testPlan p ≡ Accepted
+  unfolding testPlan
+  plan-accepted e a = rw (e, a)

@@ -1,16 +1,21 @@
 // The records that every layer shares: a task, a plan, and the answer of a test. What document 01 says of them is in specs/.
+pub mod edition;
 pub mod limits;
 pub mod refusal;
 
-// Document 01's loop: separation T, budget C, priority offset Y, in ticks.
+// Document 01's loop: separation T, budget C, priority offset Y, and document 02's deadline D, in ticks. In edition 1 the deadline is an unused
+// place.
 pub struct Task {
     pub separation: u32,
     pub budget: u32,
     pub offset: u32,
+    pub deadline: u32,
 }
 
-// A table's entries, the slack, and the mark that says whether slack was offered (true) or found. Places from `cores` and `tasks` on are unused.
+// A table's edition and entries, the slack, and the mark that says whether slack was offered (true) or found. Places from `cores` and `tasks` on
+// are unused.
 pub struct Plan {
+    pub edition: u8,
     pub offered: bool,
     pub cores: usize,
     pub tasks: usize,

@@ -18,6 +18,9 @@ pub const SEPARATION_HIGH: u32 = 100_000;
 // The largest bound: 16 times the largest separation.
 pub const BOUND_HIGH: u32 = 1_600_000;
 
+// The largest deadline.
+pub const DEADLINE_HIGH: u32 = 1_600_000;
+
 // The largest tick of a log's entry.
 pub const TICK_HIGH: u32 = 1_000_000_000;
 

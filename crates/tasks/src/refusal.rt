@@ -52,3 +52,5 @@ pub const SENTENCE_BUFFER_TOO_SHORT: u8 = 25;
 pub const WISH_OUTSIDE: u8 = 26;
 
 pub const NO_SOLUTION: u8 = 27;
+
+pub const DEADLINE_OUTSIDE: u8 = 28;
