@@ -16,7 +16,7 @@ use Rattle.tasks.specs.declared.Answer.{Answer}
 use Rattle.tasks.specs.declared.Answer.the-variants.{Accepted, Refused}
 use Rattle.tasks.specs.TaskSet.{TaskSet, row}
 use Rattle.tasks.specs.Content.{Content}
-use Rattle.tasks.specs.Tests.{firstMet, orNext, foundTest, boundsTest, test3, test4, test5, test6, test7, test8, test9, test10, test11, tests}
+use Rattle.tasks.specs.Tests.{firstMet, orNext, foundTest, boundsTest, test3, test4, test5, test6, test7, test8, test28, test9, test10, test11, tests}
 use Rattle.tasks.specs.AnswerLaws.{pass-lowest}
 use Rattle.tasks.specs.LimitsLaws.{limitTests}
 use Rattle.analysis.specs.SlackTest.{offeredTest, hadSlack}
@@ -47,10 +47,11 @@ module _ (c : Content) (same : (i : ℕ) → i < c .tasks .count → c .slack i 
       go Accepted e false z = rw e (sym (test-offered c e (tab (hadSlack c) 16) refl (eqb-false _ _ z)))
 
 other :
-    (t : TaskSet) (l x y : ℕ → ℕ) →
-    judging (record { tasks = t; label = l; offers = 0; slack = x }) ≡ judging (record { tasks = t; label = l; offers = 0; slack = y })
-unfolding judging limitTests test3 test4 test5 test6 test7 test8 test9 test10 test11 offeredTest hadSlack
-other t l x y = refl
+    (e : ℕ) (t : TaskSet) (l x y : ℕ → ℕ) →
+    judging (record { edition = e; tasks = t; label = l; offers = 0; slack = x })
+    ≡ judging (record { edition = e; tasks = t; label = l; offers = 0; slack = y })
+unfolding judging limitTests test3 test4 test5 test6 test7 test8 test28 test9 test10 test11 offeredTest hadSlack
+other e t l x y = refl
 
 -- 11 looks at the two counts only
 eleven : (c d : Content) → c .tasks .count ≡ d .tasks .count → c .offers ≡ d .offers → test11 c ≡ test11 d
@@ -61,18 +62,18 @@ pub judging-limits : (c d : Content) (j i : ℕ) → limitTests c ≡ limitTests
 unfolding judging
 judging-limits c d j i e q = rw (e, q)
 
-module _ (c d : Content) (t : c .tasks ≡ d .tasks) (l : c .label ≡ d .label) (o : c .offers ≡ d .offers) where
+module _ (c d : Content) (e : c .edition ≡ d .edition) (t : c .tasks ≡ d .tasks) (l : c .label ≡ d .label) (o : c .offers ≡ d .offers) where
   pub judging-found : c .offers ≡ 0 → judging c ≡ judging d
   judging-found z =
-      (λ i. judging (record { tasks = t i; label = l i; offers = z i; slack = c .slack }))
-      ∙ other (d .tasks) (d .label) (c .slack) (d .slack)
-      ∙ (λ i. judging (record { tasks = d .tasks; label = d .label; offers = (sym z ∙ o) i; slack = d .slack }))
+      (λ i. judging (record { edition = e i; tasks = t i; label = l i; offers = z i; slack = c .slack }))
+      ∙ other (d .edition) (d .tasks) (d .label) (c .slack) (d .slack)
+      ∙ (λ i. judging (record { edition = d .edition; tasks = d .tasks; label = d .label; offers = (sym z ∙ o) i; slack = d .slack }))
 
   pub judging-count : (j i : ℕ) → limitTests c ≡ limitTests d → limitTests d ≡ Accepted → test11 d ≡ Refused j i → judging c ≡ judging d
   unfolding judging firstMet
-  judging-count j i e q v =
+  judging-count j i f q v =
       let w : test11 c ≡ Refused j i = count-same ∙ v in
-      rw (e, q, v, w)
+      rw (f, q, v, w)
     where
       count-same : test11 c ≡ test11 d
       count-same = eleven c d (ap (λ (s : TaskSet). s .count) t) o

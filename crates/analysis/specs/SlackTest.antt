@@ -1,7 +1,7 @@
 -- What a plan's slack is tested to, before its bounds are tested.
 --     offering       what a plan says, with a slack count of its own: a table's count may be wrong, a plan's mark can't
 --     offeredTest    12 of offered slack
---     taskTests      6 to 12
+--     taskTests      6 to 12, and 28
 --     hadSlack       the slack: offered, or found
 --     Offered        12 of offered slack, and that slack with zeros in unused places, with the tasks counted at it
 --     RatesTested    the answer by 9 to 12, and the slack with the tasks counted at it
@@ -18,7 +18,7 @@ use Rattle.tasks.specs.declared.Answer.{Answer}
 use Rattle.tasks.specs.declared.Answer.the-variants.{Accepted}
 use Rattle.tasks.specs.TaskSet.{TaskSet, found, row}
 use Rattle.tasks.specs.Content.{Content, contentOf}
-use Rattle.tasks.specs.Tests.{refuse, firstMet, orNext, badOffers, compliantTest, test6, test7, test8, test9, test10, test11}
+use Rattle.tasks.specs.Tests.{refuse, firstMet, orNext, badOffers, compliantTest, test6, test7, test8, test28, test9, test10, test11}
 use Rattle.tasks.specs.LimitsLaws.{limitTests}
 use Rattle.slack.specs.Rates.{ratesTest}
 use Rattle.slack.specs.Arrays.{Had}
@@ -26,16 +26,16 @@ use Rattle.analysis.specs.declared.slack_test.Tested.{Tested}
 
 unfoldable pub offering : Plan → ℕ → Content
 offering p k =
-    record { tasks = contentOf p .tasks; label = contentOf p .label; offers = k; slack = contentOf p .slack }
+    record { edition = p .edition; tasks = contentOf p .tasks; label = contentOf p .label; offers = k; slack = contentOf p .slack }
 
 unfoldable pub offeredTest : Content → Answer
 offeredTest c =
     cond (eqb (c .offers) 0) Accepted (compliantTest (c .tasks) (c .slack))
 
--- 6 to 12, in three stages
+-- 6 to 12, and 28, in three stages
 unfoldable pub taskTests : Content → Answer
 taskTests c =
-    orNext (firstMet (test6 c ∷ test7 c ∷ test8 c ∷ []))
+    orNext (firstMet (test6 c ∷ test7 c ∷ test8 c ∷ test28 c ∷ []))
     (orNext (firstMet (test9 c ∷ test10 c ∷ [])) (firstMet (test11 c ∷ offeredTest c ∷ [])))
 
 unfoldable pub hadSlack : Content → ℕ → ℕ

@@ -1,7 +1,7 @@
 -- The stages' answers joined: from the columns and the stages to document 01's tests of a plan.
 --     columns-set       the columns stand for the plan's tasks, by the numbers that the analysis reads; plain-ranges: whose ranges those have
---     frame-tests, fields-tests     3, 4 and 5, and 6, 7 and 8, from the plan's own arrays
---     limits-split      3 to 10 are the three stages
+--     frame-tests, fields-tests     3, 4 and 5, and 6, 7, 8 and 28, from the plan's own arrays
+--     limits-split      3 to 10, and 28, are the three stages
 --     limits-from       what the three stages leave
 --     stopped, passed-on                           a refusal is passed on, and a passed test leaves the next
 --     slack-tests, had-plan                        11 and 12 of a plan, and the slack that it has with the tasks counted at it
@@ -15,7 +15,7 @@ use lib.Dec.{ltb, eqb}
 use lib.ListN.{take}
 use borrow.Author.Tests.{ltb-true, ltb-false, eq-eqb, ne-eqb}
 use Rattle.laws.specs.Tab.{tab, cut}
-use Rattle.laws.specs.TabLaws.{tab-ext, getD-cut, cut-below, cut-above}
+use Rattle.laws.specs.TabLaws.{tab-ext, getD-cut, cut-below, cut-map}
 use Rattle.tasks.specs.declared.Task.{Task}
 use Rattle.tasks.specs.declared.Plan.{Plan}
 use Rattle.tasks.specs.declared.Answer.{Answer}
@@ -23,8 +23,8 @@ use Rattle.tasks.specs.declared.Answer.the-variants.{Accepted, Refused}
 use Rattle.tasks.specs.TaskSet.{TaskSet, plainTask, plain, counted, found, row}
 use Rattle.tasks.specs.PlainLaws.{plain-multiple, plain-shares, plain-counted, plain-compliant, plain-found}
 use Rattle.tasks.specs.AmountLaws.{counted-ext}
-use Rattle.tasks.specs.Content.{Content, contentOf, taskOf, noTask}
-use Rattle.tasks.specs.Tests.{badLabel, firstMet, orNext, compliantTest, test3, test4, test5, test6, test7, test8, test9, test10, test11}
+use Rattle.tasks.specs.Content.{inEdition, Content, contentOf, taskOf, noTask}
+use Rattle.tasks.specs.Tests.{badLabel, firstMet, orNext, compliantTest, test3, test4, test5, test6, test7, test8, test28, test9, test10, test11}
 use Rattle.tasks.specs.AnswerLaws.{refuse-passed, lowest-ext, firstMet-append, firstMet-passed}
 use Rattle.tasks.specs.Limits.{Limits}
 use Rattle.tasks.specs.LimitsLaws.{limitTests}
@@ -36,15 +36,11 @@ use Rattle.slack.specs.Arrays.{Had}
 use Rattle.analysis.specs.SlackTest.{offering, slackTest, offeredTest, hadSlack}
 use Rattle.slack.specs.StageLaws.{Framed}
 
--- a field of a list's tasks, as a column has it
-column : (n : ℕ) (l : List Task) (field : Task → ℕ) → field noTask ≡ 0 → n ≤ 16 → (i : ℕ) →
-    row (tab (cut n (λ i. field (taskOf l i)) 0) 16) i ≡ field (cut n (taskOf l) noTask i)
+-- a field of a row of tasks, as a column has it
+column : (n : ℕ) (task : ℕ → Task) (field : Task → ℕ) → field noTask ≡ 0 → n ≤ 16 → (i : ℕ) →
+    row (tab (cut n (λ i. field (task i)) 0) 16) i ≡ field (cut n task noTask i)
 unfolding row
-column n l field z h i = getD-cut n 16 (λ i. field (taskOf l i)) 0 h i ∙ go (ltb i n) refl
-  where
-    go : (b : Bool) → ltb i n ≡ b → cut n (λ i. field (taskOf l i)) 0 i ≡ field (cut n (taskOf l) noTask i)
-    go true e = cut-below n _ 0 i (ltb-true i n e) ∙ ap field (sym (cut-below n (taskOf l) noTask i (ltb-true i n e)))
-    go false e = cut-above n _ 0 i (ltb-false i n e) ∙ sym z ∙ ap field (sym (cut-above n (taskOf l) noTask i (ltb-false i n e)))
+column n task field z h i = getD-cut n 16 (λ i. field (task i)) 0 h i ∙ cut-map field n task 0 noTask z i
 
 pub columns-set :
     (p : Plan) → p .tasks ≤ 16 →
@@ -52,15 +48,16 @@ pub columns-set :
     ≡ plain (contentOf p .tasks)
 unfolding setFrom columnsOf contentOf noTask plain
 columns-set p h =
+    let task : ℕ → Task = λ i. inEdition (p .edition) (taskOf (p .task) i) in
     λ j.
     record {
       cores = p .cores;
       count = p .tasks;
       task = λ i.
           plainTask
-          (column (p .tasks) (p .task) (λ t. t .separation) refl h i j)
-          (column (p .tasks) (p .task) (λ t. t .budget) refl h i j)
-          (column (p .tasks) (p .task) (λ t. t .offset) refl h i j);
+          (column (p .tasks) task (λ t. t .separation) refl h i j)
+          (column (p .tasks) task (λ t. t .budget) refl h i j)
+          (column (p .tasks) task (λ t. t .offset) refl h i j);
     }
 
 pub plain-ranges : (s : TaskSet) → Ranges s → Ranges (plain s)
@@ -90,20 +87,22 @@ module _ (p : Plan) (k : ℕ) where
   frame-tests =
       rw (lowest-ext 4 (badLabel (cut (p .cores) (row (p .labels)) 0)) (badLabel (row (p .labels))) (p .cores) (label-cut (p .cores) (row (p .labels))))
 
-  pub fields-tests : fieldsTest (taskOf (p .task)) (p .tasks) ≡ firstMet (test6 (offering p k) ∷ test7 (offering p k) ∷ test8 (offering p k) ∷ [])
-  unfolding test6 test7 test8 offering contentOf fieldsTest
+  pub fields-tests :
+      fieldsTest (p .edition) (taskOf (p .task)) (p .tasks)
+      ≡ firstMet (test6 (offering p k) ∷ test7 (offering p k) ∷ test8 (offering p k) ∷ test28 (offering p k) ∷ [])
+  unfolding test6 test7 test8 test28 offering contentOf fieldsTest
   fields-tests = fields-scan p
 
 module _ (c : Content) where
   pub limits-split :
       limitTests c
       ≡ orNext (firstMet (test3 c ∷ test4 c ∷ test5 c ∷ []))
-      (orNext (firstMet (test6 c ∷ test7 c ∷ test8 c ∷ [])) (firstMet (test9 c ∷ test10 c ∷ [])))
+      (orNext (firstMet (test6 c ∷ test7 c ∷ test8 c ∷ test28 c ∷ [])) (firstMet (test9 c ∷ test10 c ∷ [])))
   unfolding limitTests
   limits-split =
-      firstMet-append (test3 c ∷ test4 c ∷ test5 c ∷ []) (test6 c ∷ test7 c ∷ test8 c ∷ test9 c ∷ test10 c ∷ [])
+      firstMet-append (test3 c ∷ test4 c ∷ test5 c ∷ []) (test6 c ∷ test7 c ∷ test8 c ∷ test28 c ∷ test9 c ∷ test10 c ∷ [])
       ∙ ap (orNext (firstMet (test3 c ∷ test4 c ∷ test5 c ∷ [])))
-      (firstMet-append (test6 c ∷ test7 c ∷ test8 c ∷ []) (test9 c ∷ test10 c ∷ []))
+      (firstMet-append (test6 c ∷ test7 c ∷ test8 c ∷ test28 c ∷ []) (test9 c ∷ test10 c ∷ []))
 
   pub rates-tests : (s : TaskSet) → s ≡ plain (c .tasks) → ratesTest s ≡ firstMet (test9 c ∷ test10 c ∷ [])
   unfolding ratesTest test9 test10

@@ -1,8 +1,9 @@
-// The test of a plan that is handed in unchecked, by 3 to 13: the writer's and the opening's.
+// The test of a plan that is handed in unchecked, by 1, 3 to 13 and 28: the writer's and the opening's.
 use crate::slack_test::test_slack;
 use fields::bounds::bounds;
 use tasks::Answer;
 use tasks::Plan;
+use tasks::edition::is_unknown;
 use tasks::refusal;
 ghost use mathlib.Core.Path.{_≡_};
 ghost use mathlib.Core.Bool.{cond, not};
@@ -10,7 +11,8 @@ ghost use Prim.Native.Nat.{_≤_};
 ghost use lib.Dec.{eqb};
 ghost use Rattle.laws.specs.First.{first};
 ghost use Rattle.tasks.specs.TaskSet.{row};
-ghost use Rattle.tasks.specs.Tests.{testPlan};
+ghost use Rattle.tasks.specs.Content.{contentOf};
+ghost use Rattle.tasks.specs.Tests.{tests, testPlan};
 ghost use Rattle.analysis.specs.PlanTest.{boundsOf, foundTests};
 
 // The lowest task at which the two slacks differ, or `tasks` where there is none.
@@ -63,8 +65,9 @@ pub fn slack_count(offered: bool, tasks: usize) -> usize
     0
 }
 
-pub fn test(plan: Plan) -> Answer
-    ensures { λ r. ⌜ r ≡ testPlan plan ⌝ }
+// 3 to 13, and 28.
+fn test_entries(plan: Plan) -> Answer
+    ensures { λ r. ⌜ r ≡ tests (contentOf plan) ⌝ }
 {
     let offers = slack_count(plan.offered, plan.tasks);
     let tested = test_slack(plan, offers);
@@ -77,4 +80,17 @@ pub fn test(plan: Plan) -> Answer
         return found_test(plan, had);
     }
     plan_bounds(plan, had)
+}
+
+// "a plan of another edition meets 1 too"
+pub fn test(plan: Plan) -> Answer
+    ensures { λ r. ⌜ r ≡ testPlan plan ⌝ }
+{
+    if is_unknown(plan.edition) {
+        return Answer::Refused {
+            number: refusal::EDITION_UNKNOWN,
+            index: 0,
+        };
+    }
+    test_entries(plan)
 }

@@ -130,7 +130,7 @@ fn test_tasks(plan: Plan, offers: usize) -> Tested
 {
     let tasks = plan.tasks;
     let task = plan.task;
-    let fielded = task_ranges(task, tasks);
+    let fielded = task_ranges(task, tasks, plan.edition);
     let Answer::Accepted = fielded else {
         return untested(fielded);
     };

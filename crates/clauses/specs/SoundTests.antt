@@ -10,7 +10,7 @@ use lib.ListN.{getD}
 use lib.Dec.{ltb, leb, eqb}
 use Rattle.tasks.specs.declared.Task.{Task}
 use Rattle.tasks.specs.TaskSet.{row}
-use Rattle.tasks.specs.Content.{zeroTask, taskOf}
+use Rattle.tasks.specs.Content.{dated, zeroTask, taskOf}
 use Rattle.tasks.specs.Tests.{testPlan}
 use Rattle.state.specs.declared.State.{State}
 use Rattle.state.specs.State.{flagAt}
@@ -20,8 +20,9 @@ use Rattle.state.specs.AllLaws.{all-at, all-step}
 unfoldable pub labelZero : ℕ → List ℕ → ℕ → Bool
 labelZero cores labels i = ltb i cores || eqb (row labels i) 0
 
-unfoldable pub taskZero : ℕ → List Task → List ℕ → ℕ → Bool
-taskZero tasks task slack i = ltb i tasks || (zeroTask (taskOf task i) && eqb (row slack i) 0)
+unfoldable pub taskZero : ℕ → ℕ → List Task → List ℕ → ℕ → Bool
+taskZero edition tasks task slack i =
+    (ltb i tasks || (zeroTask (taskOf task i) && eqb (row slack i) 0)) && (dated edition || eqb (taskOf task i .deadline) 0)
 
 unfoldable pub loopHolds : ℕ → ℕ → List ℕ → List Bool → List ℕ → List ℕ → ℕ → Bool
 loopHolds tasks clock jobs released last release i =
@@ -54,7 +55,7 @@ pub sound-parts :
     (s : State)
     → soundOf s
     ≡ passes (testPlan (s .plan))
-    && ((allOf (labelZero (s .plan .cores) (s .plan .labels)) 8 && allOf (taskZero (s .plan .tasks) (s .plan .task) (s .plan .slack)) 16)
+    && ((allOf (labelZero (s .plan .cores) (s .plan .labels)) 8 && allOf (taskZero (s .plan .edition) (s .plan .tasks) (s .plan .task) (s .plan .slack)) 16)
     && (leb (s .clock) 4000000000
     && (allOf (loopHolds (s .plan .tasks) (s .clock) (s .jobs) (s .released) (s .last) (s .release)) 16
     && allOf (placeHolds (s .plan .task) (s .clock) (s .jobs) (s .release) (s .remaining)) 256)))

@@ -1,12 +1,13 @@
 // The clauses of *sound* that look at the places of a state: the unused ones of its table part, each loop's, and each job's.
 use tasks::Task;
+use tasks::edition::has_deadlines;
 use tasks::limits;
 use tidy::is_no_task;
 ghost use mathlib.Core.Path.{_≡_};
 ghost use mathlib.Core.Bool.{not, _&&_, _||_};
 ghost use Prim.Native.Nat.{_+_, _-_, _/_, _%_, _<_};
 ghost use Rattle.tasks.specs.TaskSet.{row};
-ghost use Rattle.tasks.specs.Content.{zeroTask};
+ghost use Rattle.tasks.specs.Content.{dated, zeroTask};
 ghost use lib.Dec.{ltb, leb, eqb};
 ghost use Rattle.state.specs.SoundState.{allOf, loopTest, placeTest};
 ghost use Rattle.clauses.specs.SoundTests.{labelZero, taskZero, loopHolds, placeHolds};
@@ -41,6 +42,16 @@ fn task_zero(i: usize, tasks: usize, task: Task, slack: u32) -> bool
     slack == 0
 }
 
+// "the deadline, an unused place in edition 1"
+fn deadline_zero(edition: u8, deadline: u32) -> bool
+    ensures { λ r. ⌜ r ≡ dated edition || eqb deadline 0 ⌝ }
+{
+    if has_deadlines(edition) {
+        return true;
+    }
+    deadline == 0
+}
+
 // "every unused place, also in the table part, is zero": the cores' labels
 pub fn labels_zero(labels: &[u8; 8], cores: usize) -> bool
     ensures { λ r. ⌜ r ≡ allOf (labelZero cores (now (labels .entry))) 8 ⌝ }
@@ -56,13 +67,16 @@ pub fn labels_zero(labels: &[u8; 8], cores: usize) -> bool
 }
 
 // The same of the tasks and their slack.
-pub fn tasks_zero(task: [Task; 16], slack: &[u32; 16], tasks: usize) -> bool
-    ensures { λ r. ⌜ r ≡ allOf (taskZero tasks task (now (slack .entry))) 16 ⌝ }
+pub fn tasks_zero(edition: u8, task: [Task; 16], slack: &[u32; 16], tasks: usize) -> bool
+    ensures { λ r. ⌜ r ≡ allOf (taskZero edition tasks task (now (slack .entry))) 16 ⌝ }
 {
     let mut i = 0;
     while i < 16 {
         let t = task[i];
         if !task_zero(i, tasks, t, slack[i]) {
+            return false;
+        }
+        if !deadline_zero(edition, t.deadline) {
             return false;
         }
         i += 1;

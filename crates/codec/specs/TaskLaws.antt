@@ -1,73 +1,162 @@
 -- Laws of a task's entry: the only ones that look at a task's fields.
+--     size-low, size-high    it has 12 bytes or more, and 16 or fewer; size-dated: with a deadline 16
+--     size-times        entries of n tasks have 16 × n bytes or fewer; entry-inside: one that is among them ends within them
+--     edition-in        a table's tasks are as its edition has them
 --     length-task       how many bytes it has
+--     bytes-edition     it looks at a deadline that the edition has
 --     task-same         what is read at a place is a matter of the bytes of the entry there
 --     NarrowTask        the task's numbers are below 2 ^ 32, of which an entry has four bytes each; limits-narrow: so they are within the limits
---     task-back         such a task is read back from its entry
+--     task-back         such a task is read back from its entry as the edition has it
 --     task-again        the entry of the task read at a place is the bytes from there on
-use Prim.Native.Nat.{ℕ, _+_, _^_, _≤_, _<_}
+use Prim.Native.Nat.{ℕ, _+_, _*_, _^_, _≤_, _<_}
 use native.Mathlib.Nat.{add-assoc}
 use native.Mathlib.Omega.{arith}
-use mathlib.Core.Path.{_≡_, refl, sym}
+use mathlib.Core.Path.{_≡_, refl, sym, _∙_}
+use mathlib.Core.Bool.{Bool, true, false, cond}
 use mathlib.Core.List.{List, [], _++_, append-assoc, append-nil}
 use lib.ListN.{length, take, drop, length-append}
 use lib.Seq.{take-add, drop-drop}
 use Rattle.tasks.specs.declared.Task.{Task}
-use Rattle.tasks.specs.TaskSet.{TaskSet}
-use Rattle.tasks.specs.Limits.{Limits}
-use Rattle.numbers.specs.Bytes.{byte, digits}
-use Rattle.codec.specs.Table.{taskSize, taskIn, taskBytes}
+use Rattle.tasks.specs.Content.{dated, inEdition, Content}
+use Rattle.tasks.specs.ContentLaws.{cut-edition}
+use Rattle.tasks.specs.TestsLaws.{Passed}
+use Rattle.numbers.specs.Bytes.{byte, number, digits}
+use Rattle.codec.specs.Table.{taskSize, editionIn, taskCount, taskIn, plainBytes, taskBytes, taskSetIn, contentIn}
 use Rattle.numbers.specs.ByteLaws.{Bytes, number-same, number-digits, number-digits-at, digits-number, length-digits}
 
-pub length-task : (k : Task) → length (taskBytes k) ≡ taskSize
-unfolding taskBytes digits
-length-task k = refl
+module _ (e : ℕ) where
+  pub size-low : 12 ≤ taskSize e
+  unfolding taskSize
+  size-low = go (dated e)
+    where
+      go : (b : Bool) → 12 ≤ cond b 16 12
+      go true = omega arith
+      go false = omega arith
+
+  pub size-high : taskSize e ≤ 16
+  unfolding taskSize
+  size-high = go (dated e)
+    where
+      go : (b : Bool) → cond b 16 12 ≤ 16
+      go true = omega arith
+      go false = omega arith
+
+  pub size-dated : dated e ≡ true → taskSize e ≡ 16
+  unfolding taskSize
+  size-dated q = rw q
+
+  pub size-times : (n : ℕ) → taskSize e * n ≤ 16 * n
+  unfolding taskSize
+  size-times n = go (dated e)
+    where
+      go : (b : Bool) → cond b 16 12 * n ≤ 16 * n
+      go true = omega arith
+      go false = omega arith
+
+  pub entry-inside : (i n : ℕ) → i < n → taskSize e * i + taskSize e ≤ taskSize e * n
+  unfolding taskSize
+  entry-inside i n h = go (dated e)
+    where
+      go : (b : Bool) → cond b 16 12 * i + cond b 16 12 ≤ cond b 16 12 * n
+      go true = omega arith
+      go false = omega arith
+
+  pub length-task : (k : Task) → length (taskBytes e k) ≡ taskSize e
+  unfolding taskBytes plainBytes digits taskSize
+  length-task k = go (dated e)
+    where
+      go : (b : Bool) → length ((digits 4 (k .separation) ++ digits 4 (k .budget) ++ digits 4 (k .offset)) ++ cond b (digits 4 (k .deadline)) []) ≡ cond b 16 12
+      go true = refl
+      go false = refl
+
+  pub bytes-edition : (k : Task) → taskBytes e (inEdition e k) ≡ taskBytes e k
+  unfolding taskBytes plainBytes
+  bytes-edition k = go (dated e)
+    where
+      go : (b : Bool) → plainBytes k ++ cond b (digits 4 (cond b (k .deadline) 0)) [] ≡ plainBytes k ++ cond b (digits 4 (k .deadline)) []
+      go true = refl
+      go false = refl
 
 -- tasks with equal fields are the same
-task-ext : (k l : Task) → k .separation ≡ l .separation → k .budget ≡ l .budget → k .offset ≡ l .offset → k ≡ l
-task-ext k l e f g = λ i. record { separation = e i; budget = f i; offset = g i }
+task-ext : (k l : Task) → k .separation ≡ l .separation → k .budget ≡ l .budget → k .offset ≡ l .offset → k .deadline ≡ l .deadline → k ≡ l
+task-ext k l e f g h = λ i. record { separation = e i; budget = f i; offset = g i; deadline = h i }
 
 pub task-same :
-    (t u : List ℕ) (i j : ℕ) → ((d : ℕ) → d < taskSize → byte t (i + d) ≡ byte u (j + d)) → taskIn t i ≡ taskIn u j
+    (e : ℕ) (t u : List ℕ) (i j : ℕ) → ((d : ℕ) → d < taskSize e → byte t (i + d) ≡ byte u (j + d)) → taskIn e t i ≡ taskIn e u j
 unfolding taskIn
-task-same t u i j h =
-    task-ext (taskIn t i) (taskIn u j)
-    (number-same 4 t u i j (λ d l. h d (omega arith)))
-    (number-same 4 t u (i + 4) (j + 4) (λ d l. rw (add-assoc, add-assoc) (h (4 + d) (omega arith))))
-    (number-same 4 t u (i + 8) (j + 8) (λ d l. rw (add-assoc, add-assoc) (h (8 + d) (omega arith))))
+task-same e t u i j h =
+    task-ext (taskIn e t i) (taskIn e u j)
+    (number-same 4 t u i j (λ d l. h d (omega (arith, size-low e))))
+    (number-same 4 t u (i + 4) (j + 4) (λ d l. rw (add-assoc, add-assoc) (h (4 + d) (omega (arith, size-low e)))))
+    (number-same 4 t u (i + 8) (j + 8) (λ d l. rw (add-assoc, add-assoc) (h (8 + d) (omega (arith, size-low e)))))
+    (go (dated e) refl)
+  where
+    go : (b : Bool) → dated e ≡ b → cond b (number 4 t (i + 12)) 0 ≡ cond b (number 4 u (j + 12)) 0
+    go true q =
+        number-same 4 t u (i + 12) (j + 12) (λ d l. rw (add-assoc, add-assoc) (h (12 + d) (omega (arith, size-dated e q))))
+    go false q = refl
 
-pub record NarrowTask (k : Task) : Type 0 where
+pub record NarrowTask (e : ℕ) (k : Task) : Type 0 where
   pub separation : k .separation < 256 ^ 4
   pub budget : k .budget < 256 ^ 4
   pub offset : k .offset < 256 ^ 4
+  pub deadline : dated e ≡ true → k .deadline < 256 ^ 4
 
-pub limits-narrow : (s : TaskSet) → Limits s → (i : ℕ) → i < s .count → NarrowTask (s .task i)
-limits-narrow s L i h =
+pub limits-narrow : (c : Content) → Passed c → (i : ℕ) → i < c .tasks .count → NarrowTask (c .edition) (c .tasks .task i)
+limits-narrow c P i h =
+    let L = P .limits in
     record {
       separation = omega (arith, L .separation-high i h);
       budget = omega (arith, L .separation-high i h, L .budget-high i h);
       offset = omega (arith, L .separation-high i h, L .offset-high i h);
+      deadline = λ d. omega (arith, P .deadline-high d i h);
     }
 
-pub task-back : (k : Task) → NarrowTask k → taskIn (taskBytes k) 0 ≡ k
-unfolding taskIn taskBytes
-task-back k n =
-    task-ext (taskIn (taskBytes k) 0) k
-    (rw append-assoc (number-digits 4 (k .separation) [] _ (n .separation)))
-    (rw append-assoc (number-digits-at 4 (k .budget) (digits 4 (k .separation)) _ 4 (length-digits 4 _) (n .budget)))
-    (rw (← (append-nil (digits 4 (k .offset))))
-    (number-digits-at 4 (k .offset) (digits 4 (k .separation) ++ digits 4 (k .budget)) [] 8
-    (omega (arith, length-append (digits 4 (k .separation)) (digits 4 (k .budget)), length-digits 4 (k .separation), length-digits 4 (k .budget)))
-    (n .offset)))
+pub task-back : (e : ℕ) (k : Task) → NarrowTask e k → taskIn e (taskBytes e k) 0 ≡ inEdition e k
+unfolding taskIn taskBytes plainBytes
+task-back e k n =
+    task-ext (taskIn e (taskBytes e k) 0) (inEdition e k)
+    (rw (append-assoc, append-assoc) (number-digits 4 (k .separation) [] _ (n .separation)))
+    (rw (append-assoc, append-assoc) (number-digits-at 4 (k .budget) (digits 4 (k .separation)) _ 4 (length-digits 4 _) (n .budget)))
+    (rw append-assoc (number-digits-at 4 (k .offset) (digits 4 (k .separation) ++ digits 4 (k .budget)) _ 8 eight (n .offset)))
+    (go (dated e) refl)
+  where
+    eight : length (digits 4 (k .separation) ++ digits 4 (k .budget)) ≡ 8
+    eight = omega (arith, length-append (digits 4 (k .separation)) (digits 4 (k .budget)), length-digits 4 (k .separation), length-digits 4 (k .budget))
 
-pub task-again : (t : List ℕ) (at : ℕ) → Bytes t → at + taskSize ≤ length t → taskBytes (taskIn t at) ≡ take taskSize (drop at t)
-unfolding taskBytes taskIn
-task-again t at b h =
-    rw (
-      digits-number 4 t at b (omega arith),
-      digits-number 4 t (at + 4) b (omega arith),
-      digits-number 4 t (at + 8) b (omega arith),
-      ← (drop-drop 4 at t),
-      ← (drop-drop 8 at t),
-      ← (take-add 4 4 (drop at t)),
-    )
-    (sym (take-add 8 4 (drop at t)))
+    go : (b : Bool) → dated e ≡ b → cond b (number 4 (plainBytes k ++ cond b (digits 4 (k .deadline)) []) 12) 0 ≡ cond b (k .deadline) 0
+    go true q =
+        rw (← (append-nil (digits 4 (k .deadline))))
+        (number-digits-at 4 (k .deadline) (plainBytes k) [] 12 refl (n .deadline q))
+    go false q = refl
+
+pub task-again :
+    (e : ℕ) (t : List ℕ) (at : ℕ) → Bytes t → at + taskSize e ≤ length t → taskBytes e (taskIn e t at) ≡ take (taskSize e) (drop at t)
+unfolding taskBytes taskIn taskSize plainBytes
+task-again e t at b h = go (dated e) refl
+  where
+    plain : at + 12 ≤ length t → digits 4 (number 4 t at) ++ digits 4 (number 4 t (at + 4)) ++ digits 4 (number 4 t (at + 8)) ≡ take 12 (drop at t)
+    plain l =
+        rw (
+          digits-number 4 t at b (omega arith),
+          digits-number 4 t (at + 4) b (omega arith),
+          digits-number 4 t (at + 8) b (omega arith),
+          ← (drop-drop 4 at t),
+          ← (drop-drop 8 at t),
+          ← (take-add 4 4 (drop at t)),
+        )
+        (sym (take-add 8 4 (drop at t)))
+
+    go :
+        (d : Bool) → dated e ≡ d
+        → (digits 4 (number 4 t at) ++ digits 4 (number 4 t (at + 4)) ++ digits 4 (number 4 t (at + 8)))
+        ++ cond d (digits 4 (cond d (number 4 t (at + 12)) 0)) []
+        ≡ take (cond d 16 12) (drop at t)
+    go true q =
+        rw (plain (omega (arith, size-low e)), digits-number 4 t (at + 12) b (omega (arith, size-dated e q)), ← (drop-drop 12 at t))
+        (sym (take-add 12 4 (drop at t)))
+    go false q = rw (append-nil _) (plain (omega (arith, size-low e)))
+
+pub edition-in : (t : List ℕ) (i : ℕ) → inEdition (contentIn t .edition) (contentIn t .tasks .task i) ≡ contentIn t .tasks .task i
+unfolding contentIn taskSetIn taskIn
+edition-in t i = cut-edition (editionIn t) (taskCount t) _ i

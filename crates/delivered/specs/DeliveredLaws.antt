@@ -24,7 +24,6 @@ use Rattle.tasks.specs.TaskSet.{TaskSet, row}
 use Rattle.tasks.specs.Content.{contentOf, tidy}
 use Rattle.tasks.specs.ContentLaws.{content-tidy, tidy-tidy}
 use Rattle.tasks.specs.Tests.{testPlan, unlessRefused}
-use Rattle.tasks.specs.TestsLaws.{tests-compliant, tests-bounded}
 use Rattle.machine.specs.Machine.{Job, Lane, Machine, opened, admitted, pending, waiting, idle, onCore, runs, advanced, tick}
 use Rattle.machine.specs.Admission.{admitTests}
 use Rattle.machine.specs.Reached.{Reached, opening, release}
@@ -35,7 +34,7 @@ use Rattle.state.specs.State.{jobsIn, stateOf}
 use Rattle.state.specs.SoundState.{allOf}
 use Rattle.state.specs.Calls.{releaseOf, tickedOf, stepOf}
 use Rattle.state.specs.Fit.{Fit}
-use Rattle.state.specs.FitLaws.{plan-limits, in-count}
+use Rattle.state.specs.FitLaws.{plan-limits, plan-compliant, plan-bounded, in-count}
 use Rattle.state.specs.TidyLaws.{tidy-accepted}
 use Rattle.state.specs.KeptLaws.{step-state, release-state, reached-fit, open-state}
 use Rattle.state.specs.TakenLaws.{named-runs}
@@ -190,30 +189,26 @@ module _ (p : Plan) (a : testPlan p ≡ Accepted) where
       step-taken (clock h) (state (engineOf p) h) (state (machineEngine s) h) low (like (engineOf p) (machineEngine s) 4000000000 mirrored h low)
 
   pub plan-history : HistoryClaim (engineOf p) s (contentOf p .slack) 4000000000
-  unfolding testPlan
   plan-history =
       mirror-history (engineOf p) (machineEngine s) 4000000000 mirrored s (contentOf p .slack)
-      (machine-history s (contentOf p .slack) (plan-limits p a) (tests-compliant (contentOf p) a) (tests-bounded (contentOf p) a) 4000000000)
+      (machine-history s (contentOf p .slack) (plan-limits p a) (plan-compliant p a) (plan-bounded p a) 4000000000)
 
   module _ (l : List Entry) (ticks : (e : ℕ) → e < length l → tickAt l e ≤ 1000000000) where
     pub plan-demand : Claim (engineOf p) s (contentOf p .slack) l
-    unfolding testPlan
     plan-demand =
-        mirror-demand s (contentOf p .slack) (plan-limits p a) (tests-compliant (contentOf p) a) (tests-bounded (contentOf p) a) l
+        mirror-demand s (contentOf p .slack) (plan-limits p a) (plan-compliant p a) (plan-bounded p a) l
         1000000000 ticks (engineOf p) 4000000000 mirrored (omega arith)
 
     pub plan-numbers : (e : ℕ) → outcome (engineOf p) l e ≡ met (engineOf p) s l e
-    unfolding testPlan
     plan-numbers =
-        mirror-numbers s (contentOf p .slack) (plan-limits p a) (tests-compliant (contentOf p) a) (tests-bounded (contentOf p) a) l
+        mirror-numbers s (contentOf p .slack) (plan-limits p a) (plan-compliant p a) (plan-bounded p a) l
         1000000000 ticks (engineOf p) 4000000000 mirrored (omega arith)
 
     run-ends : clock (whole (machineEngine s) l) < 4000000000
-    unfolding testPlan
     run-ends =
         omega (
           arith,
-          whole-clock s (contentOf p .slack) (plan-limits p a) (tests-compliant (contentOf p) a) (tests-bounded (contentOf p) a) l 1000000000 ticks,
+          whole-clock s (contentOf p .slack) (plan-limits p a) (plan-compliant p a) (plan-bounded p a) l 1000000000 ticks,
         )
 
     same-calls : whole (engineOf p) l ≡ whole (machineEngine s) l

@@ -19,11 +19,10 @@ use native.Mathlib.Omega.{arith}
 use lib.ListN.{length}
 use Rattle.tasks.specs.declared.Answer.the-variants.{Accepted}
 use Rattle.tasks.specs.Content.{Content}
-use Rattle.tasks.specs.Tests.{tests, testPlan}
+use Rattle.tasks.specs.Tests.{testPlan}
 use Rattle.codec.specs.Table.{contentIn, verdict}
 use Rattle.table.specs.Judged.{judged}
-use Rattle.roundtrip.specs.SectionLaws.{verdict-parts}
-use Rattle.roundtrip.specs.RoundTrip.{judged-fits}
+use Rattle.roundtrip.specs.RoundTrip.{judged-fits, judged-passes}
 use Rattle.logs.specs.LogBytes.{entryCount, entriesIn, logTest}
 use Rattle.logs.specs.LogLaws.{entries-length, entry-at, log-ticks}
 use Rattle.state.specs.Calls.{stepOf}
@@ -52,8 +51,7 @@ log-early l b e h =
 
 module _ (t : List ℕ) (a : verdict t ≡ Accepted) where
   pub plan-passes : testPlan (judged t .plan) ≡ Accepted
-  unfolding testPlan
-  plan-passes = ap tests (judged-fits t a) ∙ verdict-parts t a .content
+  plan-passes = judged-passes t a
 
   pub demand-histories : HistoryClaim (runOn t) (contentIn t .tasks) (contentIn t .slack) 4000000000
   demand-histories =

@@ -4,7 +4,7 @@
 --     metAt              the first number that an index meets
 --     Rising             numbers that rise, all below `nothing`
 --     scan-more          the scan of rising numbers, one index more
---     rangeTests         6, 7 and 8, or 26 on a wish sheet; range-scan: their scan
+--     rangeTests         6, 7, 8, or 26 on a wish sheet, and 28; scan-fields, scan-wishes: their scan
 --     range-none, range-lower, range-kept    of no task, of one more that meets a lower number, and of one that doesn't
 --     seen-none, seen-some    what is kept, by whether a number is
 use Prim.Native.Nat.{ℕ, _+_, _<_, _≤_}
@@ -19,7 +19,7 @@ use Rattle.laws.specs.First.{first}
 use Rattle.laws.specs.FirstLaws.{first-or-none, none-more, found-at, found-stays}
 use Rattle.tasks.specs.declared.Answer.{Answer}
 use Rattle.tasks.specs.declared.Answer.the-variants.{Accepted, Refused}
-use Rattle.tasks.specs.Tests.{refuseAt, lowest, orNext, firstMet, numberOf, indexOf, badSeparation, badBudget, badOffset, badWish}
+use Rattle.tasks.specs.Tests.{refuseAt, lowest, orNext, firstMet, numberOf, indexOf, badSeparation, badBudget, badOffset, badWish, badDeadline}
 use Rattle.tasks.specs.declared.Task.{Task}
 use Rattle.tasks.specs.AnswerLaws.{lowest-found, lowest-none}
 use Rattle.fields.specs.Stages.{nothing, metBy, fieldsTest, wishesTest}
@@ -136,58 +136,62 @@ module _ (n k i : ℕ) where
           (sym (seen-some (t .0) n (λ z. omega (arith, z, below-nothing (t .0) l (r .1)))))
       go rest Accepted q false p = rw (lowest-more (t .0) (t .1) n, q, p) (rest (rw q at e))
 
--- the last of the three tests, with its number
+-- 26 on a wish sheet, else 8
 abbrev lastTest : Bool → (ℕ → Task) → ℕ × (ℕ → Bool)
 lastTest true task = (26, λ i. badWish (task i))
 lastTest false task = (8, λ i. badOffset (task i))
 
-pub rangeTests : Bool → (ℕ → Task) → List (ℕ × (ℕ → Bool))
-rangeTests wishes task =
-    (6, λ i. badSeparation (task i)) ∷ (7, λ i. badBudget (task i)) ∷ lastTest wishes task ∷ []
+pub rangeTests : ℕ → Bool → (ℕ → Task) → List (ℕ × (ℕ → Bool))
+rangeTests e wishes task =
+    (6, λ i. badSeparation (task i))
+    ∷ (7, λ i. badBudget (task i))
+    ∷ lastTest wishes task
+    ∷ (28, λ i. badDeadline e (task i))
+    ∷ []
 
-pub scan-fields : (task : ℕ → Task) (n : ℕ) → scan (rangeTests false task) n ≡ fieldsTest task n
+pub scan-fields : (e : ℕ) (task : ℕ → Task) (n : ℕ) → scan (rangeTests e false task) n ≡ fieldsTest e task n
 unfolding scan rangeTests fieldsTest firstMet
-scan-fields task n = refl
+scan-fields e task n = refl
 
-pub scan-wishes : (task : ℕ → Task) (n : ℕ) → scan (rangeTests true task) n ≡ wishesTest task n
+pub scan-wishes : (e : ℕ) (task : ℕ → Task) (n : ℕ) → scan (rangeTests e true task) n ≡ wishesTest e task n
 unfolding scan rangeTests wishesTest firstMet
-scan-wishes task n = refl
+scan-wishes e task n = refl
 
-module _ (wishes : Bool) (task : ℕ → Task) where
-  pub range-none : scan (rangeTests wishes task) 0 ≡ seen nothing 0
+module _ (edition : ℕ) (wishes : Bool) (task : ℕ → Task) where
+  pub range-none : scan (rangeTests edition wishes task) 0 ≡ seen nothing 0
   unfolding scan rangeTests seen lowest first
   range-none = last wishes
     where
-      last : (b : Bool) → scan (rangeTests b task) 0 ≡ seen nothing 0
+      last : (b : Bool) → scan (rangeTests edition b task) 0 ≡ seen nothing 0
       last true = refl
       last false = refl
 
-  met-at : (n : ℕ) → metAt (rangeTests wishes task) n ≡ metBy wishes (task n)
+  met-at : (n : ℕ) → metAt (rangeTests edition wishes task) n ≡ metBy edition wishes (task n)
   unfolding metAt rangeTests metBy
   met-at n = last wishes
     where
-      last : (b : Bool) → metAt (rangeTests b task) n ≡ metBy b (task n)
+      last : (b : Bool) → metAt (rangeTests edition b task) n ≡ metBy edition b (task n)
       last true = refl
       last false = refl
 
-  rising : Rising 0 (rangeTests wishes task)
+  rising : Rising 0 (rangeTests edition wishes task)
   unfolding rangeTests Rising
   rising = last wishes
     where
-      last : (b : Bool) → Rising 0 (rangeTests b task)
-      last true = (omega arith, (omega arith, (omega arith, omega arith)))
-      last false = (omega arith, (omega arith, (omega arith, omega arith)))
+      last : (b : Bool) → Rising 0 (rangeTests edition b task)
+      last true = (omega arith, (omega arith, (omega arith, (omega arith, omega arith))))
+      last false = (omega arith, (omega arith, (omega arith, (omega arith, omega arith))))
 
-  module _ (n k i : ℕ) (e : scan (rangeTests wishes task) n ≡ seen k i) where
+  module _ (n k i : ℕ) (e : scan (rangeTests edition wishes task) n ≡ seen k i) where
     more :
-        scan (rangeTests wishes task) (n + 1)
-        ≡ cond (ltb (metBy wishes (task n)) k) (seen (metBy wishes (task n)) n) (seen k i)
-    more = rw (← met-at n) (scan-more n k i 0 (rangeTests wishes task) rising e)
+        scan (rangeTests edition wishes task) (n + 1)
+        ≡ cond (ltb (metBy edition wishes (task n)) k) (seen (metBy edition wishes (task n)) n) (seen k i)
+    more = rw (← met-at n) (scan-more n k i 0 (rangeTests edition wishes task) rising e)
 
     -- q is the task's number, and k′ and i′ are kept from now on
-    module _ {q k′ i′ : ℕ} (m : q ≡ metBy wishes (task n)) where
-      pub range-lower : q < k → k′ ≡ q → i′ ≡ n → scan (rangeTests wishes task) (n + 1) ≡ seen k′ i′
-      range-lower h a b = rw (a, b, m) (more ∙ rw (lt-ltb (metBy wishes (task n)) k (rw m at h)))
+    module _ {q k′ i′ : ℕ} (m : q ≡ metBy edition wishes (task n)) where
+      pub range-lower : q < k → k′ ≡ q → i′ ≡ n → scan (rangeTests edition wishes task) (n + 1) ≡ seen k′ i′
+      range-lower h a b = rw (a, b, m) (more ∙ rw (lt-ltb (metBy edition wishes (task n)) k (rw m at h)))
 
-      pub range-kept : k ≤ q → k′ ≡ k → i′ ≡ i → scan (rangeTests wishes task) (n + 1) ≡ seen k′ i′
-      range-kept h a b = rw (a, b) (more ∙ rw (le-ltb (metBy wishes (task n)) k (rw m at h)))
+      pub range-kept : k ≤ q → k′ ≡ k → i′ ≡ i → scan (rangeTests edition wishes task) (n + 1) ≡ seen k′ i′
+      range-kept h a b = rw (a, b) (more ∙ rw (le-ltb (metBy edition wishes (task n)) k (rw m at h)))

@@ -3,10 +3,10 @@
 --     scan-found, scan-none        a scan that ended at f, below n or not
 --     not-both                     an answer is no refusal and a refusal: absurd
 --     column-more                  an array filled in order has one entry more
---     fields-scan, wishes-scan, bounds-scan     6 to 8, or 26, and 13, of a plan's content look at the tasks that the plan's array has in use
+--     fields-scan, wishes-scan, bounds-scan     6 to 8, or 26, 28, and 13, of a plan's content look at the tasks that the plan's array has in use
 use Prim.Native.Nat.{ℕ, _+_, _<_, _≤_}
-use mathlib.Core.Path.{_≡_, sym, _∙_, ap}
-use mathlib.Core.Bool.{Bool, true}
+use mathlib.Core.Path.{_≡_, refl, sym, _∙_, ap}
+use mathlib.Core.Bool.{Bool, true, false, cond, _&&_}
 use mathlib.Core.List.{List}
 use lib.ListN.{set}
 use borrow.Author.Tests.{lt-ltb, le-ltb}
@@ -14,14 +14,16 @@ use native.Mathlib.Omega.{arith}
 use Rattle.laws.specs.First.{first}
 use Rattle.laws.specs.FirstLaws.{first-le}
 use Rattle.laws.specs.Tab.{tab, cut}
-use Rattle.laws.specs.TabLaws.{filled-next, cut-below}
+use Rattle.laws.specs.TabLaws.{filled-next}
 use Rattle.tasks.specs.declared.Task.{Task}
 use Rattle.tasks.specs.declared.Plan.{Plan}
 use Rattle.tasks.specs.declared.Answer.{Answer}
 use Rattle.tasks.specs.declared.Answer.the-variants.{Accepted, Refused}
 use Rattle.tasks.specs.TaskSet.{boundOf, bound}
-use Rattle.tasks.specs.Content.{noTask, taskOf, contentOf}
-use Rattle.tasks.specs.Tests.{lowest, outside, badSeparation, badBudget, badOffset, badWish, overBound, boundsTest}
+use Rattle.tasks.specs.Numbers.{deadlineHigh}
+use Rattle.tasks.specs.Content.{dated, inEdition, taskOf, contentOf}
+use Rattle.tasks.specs.ContentLaws.{used-task}
+use Rattle.tasks.specs.Tests.{lowest, outside, badSeparation, badBudget, badOffset, badWish, badDeadline, overBound, boundsTest}
 use Rattle.tasks.specs.AnswerLaws.{lowest-found, lowest-none, lowest-ext}
 use Rattle.fields.specs.Stages.{fieldsTest, wishesTest}
 
@@ -47,30 +49,43 @@ pub column-more :
 column-more column f i h e = ap (λ (l : List ℕ). set l i (f i)) e ∙ filled-next f 0 i 16 h
 
 module _ (p : Plan) where
-  used : (i : ℕ) → i < p .tasks → contentOf p .tasks .task i ≡ taskOf (p .task) i
-  unfolding contentOf
-  used i h = cut-below (p .tasks) (taskOf (p .task)) noTask i h
+  -- 28 looks at a deadline that the edition has
+  dated-same : (t : Task) → badDeadline (p .edition) t ≡ badDeadline (p .edition) (inEdition (p .edition) t)
+  dated-same t = go (dated (p .edition))
+    where
+      go : (b : Bool) → b && outside 1 deadlineHigh (t .deadline) ≡ b && outside 1 deadlineHigh (cond b (t .deadline) 0)
+      go true = refl
+      go false = refl
 
-  pub fields-scan : fieldsTest (taskOf (p .task)) (p .tasks) ≡ fieldsTest (contentOf p .tasks .task) (p .tasks)
+  deadline-scan :
+      lowest 28 (λ i. badDeadline (p .edition) (taskOf (p .task) i)) (p .tasks)
+      ≡ lowest 28 (λ i. badDeadline (p .edition) (contentOf p .tasks .task i)) (p .tasks)
+  deadline-scan =
+      lowest-ext 28 _ _ (p .tasks)
+      (λ i h. dated-same (taskOf (p .task) i) ∙ ap (badDeadline (p .edition)) (sym (used-task p i h)))
+
+  pub fields-scan : fieldsTest (p .edition) (taskOf (p .task)) (p .tasks) ≡ fieldsTest (p .edition) (contentOf p .tasks .task) (p .tasks)
   unfolding fieldsTest
   fields-scan =
       rw (
-        lowest-ext 6 (λ i. badSeparation (taskOf (p .task) i)) (λ i. badSeparation (contentOf p .tasks .task i)) (p .tasks) (λ i h. ap badSeparation (sym (used i h))),
-        lowest-ext 7 (λ i. badBudget (taskOf (p .task) i)) (λ i. badBudget (contentOf p .tasks .task i)) (p .tasks) (λ i h. ap badBudget (sym (used i h))),
-        lowest-ext 8 (λ i. badOffset (taskOf (p .task) i)) (λ i. badOffset (contentOf p .tasks .task i)) (p .tasks) (λ i h. ap badOffset (sym (used i h))),
+        lowest-ext 6 (λ i. badSeparation (taskOf (p .task) i)) (λ i. badSeparation (contentOf p .tasks .task i)) (p .tasks) (λ i h. ap badSeparation (sym (used-task p i h))),
+        lowest-ext 7 (λ i. badBudget (taskOf (p .task) i)) (λ i. badBudget (contentOf p .tasks .task i)) (p .tasks) (λ i h. ap badBudget (sym (used-task p i h))),
+        lowest-ext 8 (λ i. badOffset (taskOf (p .task) i)) (λ i. badOffset (contentOf p .tasks .task i)) (p .tasks) (λ i h. ap badOffset (sym (used-task p i h))),
+        deadline-scan,
       )
 
-  pub wishes-scan : wishesTest (taskOf (p .task)) (p .tasks) ≡ wishesTest (contentOf p .tasks .task) (p .tasks)
+  pub wishes-scan : wishesTest (p .edition) (taskOf (p .task)) (p .tasks) ≡ wishesTest (p .edition) (contentOf p .tasks .task) (p .tasks)
   unfolding wishesTest
   wishes-scan =
       rw (
-        lowest-ext 6 (λ i. badSeparation (taskOf (p .task) i)) (λ i. badSeparation (contentOf p .tasks .task i)) (p .tasks) (λ i h. ap badSeparation (sym (used i h))),
-        lowest-ext 7 (λ i. badBudget (taskOf (p .task) i)) (λ i. badBudget (contentOf p .tasks .task i)) (p .tasks) (λ i h. ap badBudget (sym (used i h))),
-        lowest-ext 26 (λ i. badWish (taskOf (p .task) i)) (λ i. badWish (contentOf p .tasks .task i)) (p .tasks) (λ i h. ap badWish (sym (used i h))),
+        lowest-ext 6 (λ i. badSeparation (taskOf (p .task) i)) (λ i. badSeparation (contentOf p .tasks .task i)) (p .tasks) (λ i h. ap badSeparation (sym (used-task p i h))),
+        lowest-ext 7 (λ i. badBudget (taskOf (p .task) i)) (λ i. badBudget (contentOf p .tasks .task i)) (p .tasks) (λ i h. ap badBudget (sym (used-task p i h))),
+        lowest-ext 26 (λ i. badWish (taskOf (p .task) i)) (λ i. badWish (contentOf p .tasks .task i)) (p .tasks) (λ i h. ap badWish (sym (used-task p i h))),
+        deadline-scan,
       )
 
   pub bounds-scan :
       (x : ℕ → ℕ)
       → lowest 13 (λ i. overBound (taskOf (p .task) i) (boundOf (taskOf (p .task) i) (x i))) (p .tasks) ≡ boundsTest (contentOf p .tasks) x
   unfolding contentOf bound
-  bounds-scan x = lowest-ext 13 _ _ (p .tasks) (λ i h. ap (λ (t : Task). overBound t (boundOf t (x i))) (sym (used i h)))
+  bounds-scan x = lowest-ext 13 _ _ (p .tasks) (λ i h. ap (λ (t : Task). overBound t (boundOf t (x i))) (sym (used-task p i h)))

@@ -1,15 +1,16 @@
 -- The stages of the analysis, each in document 01's order: what each of its functions answers.
 --     frameTest     3, 4 and 5
 --     nothing       larger than every number: none is met
---     metBy         the first of 6, 7 and 8 that one task meets, or of 6, 7 and 26 on a wish sheet, or `nothing`
---     fieldsTest    6, 7 and 8 of n tasks
---     wishesTest    6, 7 and 26 of n tasks
+--     deadlineBy    28 of one task in an edition, or `nothing`
+--     metBy         the first of 6, 7, 8 and 28 that one task meets, or of 6, 7, 26 and 28 on a wish sheet, or `nothing`
+--     fieldsTest    6, 7, 8 and 28 of n tasks
+--     wishesTest    6, 7, 26 and 28 of n tasks
 use Prim.Native.Nat.{ℕ}
 use mathlib.Core.Bool.{Bool, true, false, cond}
 use mathlib.Core.List.{[], _∷_}
 use Rattle.tasks.specs.declared.Task.{Task}
 use Rattle.tasks.specs.declared.Answer.{Answer}
-use Rattle.tasks.specs.Tests.{refuse, lowest, firstMet, badCores, badLabel, badCount, badSeparation, badBudget, badOffset, badWish}
+use Rattle.tasks.specs.Tests.{refuse, lowest, firstMet, badCores, badLabel, badCount, badSeparation, badBudget, badOffset, badWish, badDeadline}
 
 unfoldable pub frameTest : ℕ → (ℕ → ℕ) → ℕ → Answer
 frameTest m label n =
@@ -18,26 +19,31 @@ frameTest m label n =
 abbrev pub nothing : ℕ
 nothing = 255
 
--- the last of the three: 26 on a wish sheet, else 8
-abbrev pub lastBy : Bool → Task → ℕ
-lastBy true t = cond (badWish t) 26 nothing
-lastBy false t = cond (badOffset t) 8 nothing
+abbrev pub deadlineBy : ℕ → Task → ℕ
+deadlineBy e t = cond (badDeadline e t) 28 nothing
 
-unfoldable pub metBy : Bool → Task → ℕ
-metBy wishes t = cond (badSeparation t) 6 (cond (badBudget t) 7 (lastBy wishes t))
+-- the last two: 26 on a wish sheet, else 8, and 28
+abbrev pub lastBy : ℕ → Bool → Task → ℕ
+lastBy e true t = cond (badWish t) 26 (deadlineBy e t)
+lastBy e false t = cond (badOffset t) 8 (deadlineBy e t)
 
-unfoldable pub fieldsTest : (ℕ → Task) → ℕ → Answer
-fieldsTest task n =
+unfoldable pub metBy : ℕ → Bool → Task → ℕ
+metBy e wishes t = cond (badSeparation t) 6 (cond (badBudget t) 7 (lastBy e wishes t))
+
+unfoldable pub fieldsTest : ℕ → (ℕ → Task) → ℕ → Answer
+fieldsTest e task n =
     firstMet
     (lowest 6 (λ i. badSeparation (task i)) n
     ∷ lowest 7 (λ i. badBudget (task i)) n
     ∷ lowest 8 (λ i. badOffset (task i)) n
+    ∷ lowest 28 (λ i. badDeadline e (task i)) n
     ∷ [])
 
-unfoldable pub wishesTest : (ℕ → Task) → ℕ → Answer
-wishesTest task n =
+unfoldable pub wishesTest : ℕ → (ℕ → Task) → ℕ → Answer
+wishesTest e task n =
     firstMet
     (lowest 6 (λ i. badSeparation (task i)) n
     ∷ lowest 7 (λ i. badBudget (task i)) n
     ∷ lowest 26 (λ i. badWish (task i)) n
+    ∷ lowest 28 (λ i. badDeadline e (task i)) n
     ∷ [])

@@ -19,7 +19,7 @@ use Rattle.tasks.specs.declared.Answer.the-variants.{Accepted}
 use Rattle.tasks.specs.TaskSet.{TaskSet, plainTask as loop, hyperperiod, share, weight, surplus, counted, amount, cover, Compliant, covers, row, bound}
 use Rattle.tasks.specs.Content.{Content, noTask, taskOf}
 use Rattle.tasks.specs.Limits.{Limits, Bounded}
-use Rattle.tasks.specs.Tests.{lowest, firstMet, outside, badLabel, test3, test4, test5, test6, test7, test8, test9, test10, test11, test12, test13, tests}
+use Rattle.tasks.specs.Tests.{lowest, firstMet, outside, badLabel, test3, test4, test5, test6, test7, test8, test28, test9, test10, test11, test12, test13, tests}
 use Rattle.tasks.specs.TestsLaws.{tests-limits, tests-compliant, tests-bounded}
 use Rattle.machine.specs.Machine.{Machine, opened, tooSoon, joined, admitted, waiting, point, before, chosen, idle, onCore, runs, served, advanced, tick, response, responses}
 use Rattle.machine.specs.Reached.{Reached, opening, release}
@@ -32,10 +32,10 @@ abbrev pub p3-slack : ℕ → ℕ
 p3-slack = row (2 ∷ 2 ∷ 1 ∷ [])
 
 abbrev content : Content
-content = record { tasks = p3 0; label = row (0 ∷ 1 ∷ []); offers = 3; slack = p3-slack }
+content = record { edition = 1; tasks = p3 0; label = row (0 ∷ 1 ∷ []); offers = 3; slack = p3-slack }
 
 accepted : tests content ≡ Accepted
-unfolding p3 first sum sumOver place ranked largest lcm lcmBelow hyperperiod share weight surplus counted amount cover covers row bound noTask taskOf lowest firstMet outside badLabel test3 test4 test5 test6 test7 test8 test9 test10 test11 test12 test13 tests
+unfolding p3 first sum sumOver place ranked largest lcm lcmBelow hyperperiod share weight surplus counted amount cover covers row bound noTask taskOf lowest firstMet outside badLabel test3 test4 test5 test6 test7 test8 test28 test9 test10 test11 test12 test13 tests
 accepted = refl
 
 pub p3-met : Limits (p3 0) × Compliant (p3 0) p3-slack × Bounded (p3 0) p3-slack

@@ -1,7 +1,8 @@
 -- Demand 3 said a second time, of bytes alone: of a table, of a log, of what a log run leaves in a lent answer and of what the C judgement leaves
 -- in a lent buffer. No engine, history or claim stands in it, and no definition of a plan, a log or a bound: each number is read at the place
 -- that document 01 gives it.
---     loopsOf, separationOf, budgetOf, offsetOf     of a table t: its number of loops, and loop i's T, C and Y
+--     coresOf, loopsOf, sizeOf                      of a table t: its numbers of cores and loops, and how many bytes a loop has
+--     separationOf, budgetOf, offsetOf              loop i's T, C and Y
 --     entriesOf, tickOf, loopOf, demandOf           of a log l: its number of entries, and entry e's three numbers
 --     kindOf, valueOf                              of a log run's answer w: entry e's kind, and the finish tick or refusal number behind it
 --     slackLeft, boundLeft                              of a judgement's answer b: loop i's slack and bound
@@ -11,22 +12,31 @@
 use Prim.Native.Nat.{ℕ, _+_, _*_, _≤_, _<_}
 use mathlib.Core.Path.{_≡_}
 use mathlib.Core.Logic.{_↔_, _⊎_}
+use mathlib.Core.Bool.{cond}
 use mathlib.Core.List.{List}
+use lib.Dec.{eqb}
 use Rattle.numbers.specs.Bytes.{byte, number}
 
--- "The first byte is the edition, 1. Three sections follow in this order, each after a one-byte count": m at 1, m labels, n, the loops
-abbrev pub loopsOf : List ℕ → ℕ
-loopsOf t = byte t (2 + byte t 1)
+-- "The first byte is the edition". "Three sections follow in this order, each after a one-byte count": m at 1, m labels, n, the loops
+abbrev pub coresOf : List ℕ → ℕ
+coresOf t = byte t 1
 
--- "n entries of 12 bytes: separation T, budget C, priority offset Y, 4 bytes each"
+abbrev pub loopsOf : List ℕ → ℕ
+loopsOf t = byte t (2 + coresOf t)
+
+-- "n entries of 12 bytes"; "In edition 2 a loop has 16 bytes"
+abbrev pub sizeOf : List ℕ → ℕ
+sizeOf t = cond (eqb (byte t 0) 2) 16 12
+
+-- "separation T, budget C, priority offset Y, 4 bytes each"
 abbrev pub separationOf : List ℕ → ℕ → ℕ
-separationOf t i = number 4 t (3 + byte t 1 + 12 * i)
+separationOf t i = number 4 t (3 + coresOf t + sizeOf t * i)
 
 abbrev pub budgetOf : List ℕ → ℕ → ℕ
-budgetOf t i = number 4 t (3 + byte t 1 + 12 * i + 4)
+budgetOf t i = number 4 t (3 + coresOf t + sizeOf t * i + 4)
 
 abbrev pub offsetOf : List ℕ → ℕ → ℕ
-offsetOf t i = number 4 t (3 + byte t 1 + 12 * i + 8)
+offsetOf t i = number 4 t (3 + coresOf t + sizeOf t * i + 8)
 
 -- "A 2-byte count, then 9 bytes an entry: tick (4), loop (1), demand (4)."
 abbrev pub entriesOf : List ℕ → ℕ

@@ -20,13 +20,13 @@ use Rattle.tasks.specs.Tests.{tests}
 use Rattle.tasks.specs.TestsLaws.{tests-limits, tests-bounded}
 use Rattle.numbers.specs.Bytes.{byte, number, digits, entries}
 use Rattle.numbers.specs.ByteLaws.{length-digits, number-digits-at, number-entries}
-use Rattle.codec.specs.Table.{coreCount, taskCount, tasksAt, taskIn, taskSetIn, contentIn, verdict}
+use Rattle.codec.specs.Table.{taskSize, editionIn, coreCount, taskCount, tasksAt, taskIn, taskSetIn, contentIn, verdict}
 use Rattle.roundtrip.specs.SectionLaws.{verdict-parts}
 use Rattle.history.specs.Report.{Report, finished, refusal}
 use Rattle.logs.specs.LogBytes.{reportBytes, reportsTo}
 use Rattle.logs.specs.ReportLaws.{length-report}
 use Rattle.dahomike.specs.Answers as answers
-use Rattle.outcome.specs.Outcome.{loopsOf, separationOf, budgetOf, offsetOf, kindOf, valueOf, slackLeft, boundLeft}
+use Rattle.outcome.specs.Outcome.{coresOf, loopsOf, sizeOf, separationOf, budgetOf, offsetOf, kindOf, valueOf, slackLeft, boundLeft}
 
 -- ---- the table
 
@@ -36,11 +36,11 @@ module _ (t : List ℕ) where
   same-loops = refl
 
   module _ (i : ℕ) (h : i < loopsOf t) where
-    task-at : contentIn t .tasks .task i ≡ taskIn t (3 + byte t 1 + 12 * i)
-    unfolding contentIn taskSetIn taskCount tasksAt coreCount
+    task-at : contentIn t .tasks .task i ≡ taskIn (editionIn t) t (3 + coresOf t + sizeOf t * i)
+    unfolding contentIn taskSetIn taskCount tasksAt taskSize coreCount
     task-at =
-        let place : 2 + byte t 1 + 1 + 12 * i ≡ 3 + byte t 1 + 12 * i = omega arith in
-        cut-below (loopsOf t) (λ k. taskIn t (2 + byte t 1 + 1 + 12 * k)) noTask i h ∙ ap (taskIn t) place
+        let place : 2 + coresOf t + 1 + sizeOf t * i ≡ 3 + coresOf t + sizeOf t * i = omega arith in
+        cut-below (loopsOf t) (λ k. taskIn (editionIn t) t (2 + coresOf t + 1 + sizeOf t * k)) noTask i h ∙ ap (taskIn (editionIn t) t) place
 
     pub separation-at : contentIn t .tasks .task i .separation ≡ separationOf t i
     unfolding taskIn

@@ -1,12 +1,13 @@
 // The reader: its one stage, which finds the three counts or refuses, and the loading of each section's entries, which cannot refuse.
-use codec::entry::TASK_SIZE;
 use codec::entry::task_at;
+use codec::entry::task_size;
 use codec::places::slack_from;
 use codec::places::table_length;
 use codec::places::tasks_from;
 use numbers::count_at;
 use numbers::number4;
 use tasks::Task;
+use tasks::edition::is_unknown;
 use tasks::refusal;
 use tidy::no_task;
 ghost use mathlib.Core.Path.{_≡_};
@@ -18,9 +19,10 @@ ghost use Rattle.numbers.specs.Bytes.{byte, number};
 ghost use Rattle.codec.specs.Table.{taskSize, taskIn};
 ghost use Rattle.reader.specs.Counted.{Counted};
 
-// What the stage finds: the counts, which give exactly the table's length, or refusal 1 or 2.
+// What the stage finds: the edition and the counts, which give exactly the table's length, or refusal 1 or 2.
 pub enum Counts {
     Read {
+        edition: u8,
         cores: usize,
         tasks: usize,
         offers: usize,
@@ -44,7 +46,8 @@ pub fn read_counts(t: &[u8]) -> Counts
     if t.len() < 1 {
         return refused(refusal::EDITION_UNKNOWN);
     }
-    if count_at(t, 0) != 1 {
+    let edition = t[0];
+    if is_unknown(edition) {
         return refused(refusal::EDITION_UNKNOWN);
     }
     if t.len() < 2 {
@@ -56,15 +59,16 @@ pub fn read_counts(t: &[u8]) -> Counts
         return refused(refusal::LENGTH_WRONG);
     }
     let tasks = count_at(t, second);
-    let third = slack_from(cores, tasks);
+    let third = slack_from(edition, cores, tasks);
     if t.len() <= third {
         return refused(refusal::LENGTH_WRONG);
     }
     let offers = count_at(t, third);
-    if t.len() != table_length(cores, tasks, offers) {
+    if t.len() != table_length(edition, cores, tasks, offers) {
         return refused(refusal::LENGTH_WRONG);
     }
     Counts::Read {
+        edition,
         cores,
         tasks,
         offers,
@@ -93,16 +97,17 @@ pub fn load_labels(t: &[u8], cores: usize) -> [u8; 8]
 }
 
 // The tasks of `count` entries from `from` on, zeros in the places past them.
-pub fn load_tasks(t: &[u8], from: usize, count: usize) -> [Task; 16]
-    requires { ⌜ from + taskSize * count ≤ length (now t) ⌝ }
-    ensures { λ r. ⌜ r ≡ tab (cut count (λ i. taskIn (now (t .entry)) (from + taskSize * i)) noTask) 16 ⌝ }
+pub fn load_tasks(t: &[u8], from: usize, count: usize, edition: u8) -> [Task; 16]
+    requires { ⌜ from + taskSize edition * count ≤ length (now t) ⌝ }
+    ensures { λ r. ⌜ r ≡ tab (cut count (λ i. taskIn edition (now (t .entry)) (from + taskSize edition * i)) noTask) 16 ⌝ }
 {
     let none = no_task();
     let mut tasks = [none; 16];
+    let size = task_size(edition);
     let end = lesser(count, 16);
     let mut i = 0;
     while i < end {
-        tasks[i] = task_at(t, from + TASK_SIZE * i);
+        tasks[i] = task_at(t, from + size * i, edition);
         i += 1;
     }
     tasks

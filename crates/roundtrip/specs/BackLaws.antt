@@ -1,5 +1,5 @@
 -- A content's bytes, read back.
---     back-cores, back-tasks, back-offers, back-tasks-at, back-slack-at    the counts and places in them
+--     back-edition, back-cores, back-tasks, back-offers, back-tasks-at, back-slack-at    the edition, the counts and the places in them
 --     back-label, back-task, back-slack                                     the entries
 --     read-back        such a content, which fits a plan and with the found slack where none is offered, is read back from its bytes
 use Prim.Native.Nat.{ℕ, _+_, _*_, _^_, _≤_, _<_}
@@ -21,17 +21,17 @@ use Rattle.tasks.specs.Limits.{Bounded}
 use Rattle.tasks.specs.TestsLaws.{Passed}
 use Rattle.tasks.specs.FoundLaws.{found-past}
 use Rattle.numbers.specs.Bytes.{byte, number, digits, entries}
-use Rattle.codec.specs.Table.{taskSize, tasksFrom, slackFrom, coreCount, taskCount, tasksAt, slackCount, slackAt, taskIn, taskSetIn, contentIn, taskBytes, bytesOf}
+use Rattle.codec.specs.Table.{taskSize, tasksFrom, slackFrom, editionIn, coreCount, taskCount, tasksAt, slackCount, slackAt, taskIn, taskSetIn, contentIn, taskBytes, bytesOf}
 use Rattle.numbers.specs.ByteLaws.{number-after, number-digits, length-digits, length-entries, byte-entries, number-entries}
 use Rattle.codec.specs.TaskLaws.{length-task, task-same, limits-narrow, task-back}
 use Rattle.tasks.specs.ContentLaws.{content-ext, Fits}
 
 -- the edition and the cores' section of a content's bytes
 abbrev front : Content → List ℕ
-front c = 1 ∷ c .tasks .cores ∷ entries (λ i. c .label i ∷ []) (c .tasks .cores)
+front c = c .edition ∷ c .tasks .cores ∷ entries (λ i. c .label i ∷ []) (c .tasks .cores)
 
 abbrev taskEntries : Content → List ℕ
-taskEntries c = entries (λ i. taskBytes (c .tasks .task i)) (c .tasks .count)
+taskEntries c = entries (λ i. taskBytes (c .edition) (c .tasks .task i)) (c .tasks .count)
 
 abbrev slackEntries : Content → List ℕ
 slackEntries c = entries (λ i. digits 4 (c .slack i)) (c .offers)
@@ -50,8 +50,8 @@ module _ (c : Content) where
   length-front : length (front c) ≡ tasksFrom (c .tasks .cores)
   length-front = omega (arith, length-entries 1 (λ i. c .label i ∷ []) (λ i. refl) (c .tasks .cores))
 
-  length-tasks : length (taskEntries c) ≡ taskSize * c .tasks .count
-  length-tasks = length-entries taskSize (λ i. taskBytes (c .tasks .task i)) (λ i. length-task _) (c .tasks .count)
+  length-tasks : length (taskEntries c) ≡ taskSize (c .edition) * c .tasks .count
+  length-tasks = length-entries (taskSize (c .edition)) (λ i. taskBytes (c .edition) (c .tasks .task i)) (λ i. length-task _ _) (c .tasks .count)
 
   -- the bytes, from the first count after the cores on
   at-tasks : bytesOf c ≡ front c ++ (c .tasks .count ∷ (taskEntries c ++ (c .offers ∷ slackEntries c)))
@@ -71,6 +71,10 @@ module _ (c : Content) where
   in-slack : bytesOf c ≡ (front c ++ (c .tasks .count ∷ taskEntries c) ++ c .offers ∷ []) ++ (slackEntries c ++ [])
   in-slack = at-slack ∙ sym (append-assoc (front c ++ (c .tasks .count ∷ taskEntries c)) (c .offers ∷ []) _ ∙ rw append-nil)
 
+  pub back-edition : editionIn (bytesOf c) ≡ c .edition
+  unfolding byte bytesOf
+  back-edition = refl
+
   pub back-cores : coreCount (bytesOf c) ≡ c .tasks .cores
   unfolding coreCount byte bytesOf
   back-cores = refl
@@ -83,44 +87,44 @@ module _ (c : Content) where
   unfolding tasksAt
   back-tasks-at = rw back-cores
 
-  pub back-slack-at : slackAt (bytesOf c) ≡ slackFrom (c .tasks .cores) (c .tasks .count) + 1
+  pub back-slack-at : slackAt (bytesOf c) ≡ slackFrom (c .edition) (c .tasks .cores) (c .tasks .count) + 1
   unfolding slackAt
-  back-slack-at = rw (back-cores, back-tasks)
+  back-slack-at = rw (back-edition, back-cores, back-tasks)
 
-  length-middle : length (front c ++ (c .tasks .count ∷ taskEntries c)) ≡ slackFrom (c .tasks .cores) (c .tasks .count)
+  length-middle : length (front c ++ (c .tasks .count ∷ taskEntries c)) ≡ slackFrom (c .edition) (c .tasks .cores) (c .tasks .count)
   length-middle = simp length-append (omega (arith, length-front, length-tasks))
 
   pub back-offers : slackCount (bytesOf c) ≡ c .offers
   unfolding slackCount byte
   back-offers =
-      rw (back-cores, back-tasks, at-slack)
-      (getD-at (front c ++ (c .tasks .count ∷ taskEntries c)) (c .offers) _ 0 (slackFrom (c .tasks .cores) (c .tasks .count)) length-middle)
+      rw (back-edition, back-cores, back-tasks, at-slack)
+      (getD-at (front c ++ (c .tasks .count ∷ taskEntries c)) (c .offers) _ 0 (slackFrom (c .edition) (c .tasks .cores) (c .tasks .count)) length-middle)
 
   pub back-label : (i : ℕ) → i < c .tasks .cores → byte (bytesOf c) (2 + i) ≡ c .label i
   unfolding byte
   back-label i h =
       let rest : List ℕ = c .tasks .count ∷ (taskEntries c ++ (c .offers ∷ slackEntries c)) in
       rw at-tasks
-      (getD-append-add (1 ∷ c .tasks .cores ∷ []) (entries (λ j. c .label j ∷ []) (c .tasks .cores) ++ rest) i 0
+      (getD-append-add (c .edition ∷ c .tasks .cores ∷ []) (entries (λ j. c .label j ∷ []) (c .tasks .cores) ++ rest) i 0
       ∙ label-entry (c .label) (c .tasks .cores) i rest h)
 
   -- the byte at d in the entry of task i
   back-byte :
-      (i d : ℕ) → i < c .tasks .count → d < taskSize
-      → byte (bytesOf c) (tasksFrom (c .tasks .cores) + 1 + taskSize * i + d) ≡ byte (taskBytes (c .tasks .task i)) d
+      (i d : ℕ) → i < c .tasks .count → d < taskSize (c .edition)
+      → byte (bytesOf c) (tasksFrom (c .tasks .cores) + 1 + taskSize (c .edition) * i + d) ≡ byte (taskBytes (c .edition) (c .tasks .task i)) d
   unfolding byte
   back-byte i d h l =
-      let place : tasksFrom (c .tasks .cores) + 1 + taskSize * i + d ≡ length (front c ++ c .tasks .count ∷ []) + (taskSize * i + d) =
+      let place : tasksFrom (c .tasks .cores) + 1 + taskSize (c .edition) * i + d ≡ length (front c ++ c .tasks .count ∷ []) + (taskSize (c .edition) * i + d) =
       omega (arith, length-append (front c) (c .tasks .count ∷ []), length-front) in
       rw (in-tasks, place)
-      (getD-append-add (front c ++ c .tasks .count ∷ []) _ (taskSize * i + d) 0
-      ∙ byte-entries taskSize (λ j. taskBytes (c .tasks .task j)) (λ j. length-task _) (c .tasks .count) i d _ h l)
+      (getD-append-add (front c ++ c .tasks .count ∷ []) _ (taskSize (c .edition) * i + d) 0
+      ∙ byte-entries (taskSize (c .edition)) (λ j. taskBytes (c .edition) (c .tasks .task j)) (λ j. length-task _ _) (c .tasks .count) i d _ h l)
 
   pub back-slack :
       (i : ℕ) → i < c .offers → c .slack i < 256 ^ 4
-      → number 4 (bytesOf c) (slackFrom (c .tasks .cores) (c .tasks .count) + 1 + 4 * i) ≡ c .slack i
+      → number 4 (bytesOf c) (slackFrom (c .edition) (c .tasks .cores) (c .tasks .count) + 1 + 4 * i) ≡ c .slack i
   back-slack i h small =
-      let place : slackFrom (c .tasks .cores) (c .tasks .count) + 1 + 4 * i ≡ length (front c ++ (c .tasks .count ∷ taskEntries c) ++ c .offers ∷ []) + (4 * i + 0) =
+      let place : slackFrom (c .edition) (c .tasks .cores) (c .tasks .count) + 1 + 4 * i ≡ length (front c ++ (c .tasks .count ∷ taskEntries c) ++ c .offers ∷ []) + (4 * i + 0) =
       omega (arith, length-append (front c ++ (c .tasks .count ∷ taskEntries c)) (c .offers ∷ []), length-middle) in
       rw (in-slack, place)
       (number-after 4 (front c ++ (c .tasks .count ∷ taskEntries c) ++ c .offers ∷ []) _ (4 * i + 0)
@@ -146,14 +150,15 @@ cut-row n m f g z e below past i = go (ltb i m) refl
         cut-above n f z i (omega arith) ∙ sym (past i h)
 
 module _ (c : Content) (k : Fits c) (q : Passed c) where
-  pub back-task : (i : ℕ) → i < c .tasks .count → taskIn (bytesOf c) (tasksAt (bytesOf c) + taskSize * i) ≡ c .tasks .task i
+  pub back-task : (i : ℕ) → i < c .tasks .count → taskIn (editionIn (bytesOf c)) (bytesOf c) (tasksAt (bytesOf c) + taskSize (editionIn (bytesOf c)) * i) ≡ c .tasks .task i
   back-task i h =
-      rw (back-tasks-at c)
-      (task-same (bytesOf c) (taskBytes (c .tasks .task i)) (tasksFrom (c .tasks .cores) + 1 + taskSize * i) 0
+      rw (back-edition c, back-tasks-at c)
+      (task-same (c .edition) (bytesOf c) (taskBytes (c .edition) (c .tasks .task i)) (tasksFrom (c .tasks .cores) + 1 + taskSize (c .edition) * i) 0
       (λ d l. rw zero-add (back-byte c i d h l))
-      ∙ task-back (c .tasks .task i) (limits-narrow (c .tasks) (q .limits) i h))
+      ∙ task-back (c .edition) (c .tasks .task i) (limits-narrow c q i h)
+      ∙ k .deadlines i)
 
-  back-row : (i : ℕ) → cut (taskCount (bytesOf c)) (λ j. taskIn (bytesOf c) (tasksAt (bytesOf c) + taskSize * j)) noTask i ≡ c .tasks .task i
+  back-row : (i : ℕ) → cut (taskCount (bytesOf c)) (λ j. taskIn (editionIn (bytesOf c)) (bytesOf c) (tasksAt (bytesOf c) + taskSize (editionIn (bytesOf c)) * j)) noTask i ≡ c .tasks .task i
   back-row = cut-row _ (c .tasks .count) _ (c .tasks .task) noTask (back-tasks c) back-task (k .task-past)
 
   back-set : taskSetIn (bytesOf c) ≡ c .tasks
@@ -195,7 +200,7 @@ module _ (c : Content) (k : Fits c) (q : Passed c) where
   pub read-back : contentIn (bytesOf c) ≡ c
   unfolding contentIn
   read-back =
-      content-ext (contentIn (bytesOf c)) c back-set
+      content-ext (contentIn (bytesOf c)) c (back-edition c) back-set
       (fun-ext (cut-row _ (c .tasks .cores) _ (c .label) 0 (back-cores c) (back-label c) (k .label-past)))
       (back-offers c)
       (fun-ext back-row-slack)

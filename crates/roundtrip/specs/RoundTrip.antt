@@ -1,16 +1,17 @@
 -- From bytes to a plan and back, and from a plan to bytes and back.
 --     rewritten         an accepted table's content, written, is that table, byte by byte
---     judged-fits       the plan of an accepted table says what the table says
+--     judged-fits       the plan of an accepted table says what the table says; judged-passes: it meets none of a plan's numbers
 --     judged-rewritten  so that plan, written, is the table; judged-tidy: its unused places are zero
---     plan-back         a plan that meets none of 3 to 13, written, says what it said
+--     plan-back         a plan that meets none of its numbers, written, says what it said
 --     verdict-back, judged-back    and is accepted, with zeros in its unused places and its counted loops named; same-back: as the same plan
 --     judged-again      a plan that was judged, written and judged again is that plan
---     write-accepts     with room for its bytes a plan is written exactly if it meets none of 3 to 13
+--     write-accepts     with room for its bytes a plan is written exactly if it meets none of its numbers
 --     table-again       the plan of an accepted table, handed to `write` with room for it, leaves the table and then the buffer's later bytes
 --     leftBy            the bytes that a write leaves
 --     plan-again        handed to `judge`, they are accepted as the same plan, with zeros in its unused places
 use Prim.Native.Nat.{ℕ, _≤_}
 use mathlib.Core.Path.{_≡_, refl, sym, ap, ap₂, _∙_}
+use mathlib.Core.Bool.{false}
 use mathlib.Core.List.{List, _++_}
 use mathlib.Core.Logic.{_↔_}
 use lib.ListN.{length, take, drop}
@@ -19,20 +20,19 @@ use borrow.Author.Tests.{le-ltb}
 use Rattle.tasks.specs.declared.Plan.{Plan}
 use Rattle.tasks.specs.declared.Answer.{Answer}
 use Rattle.tasks.specs.declared.Answer.the-variants.{Accepted, Refused}
-use Rattle.tasks.specs.Content.{countedOf, contentOf, planOf, tidy, Same}
-use Rattle.tasks.specs.Tests.{orNext, firstMet, tests, testPlan}
-use Rattle.tasks.specs.TestsLaws.{Passed, tests-passed}
+use Rattle.tasks.specs.Content.{Content, countedOf, contentOf, planOf, tidy, Same}
+use Rattle.tasks.specs.Tests.{orNext, firstMet, badEdition, tests, testPlan}
+use Rattle.tasks.specs.TestsLaws.{Passed, tests-passed, plan-passed, plan-accepted}
 use Rattle.tasks.specs.AnswerLaws.{firstMet-passed}
 use Rattle.table.specs.declared.Judgement.{Judgement}
-use Rattle.codec.specs.Table.{countedLength, taskSetIn, contentIn, verdict, bytesOf}
+use Rattle.codec.specs.Table.{editionIn, countedLength, taskSetIn, contentIn, verdict, bytesOf}
 use Rattle.table.specs.Judged.{judgedAs, countedIn, judged}
 use Rattle.writer.specs.Written.{writeTest, writtenLength, writtenTo}
-use Rattle.numbers.specs.Bytes.{byte}
 use Rattle.numbers.specs.ByteLaws.{Bytes}
 use Rattle.tasks.specs.ContentLaws.{Fits, fits-back, plan-fits}
 use Rattle.roundtrip.specs.SectionLaws.{Parts, verdict-parts, parts-verdict, table-parts, labels-again, tasks-again, slack-again, table-fits}
 use Rattle.sections.specs.WriteLaws.{length-bytes}
-use Rattle.roundtrip.specs.BackLaws.{back-cores, back-tasks, back-offers, read-back}
+use Rattle.roundtrip.specs.BackLaws.{back-edition, back-cores, back-tasks, back-offers, read-back}
 
 module _ (t : List ℕ) (a : verdict t ≡ Accepted) where
   parts : Parts t
@@ -43,11 +43,18 @@ module _ (t : List ℕ) (a : verdict t ≡ Accepted) where
   rewritten b =
       let q : Passed (contentIn t) = tests-passed (contentIn t) (parts .content) in
       rw (labels-again t b (parts .long), tasks-again t b (parts .long), slack-again t b (parts .long) (q .offers))
-      (sym (table-parts t (parts .edition) (parts .long)))
+      (sym (table-parts t (parts .long)))
 
   pub judged-fits : contentOf (judged t .plan) ≡ contentIn t
   unfolding judged
   judged-fits = rw a (fits-back (contentIn t) (table-fits t (parts .content)))
+
+  pub judged-passes : testPlan (judged t .plan) ≡ Accepted
+  unfolding contentOf contentIn
+  judged-passes =
+      plan-accepted (judged t .plan)
+      (ap (λ (c : Content). badEdition (c .edition)) judged-fits ∙ parts .edition)
+      (ap tests judged-fits ∙ parts .content)
 
   pub judged-rewritten : Bytes t → bytesOf (contentOf (judged t .plan)) ≡ t
   judged-rewritten b = ap bytesOf judged-fits ∙ rewritten b
@@ -58,8 +65,7 @@ module _ (t : List ℕ) (a : verdict t ≡ Accepted) where
 
 module _ (p : Plan) (a : testPlan p ≡ Accepted) where
   passed : Passed (contentOf p)
-  unfolding testPlan
-  passed = tests-passed (contentOf p) a
+  passed = tests-passed (contentOf p) (plan-passed p a .1)
 
   pub plan-again-fits : Fits (contentOf p)
   unfolding contentOf
@@ -68,19 +74,18 @@ module _ (p : Plan) (a : testPlan p ≡ Accepted) where
   pub plan-back : contentIn (bytesOf (contentOf p)) ≡ contentOf p
   plan-back = read-back (contentOf p) plan-again-fits passed
 
-  back-edition : byte (bytesOf (contentOf p)) 0 ≡ 1
-  unfolding byte bytesOf
-  back-edition = refl
+  back-known : badEdition (editionIn (bytesOf (contentOf p))) ≡ false
+  unfolding contentOf
+  back-known = rw (back-edition (contentOf p)) (plan-passed p a .0)
 
   back-long : length (bytesOf (contentOf p)) ≡ countedLength (bytesOf (contentOf p))
-  back-long = rw (back-cores (contentOf p), back-tasks (contentOf p), back-offers (contentOf p)) (length-bytes (contentOf p))
+  back-long = rw (back-edition (contentOf p), back-cores (contentOf p), back-tasks (contentOf p), back-offers (contentOf p)) (length-bytes (contentOf p))
 
   pub verdict-back : verdict (bytesOf (contentOf p)) ≡ Accepted
-  unfolding testPlan
   verdict-back =
       parts-verdict
       (bytesOf (contentOf p))
-      (record { edition = back-edition; long = back-long; content = ap tests plan-back ∙ a })
+      (record { edition = back-known; long = back-long; content = ap tests plan-back ∙ plan-passed p a .1 })
 
   pub judged-back : judged (bytesOf (contentOf p)) ≡ judgedAs Accepted (tidy p) (countedOf (contentOf p))
   unfolding judged countedIn tidy
@@ -97,9 +102,8 @@ unfolding judged countedIn
 judged-accepted t a = rw a
 
 pub judged-again : (t : List ℕ) → verdict t ≡ Accepted → judged (bytesOf (contentOf (judged t .plan))) ≡ judged t
-unfolding testPlan
 judged-again t a =
-    judged-back (judged t .plan) (ap tests (judged-fits t a) ∙ verdict-parts t a .content)
+    judged-back (judged t .plan) (judged-passes t a)
     ∙ ap₂ (judgedAs Accepted) (judged-tidy t a) (ap countedOf (judged-fits t a))
     ∙ sym (judged-accepted t a)
 
@@ -123,11 +127,11 @@ module _ (t : List ℕ) (a : verdict t ≡ Accepted) (b : Bytes t) (out : List �
       (writeTest (judged t .plan) (length out) ≡ Accepted)
       × (writtenLength (judged t .plan) (length out) ≡ length t)
       × (writtenTo (judged t .plan) out ≡ t ++ drop (length t) out)
-  unfolding writtenLength writtenTo testPlan
+  unfolding writtenLength writtenTo
   table-again =
       let w = judged-rewritten t a b in
       let e : writeTest (judged t .plan) (length out) ≡ Accepted =
-      roomy (judged t .plan) (length out) (rw w fits) ∙ ap tests (judged-fits t a) ∙ verdict-parts t a .content in
+      roomy (judged t .plan) (length out) (rw w fits) ∙ judged-passes t a in
       (e, rw (e, w), rw (e, w))
 
 -- the bytes that a write of a plan leaves in a buffer, as many as it answers

@@ -1,5 +1,5 @@
 -- A table's bytes taken apart into its sections, and put together again.
---     verdict-parts      an accepted table has the edition, the length that its counts give, and content that passes 3 to 13
+--     verdict-parts      an accepted table has a known edition, the length that its counts give, and content that passes 3 to 13 and 28
 --     parts-verdict      a table that has these is accepted
 --     table-parts        a table of that length is its edition, its counts and the bytes of its sections
 --     table-fits         what a table says that meets none of 3 to 13 fits a plan
@@ -21,18 +21,18 @@ use Rattle.laws.specs.TabLaws.{cut-below, cut-above}
 use Rattle.tasks.specs.declared.Answer.the-variants.{Accepted}
 use Rattle.tasks.specs.TaskSet.{found, row}
 use Rattle.tasks.specs.Content.{noTask}
-use Rattle.tasks.specs.Tests.{firstMet, tests}
+use Rattle.tasks.specs.Tests.{firstMet, badEdition, tests}
 use Rattle.tasks.specs.TestsLaws.{Passed, tests-passed}
 use Rattle.tasks.specs.FoundLaws.{found-past}
 use Rattle.tasks.specs.AnswerLaws.{refuse-passed, firstMet-passed}
 use Rattle.numbers.specs.Bytes.{byte, number, digits, entries}
-use Rattle.codec.specs.Table.{taskSize, tasksFrom, slackFrom, tableLength, countedLength, coreCount, taskCount, tasksAt, slackCount, slackAt, taskIn, taskSetIn, contentIn, test1, test2, verdict, taskBytes}
+use Rattle.codec.specs.Table.{taskSize, tasksFrom, slackFrom, tableLength, countedLength, editionIn, coreCount, taskCount, tasksAt, slackCount, slackAt, taskIn, taskSetIn, contentIn, test1, test2, verdict, taskBytes}
 use Rattle.numbers.specs.ByteLaws.{Bytes, digits-number, entries-same, entries-parts}
-use Rattle.codec.specs.TaskLaws.{task-again}
+use Rattle.codec.specs.TaskLaws.{entry-inside, edition-in, task-again}
 use Rattle.tasks.specs.ContentLaws.{Fits}
 
 pub record Parts (t : List ℕ) : Type 0 where
-  pub edition : byte t 0 ≡ 1
+  pub edition : badEdition (editionIn t) ≡ false
   pub long : length t ≡ countedLength t
   pub content : tests (contentIn t) ≡ Accepted
 
@@ -42,14 +42,14 @@ verdict-parts t a =
     let r = firstMet-passed _ _ a in
     let s = firstMet-passed _ _ (r .1) in
     record {
-      edition = eqb-true _ _ (not-false _ (refuse-passed _ _ (r .0)));
+      edition = refuse-passed _ _ (r .0);
       long = eqb-true _ _ (not-false _ (refuse-passed _ _ (s .0)));
       content = firstMet-passed _ _ (s .1) .0;
     }
 
 pub parts-verdict : (t : List ℕ) → Parts t → verdict t ≡ Accepted
 unfolding verdict test1 test2 firstMet
-parts-verdict t p = rw (eq-eqb _ _ (p .edition), eq-eqb _ _ (p .long), p .content)
+parts-verdict t p = rw (p .edition, eq-eqb _ _ (p .long), p .content)
 
 -- the bytes from a on: one, v, and the rest from b on
 step : (t : List ℕ) (a b v : ℕ) → a < length t → byte t a ≡ v → b ≡ suc a → drop a t ≡ v ∷ drop b t
@@ -62,32 +62,32 @@ skip t rest a b k q e = sym (rw (← e, q, ← (drop-drop k a t)) (take-append-d
 
 -- the same with the counts by name
 parts-at :
-    (t : List ℕ) (m n x : ℕ) → byte t 0 ≡ 1 → byte t 1 ≡ m → byte t (tasksFrom m) ≡ n → byte t (slackFrom m n) ≡ x
-    → length t ≡ tableLength m n x
+    (t : List ℕ) (e m n x : ℕ) → byte t 0 ≡ e → byte t 1 ≡ m → byte t (tasksFrom m) ≡ n → byte t (slackFrom e m n) ≡ x
+    → length t ≡ tableLength e m n x
     → t
-    ≡ (1 ∷ m ∷ take m (drop 2 t))
-    ++ (n ∷ take (taskSize * n) (drop (tasksFrom m + 1) t))
-    ++ (x ∷ take (4 * x) (drop (slackFrom m n + 1) t))
-parts-at t m n x e em en ex l =
-    let last : drop (slackFrom m n + 1) t ≡ take (4 * x) (drop (slackFrom m n + 1) t) =
-    sym (take-all (4 * x) (drop (slackFrom m n + 1) t) (omega (arith, length-drop (slackFrom m n + 1) t))) in
-    let u5 : drop (slackFrom m n) t ≡ x ∷ take (4 * x) (drop (slackFrom m n + 1) t) =
-    step t (slackFrom m n) (slackFrom m n + 1) x (omega arith) ex (omega arith) ∙ ap (λ r. x ∷ r) last in
-    let u4 = skip t (x ∷ take (4 * x) (drop (slackFrom m n + 1) t)) (tasksFrom m + 1) (slackFrom m n) (taskSize * n) refl u5 in
+    ≡ (e ∷ m ∷ take m (drop 2 t))
+    ++ (n ∷ take (taskSize e * n) (drop (tasksFrom m + 1) t))
+    ++ (x ∷ take (4 * x) (drop (slackFrom e m n + 1) t))
+parts-at t e m n x ee em en ex l =
+    let last : drop (slackFrom e m n + 1) t ≡ take (4 * x) (drop (slackFrom e m n + 1) t) =
+    sym (take-all (4 * x) (drop (slackFrom e m n + 1) t) (omega (arith, length-drop (slackFrom e m n + 1) t))) in
+    let u5 : drop (slackFrom e m n) t ≡ x ∷ take (4 * x) (drop (slackFrom e m n + 1) t) =
+    step t (slackFrom e m n) (slackFrom e m n + 1) x (omega arith) ex (omega arith) ∙ ap (λ r. x ∷ r) last in
+    let u4 = skip t (x ∷ take (4 * x) (drop (slackFrom e m n + 1) t)) (tasksFrom m + 1) (slackFrom e m n) (taskSize e * n) refl u5 in
     let u3 = step t (tasksFrom m) (tasksFrom m + 1) n (omega arith) en (omega arith) ∙ ap (λ r. n ∷ r) u4 in
     let u2 = skip t _ 2 (tasksFrom m) m refl u3 in
-    step t 0 1 1 (omega arith) e refl
-    ∙ ap (λ r. 1 ∷ r) (step t 1 2 m (omega arith) em refl)
-    ∙ ap (λ r. 1 ∷ m ∷ r) (u2 ∙ sym (append-assoc (take m (drop 2 t)) _ _))
+    step t 0 1 e (omega arith) ee refl
+    ∙ ap (λ r. e ∷ r) (step t 1 2 m (omega arith) em refl)
+    ∙ ap (λ r. e ∷ m ∷ r) (u2 ∙ sym (append-assoc (take m (drop 2 t)) _ _))
 
 pub table-parts :
-    (t : List ℕ) → byte t 0 ≡ 1 → length t ≡ countedLength t
+    (t : List ℕ) → length t ≡ countedLength t
     → t
-    ≡ (1 ∷ coreCount t ∷ take (coreCount t) (drop 2 t))
-    ++ (taskCount t ∷ take (taskSize * taskCount t) (drop (tasksAt t) t))
+    ≡ (editionIn t ∷ coreCount t ∷ take (coreCount t) (drop 2 t))
+    ++ (taskCount t ∷ take (taskSize (editionIn t) * taskCount t) (drop (tasksAt t) t))
     ++ (slackCount t ∷ take (4 * slackCount t) (drop (slackAt t) t))
 unfolding coreCount taskCount tasksAt slackCount slackAt
-table-parts t e l = parts-at t (coreCount t) (taskCount t) (slackCount t) e refl refl refl l
+table-parts t l = parts-at t (editionIn t) (coreCount t) (taskCount t) (slackCount t) refl refl refl refl l
 
 -- one byte
 label-part : (t : List ℕ) (at : ℕ) → at < length t → byte t at ∷ [] ≡ take 1 (drop at t)
@@ -113,14 +113,14 @@ module _ (t : List ℕ) (b : Bytes t) (l : length t ≡ countedLength t) where
       ∙ entries-parts 1 2 (coreCount t) t
       ∙ rw one-mul
 
-  pub tasks-again : entries (λ i. taskBytes (contentIn t .tasks .task i)) (taskCount t) ≡ take (taskSize * taskCount t) (drop (tasksAt t) t)
+  pub tasks-again : entries (λ i. taskBytes (editionIn t) (contentIn t .tasks .task i)) (taskCount t) ≡ take (taskSize (editionIn t) * taskCount t) (drop (tasksAt t) t)
   unfolding contentIn taskSetIn tasksAt
   tasks-again =
-      entries-same _ (λ i. take taskSize (drop (tasksAt t + taskSize * i) t)) (taskCount t)
+      entries-same _ (λ i. take (taskSize (editionIn t)) (drop (tasksAt t + taskSize (editionIn t) * i) t)) (taskCount t)
       (λ i h.
-      rw (cut-below (taskCount t) (λ j. taskIn t (tasksAt t + taskSize * j)) noTask i h)
-      (task-again t (tasksAt t + taskSize * i) b (omega arith)))
-      ∙ entries-parts taskSize (tasksAt t) (taskCount t) t
+      rw (cut-below (taskCount t) (λ j. taskIn (editionIn t) t (tasksAt t + taskSize (editionIn t) * j)) noTask i h)
+      (task-again (editionIn t) t (tasksAt t + taskSize (editionIn t) * i) b (omega (arith, entry-inside (editionIn t) i (taskCount t) h))))
+      ∙ entries-parts (taskSize (editionIn t)) (tasksAt t) (taskCount t) t
 
   pub slack-again :
       (slackCount t ≡ 0) ⊎ (slackCount t ≡ taskCount t)
@@ -144,7 +144,7 @@ table-fits t a =
       cores-high = q .limits .cores-high;
       tasks-high = q .limits .tasks-high;
       label-past = cut-above (coreCount t) (λ i. byte t (2 + i)) 0;
-      task-past = cut-above (taskCount t) (λ i. taskIn t (tasksAt t + taskSize * i)) noTask;
+      task-past = cut-above (taskCount t) _ noTask;
       slack-past =
           λ i h.
           either-zero
@@ -154,5 +154,6 @@ table-fits t a =
           i
           (found-past (taskSetIn t) (q .limits) i h)
           (cut-above (taskCount t) (λ j. number 4 t (slackAt t + 4 * j)) 0 i h);
+      deadlines = edition-in t;
       offers = q .offers;
     }

@@ -19,11 +19,10 @@ use Rattle.tasks.specs.declared.Plan.{Plan}
 use Rattle.tasks.specs.TaskSet.{TaskSet}
 use Rattle.tasks.specs.Content.{contentOf}
 use Rattle.tasks.specs.Tests.{testPlan}
-use Rattle.tasks.specs.TestsLaws.{tests-compliant, tests-bounded}
 use Rattle.machine.specs.Machine.{Job, opened, pending, waiting}
 use Rattle.state.specs.declared.State.{State}
 use Rattle.state.specs.State.{stateOf}
-use Rattle.state.specs.FitLaws.{plan-limits}
+use Rattle.state.specs.FitLaws.{plan-limits, plan-compliant, plan-bounded}
 use Rattle.state.specs.CallLaws.{opened-empty}
 use Rattle.history.specs.Engine.{Outcome, taken, refused, Engine, Call, state, Ends}
 use Rattle.history.specs.EngineLaws.{ends-step, ends-once}
@@ -52,7 +51,7 @@ module _ {p : Plan} {l : List Entry} {out₀ : List ℕ} (F : Fitting p l out₀
 
   module _ {k : ℕ} (long : longest ≤ k) {O : ℕ → List ℕ} {out : List ℕ} (B : Book p l out₀ n (wait k (calls l n)) O out) where
     end-owners : (i : ℕ) → O i ≡ []
-    unfolding waiting testPlan
+    unfolding waiting
     end-owners i = go (ltb i (s .count)) refl
       where
         empty : (q : List Job) → pending q ≡ false → length q ≡ 0
@@ -70,18 +69,18 @@ module _ {p : Plan} {l : List Entry} {out₀ : List ℕ} (F : Fitting p l out₀
             (owned-length E l i _ (O i) _ (B .owned i less)
             ∙ empty (state E (wait k (calls l n)) .lane i .queue)
             (quiet-idle s (state E (wait k (calls l n)))
-            (quiet-after s (contentOf p .slack) (plan-limits p (F .accepted)) (tests-compliant (contentOf p) (F .accepted))
-            (tests-bounded (contentOf p) (F .accepted)) k (calls l n) long)
+            (quiet-after s (contentOf p .slack) (plan-limits p (F .accepted)) (plan-compliant p (F .accepted))
+            (plan-bounded p (F .accepted)) k (calls l n) long)
             i less))
         go false q = B .unowned i (ltb-false i (s .count) q)
 
     -- what has ended in the whole run has ended the same way here
     ends-later : (i d f : ℕ) → Ends E (whole E l) i d f → Ends E (wait k (calls l n)) i d f
-    unfolding whole testPlan
+    unfolding whole
     ends-later i d f x =
         let r =
-        rest-high s (contentOf p .slack) (plan-limits p (F .accepted)) (tests-compliant (contentOf p) (F .accepted))
-        (tests-bounded (contentOf p) (F .accepted)) l k long in
+        rest-high s (contentOf p .slack) (plan-limits p (F .accepted)) (plan-compliant p (F .accepted))
+        (plan-bounded p (F .accepted)) l k long in
         let z : k - rest E l + rest E l ≡ k = omega arith in
         subst (λ h. Ends E h i d f) (wait-wait (k - rest E l) (rest E l) (calls l n) ∙ ap (λ (m : ℕ). wait m (calls l n)) z)
         (more (k - rest E l) (wait (rest E l) (calls l n)) x)
@@ -91,7 +90,6 @@ module _ {p : Plan} {l : List Entry} {out₀ : List ℕ} (F : Fitting p l out₀
         more (suc a) h y = ends-step E (wait a h) i d f (more a h y)
 
     end-said : (e : ℕ) → e < n → Said out e (report E l e)
-    unfolding testPlan
     end-said e less = go (outcome E l e) refl
       where
         ended :
@@ -103,8 +101,8 @@ module _ {p : Plan} {l : List Entry} {out₀ : List ℕ} (F : Fitting p l out₀
             absurd (true≢false (sym m ∙ ap (member e) (end-owners (loopAt l e)) ∙ not-member-nil e))
         ended t (inr x) =
             let T =
-            machine-claim s (contentOf p .slack) (plan-limits p (F .accepted)) (tests-compliant (contentOf p) (F .accepted))
-            (tests-bounded (contentOf p) (F .accepted)) l .in-time e less t in
+            machine-claim s (contentOf p .slack) (plan-limits p (F .accepted)) (plan-compliant p (F .accepted))
+            (plan-bounded p (F .accepted)) l .in-time e less t in
             let same =
             ends-once E (wait k (calls l n)) (loopAt l e) (owed E l (loopAt l e) (suc e)) (x .0) (T .0) (x .1)
             (ends-later (loopAt l e) (owed E l (loopAt l e) (suc e)) (T .0) (T .1 .1)) in

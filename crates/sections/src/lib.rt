@@ -1,7 +1,7 @@
 // A plan's bytes, section by section. Document 01, "Bytes of a show table".
 use analysis::slack_count;
-use codec::entry::TASK_SIZE;
 use codec::entry::put_task;
+use codec::entry::task_size;
 use codec::places::slack_from;
 use codec::places::table_length;
 use codec::places::tasks_from;
@@ -33,15 +33,16 @@ fn put_labels(out: &mut [u8], at: usize, labels: &[u8; 8], count: usize)
 }
 
 // The loops' section.
-fn put_tasks(out: &mut [u8], at: usize, task: [Task; 16], count: usize)
-    requires { ⌜ (count ≤ 16) × (at + 1 + taskSize * count ≤ length (now out)) ⌝ }
-    ensures { λ r. ⌜ now (out .exit) ≡ sets (now (out .entry)) at (count ∷ entries (λ i. taskBytes (taskOf task i)) count) ⌝ }
+fn put_tasks(out: &mut [u8], at: usize, task: [Task; 16], count: usize, edition: u8)
+    requires { ⌜ (count ≤ 16) × (at + 1 + taskSize edition * count ≤ length (now out)) ⌝ }
+    ensures { λ r. ⌜ now (out .exit) ≡ sets (now (out .entry)) at (count ∷ entries (λ i. taskBytes edition (taskOf task i)) count) ⌝ }
 {
     out[at] = count as u8;
     let from = at + 1;
+    let size = task_size(edition);
     let mut i = 0;
     while i < count {
-        put_task(out, from + TASK_SIZE * i, task[i]);
+        put_task(out, from + size * i, task[i], edition);
         i += 1;
     }
 }
@@ -65,12 +66,13 @@ pub fn put_plan(out: &mut [u8], plan: Plan) -> usize
     requires { ⌜ (plan .cores ≤ 8) × (plan .tasks ≤ 16) × (length (bytesOf (contentOf plan)) ≤ length (now out)) ⌝ }
     ensures { λ r. ⌜ (r ≡ length (bytesOf (contentOf plan))) × (now (out .exit) ≡ bytesOf (contentOf plan) ++ drop (length (bytesOf (contentOf plan))) (now (out .entry))) ⌝ }
 {
+    let edition = plan.edition;
     let cores = plan.cores;
     let tasks = plan.tasks;
     let count = slack_count(plan.offered, tasks);
-    out[0] = 1;
+    out[0] = edition;
     put_labels(out, 1, &plan.labels, cores);
-    put_tasks(out, tasks_from(cores), plan.task, tasks);
-    put_slack(out, slack_from(cores, tasks), &plan.slack, count);
-    table_length(cores, tasks, count)
+    put_tasks(out, tasks_from(cores), plan.task, tasks, edition);
+    put_slack(out, slack_from(edition, cores, tasks), &plan.slack, count);
+    table_length(edition, cores, tasks, count)
 }

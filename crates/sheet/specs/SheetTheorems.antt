@@ -8,23 +8,27 @@
 --     wish-unsolved    27 is met exactly if no solution exists
 use Prim.Native.Nat.{ℕ, _≤_}
 use mathlib.Core.Path.{_≡_, refl, sym, ap, _∙_}
+use mathlib.Core.Bool.{false}
 use mathlib.Core.List.{List, []}
 use mathlib.Core.Logic.{_↔_, inl}
 use lib.ListN.{length}
 use borrow.Author.Tests.{eq-eqb}
 use Rattle.laws.specs.TabLaws.{cut-above}
+use Rattle.tasks.specs.declared.Task.{Task}
 use Rattle.tasks.specs.declared.Plan.{Plan}
+use Rattle.tasks.specs.TaskSet.{row}
 use Rattle.tasks.specs.declared.Answer.the-variants.{Accepted, Refused}
-use Rattle.tasks.specs.Content.{noTask, countedOf, contentOf, planOf, tidy}
+use Rattle.tasks.specs.Content.{Content, noTask, countedOf, contentOf, planOf, tidy}
 use Rattle.tasks.specs.ContentLaws.{Fits, fits-back}
-use Rattle.tasks.specs.Tests.{tests, testPlan}
-use Rattle.tasks.specs.TestsLaws.{tests-limits}
-use Rattle.tasks.specs.AnswerLaws.{firstMet-passed, firstMet-pass, orNext-passed, firstMet-alone}
-use Rattle.codec.specs.Table.{slackCount, taskSetIn, contentIn, bytesOf, test1, test2}
+use Rattle.tasks.specs.Tests.{badEdition, tests, testPlan}
+use Rattle.tasks.specs.TestsLaws.{tests-limits, plan-accepted}
+use Rattle.tasks.specs.AnswerLaws.{refuse-passed, firstMet-passed, firstMet-pass, orNext-passed, firstMet-alone}
+use Rattle.codec.specs.Table.{editionIn, slackCount, taskSetIn, contentIn, bytesOf, test1, test2}
+use Rattle.codec.specs.TaskLaws.{edition-in}
 use Rattle.table.specs.Judged.{judgedAs, judged}
 use Rattle.writer.specs.Written.{writeTest}
 use Rattle.roundtrip.specs.RoundTrip.{judged-back, write-accepts, leftBy, plan-again}
-use Rattle.wishes.specs.Wish.{Solution, withOffsets, atSlack, sheet11, test27, wishTests, solved}
+use Rattle.wishes.specs.Wish.{Solution, withOffset, withOffsets, largestOffset, atSlack, wished, sheet11, test27, wishTests, solved}
 use Rattle.wishes.specs.WishLaws.{wished-past}
 use Rattle.wishes.specs.WishTheorems.{sheetLimits, wish-split, sheet-passed, Best, solved-best, unsolved-exactly, solved-accepted}
 use Rattle.sheet.specs.Wished.{wishVerdict, wishOf}
@@ -49,6 +53,7 @@ module _ (t : List ℕ) (a : wishVerdict t ≡ Accepted) where
         task-past = λ i h. unused (contentIn t .tasks .task i) _ (cut-above _ _ noTask i h);
         slack-past =
             wished-past (contentIn t .tasks) (sheet-passed (contentIn t) (orNext-passed _ _ (sym (wish-split (contentIn t)) ∙ passed) .0) .limits);
+        deadlines = λ i. ap (λ (k : Task). withOffset k (largestOffset (contentIn t .tasks .task i) (row (wished (contentIn t .tasks)) i))) (edition-in t i);
         offers = inl refl;
       }
 
@@ -63,9 +68,16 @@ module _ (t : List ℕ) (a : wishVerdict t ≡ Accepted) where
       Best (contentIn t .tasks) (λ i. contentOf (wishOf t .plan) .tasks .task i .offset) (contentOf (wishOf t .plan) .slack)
   wish-best = rw wish-says (solved-best (contentIn t) passed)
 
+  known : badEdition (editionIn t) ≡ false
+  unfolding wishVerdict test1
+  known = refuse-passed 1 _ (firstMet-passed (test1 t) _ a .0)
+
   pub wish-passes : testPlan (wishOf t .plan) ≡ Accepted
-  unfolding testPlan
-  wish-passes = ap tests wish-says ∙ wish-accepted
+  unfolding contentOf solved contentIn
+  wish-passes =
+      plan-accepted (wishOf t .plan)
+      (ap (λ (c : Content). badEdition (c .edition)) wish-says ∙ known)
+      (ap tests wish-says ∙ wish-accepted)
 
   -- "The plan found, with its slack left out, is accepted by the judge with the same slack."
   tidy-is : tidy (wishOf t .plan) ≡ wishOf t .plan

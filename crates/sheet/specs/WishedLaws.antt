@@ -19,14 +19,14 @@ use Rattle.tasks.specs.declared.Plan.{Plan}
 use Rattle.tasks.specs.declared.Answer.{Answer}
 use Rattle.tasks.specs.declared.Answer.the-variants.{Accepted, Refused}
 use Rattle.tasks.specs.TaskSet.{TaskSet, row}
-use Rattle.tasks.specs.Content.{Content, noTask, taskOf, contentOf, planOf, zeroPlan}
-use Rattle.tasks.specs.ContentLaws.{plan-ext, withSlack}
-use Rattle.tasks.specs.Tests.{firstMet, unlessRefused, test3, test4, test5, test6, test7, test9, test10}
+use Rattle.tasks.specs.Content.{inEdition, Content, noTask, taskOf, contentOf, planOf, zeroPlan}
+use Rattle.tasks.specs.ContentLaws.{used-task, plan-ext, withSlack}
+use Rattle.tasks.specs.Tests.{firstMet, unlessRefused, test3, test4, test5, test6, test7, test28, test9, test10}
 use Rattle.tasks.specs.AnswerLaws.{refuse-passed, firstMet-append, firstMet-passed, outside-passed, firstMet-alone}
 use Rattle.codec.specs.Table.{coreCount, taskCount, slackCount, taskSetIn, contentIn, test1, test2}
 use Rattle.reader.specs.Counted.{countsTest}
 use Rattle.analysis.specs.SlackTest.{offering}
-use Rattle.table.specs.LoadedLaws.{loaded, outside-past, tasks-in, labels-in}
+use Rattle.table.specs.LoadedLaws.{loaded, outside-past, edition-same, tasks-in, labels-in}
 use Rattle.wishes.specs.Wish.{withOffset, withOffsets, largestOffset, atSlack, wished, test26, sheet11, test27, wishTests, solved}
 use Rattle.wish_search.specs.declared.solve.Solved.{Solved}
 use Rattle.wish_search.specs.Solved.{FoundIn, PlanSolved}
@@ -37,6 +37,7 @@ use Rattle.sheet.specs.Wished.{wishVerdict, wishOf}
 unfoldable pub planWith : Plan → ℕ → Plan
 planWith p k =
     record {
+      edition = p .edition;
       offered = false;
       cores = p .cores;
       tasks = p .tasks;
@@ -67,13 +68,13 @@ module _ (p : Plan) (k : ℕ) where
   wisher : ℕ → Task
   wisher = offering p k .tasks .task
 
-  wisher-below : (i : ℕ) → i < p .tasks → wisher i ≡ taskOf (p .task) i
-  unfolding wisher offering contentOf
-  wisher-below i h = cut-below (p .tasks) (taskOf (p .task)) noTask i h
+  wisher-below : (i : ℕ) → i < p .tasks → wisher i ≡ inEdition (p .edition) (taskOf (p .task) i)
+  unfolding wisher offering
+  wisher-below i h = used-task p i h
 
   wisher-above : (i : ℕ) → p .tasks ≤ i → wisher i ≡ noTask
   unfolding wisher offering contentOf
-  wisher-above i h = cut-above (p .tasks) (taskOf (p .task)) noTask i h
+  wisher-above i h = cut-above (p .tasks) _ noTask i h
 
   -- the offset found for a task
   solved-at : (i : ℕ) → solved (offering p k) .tasks .task i ≡ withOffset (wisher i) (largestOffset (wisher i) (solved (offering p k) .slack i))
@@ -88,10 +89,10 @@ module _ (p : Plan) (k : ℕ) where
         (getD-tab _ 16 i 0 (omega arith) ∙ cut-below (p .tasks) _ 0 i h)
 
     tasks-found :
-        tab (cut (p .tasks) (λ i. withOffset (taskOf (p .task) i) (row (r .offset) i)) noTask) 16 ≡ tab (solved (offering p k) .tasks .task) 16
+        tab (cut (p .tasks) (λ i. withOffset (inEdition (p .edition) (taskOf (p .task) i)) (row (r .offset) i)) noTask) 16 ≡ tab (solved (offering p k) .tasks .task) 16
     tasks-found = tab-ext _ _ 16 (λ i h. each i)
       where
-        each : (i : ℕ) → cut (p .tasks) (λ i. withOffset (taskOf (p .task) i) (row (r .offset) i)) noTask i ≡ solved (offering p k) .tasks .task i
+        each : (i : ℕ) → cut (p .tasks) (λ i. withOffset (inEdition (p .edition) (taskOf (p .task) i)) (row (r .offset) i)) noTask i ≡ solved (offering p k) .tasks .task i
         each i =
             ⊎-elim
             (λ (h : i < p .tasks).
@@ -112,24 +113,24 @@ module _ (p : Plan) (k : ℕ) where
       few = few-tasks (offering p k) (sym (g .answer) ∙ e)
 
       pub plan-found :
-          (task : List Task) → task ≡ tab (cut (p .tasks) (λ i. withOffset (taskOf (p .task) i) (row (r .offset) i)) noTask) 16
+          (task : List Task) → task ≡ tab (cut (p .tasks) (λ i. withOffset (inEdition (p .edition) (taskOf (p .task) i)) (row (r .offset) i)) noTask) 16
           → Wishes p k
           (record {
             answer = Accepted;
-            plan = record { offered = false; cores = p .cores; tasks = p .tasks; labels = p .labels; task = task; slack = r .slack };
+            plan = record { edition = p .edition; offered = false; cores = p .cores; tasks = p .tasks; labels = p .labels; task = task; slack = r .slack };
           })
       unfolding planWith solved
       plan-found task et =
           record {
             answer = sym e ∙ g .answer;
             plan =
-                plan-ext _ (planWith p k) refl refl refl refl (et ∙ tasks-found r few (g .found e)) (g .found e .slack);
+                plan-ext _ (planWith p k) refl refl refl refl refl (et ∙ tasks-found r few (g .found e)) (g .found e .slack);
           }
 
--- the tests of a sheet look at its tasks, its labels and its slack count
-tests-same : (c d : Content) → c .tasks ≡ d .tasks → c .label ≡ d .label → c .offers ≡ d .offers → wishTests c ≡ wishTests d
-unfolding wishTests test3 test4 test5 test6 test7 test26 test9 test10 sheet11 test27
-tests-same c d e q o = λ i. wishTests (record { tasks = e i; label = q i; offers = o i; slack = c .slack })
+-- the tests of a sheet look at its edition, its tasks, its labels and its slack count
+tests-same : (c d : Content) → c .edition ≡ d .edition → c .tasks ≡ d .tasks → c .label ≡ d .label → c .offers ≡ d .offers → wishTests c ≡ wishTests d
+unfolding wishTests test3 test4 test5 test6 test7 test26 test28 test9 test10 sheet11 test27
+tests-same c d v e q o = λ i. wishTests (record { edition = v i; tasks = e i; label = q i; offers = o i; slack = c .slack })
 
 verdict-stops : (t : List ℕ) (k i : ℕ) → countsTest t ≡ Refused k i → wishVerdict t ≡ Refused k i
 unfolding wishVerdict countsTest
@@ -150,7 +151,7 @@ module _ (t : List ℕ) where
 
   in-range : coreCount t ≤ 8 → taskCount t ≤ 16 → wishTests said ≡ wishTests (contentIn t)
   unfolding said offering contentIn
-  in-range m n = tests-same said (contentIn t) (tasks-in t n) (labels-in t m) refl
+  in-range m n = tests-same said (contentIn t) (edition-same t) (tasks-in t n) (labels-in t m) refl
 
   tests-in : wishTests said ≡ wishTests (contentIn t)
   tests-in =
@@ -161,7 +162,7 @@ module _ (t : List ℕ) where
   with-in : taskCount t ≤ 16 → planWith (loaded t) (slackCount t) ≡ planOf (solved (contentIn t))
   unfolding planWith planOf loaded withSlack solved offering contentIn taskSetIn atSlack withOffsets
   with-in n =
-      plan-ext (planWith (loaded t) (slackCount t)) (planOf (solved (contentIn t))) refl refl refl refl
+      plan-ext (planWith (loaded t) (slackCount t)) (planOf (solved (contentIn t))) refl refl refl refl refl
       (ap (λ (s : TaskSet). tab (atSlack s (row (wished s)) .task) 16) (tasks-in t n))
       (ap (λ (s : TaskSet). tab (row (wished s)) 16) (tasks-in t n))
 

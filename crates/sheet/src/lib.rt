@@ -6,6 +6,7 @@ use table::uncounted;
 use tasks::Answer;
 use tasks::Plan;
 use tasks::Task;
+use tasks::edition::deadline_in;
 use tidy::no_plan;
 use tidy::no_task;
 use wish_search::solve::solve_plan;
@@ -13,7 +14,7 @@ ghost use mathlib.Core.Path.{_≡_};
 ghost use Prim.Native.Nat.{_≤_};
 ghost use Rattle.laws.specs.Tab.{tab, cut};
 ghost use Rattle.tasks.specs.TaskSet.{row};
-ghost use Rattle.tasks.specs.Content.{noTask, taskOf, zeroPlan};
+ghost use Rattle.tasks.specs.Content.{inEdition, noTask, taskOf, zeroPlan};
 ghost use Rattle.wishes.specs.Wish.{withOffset};
 ghost use Rattle.sheet.specs.Wished.{wishOf};
 ghost use Rattle.sheet.specs.WishedLaws.{Wishes};
@@ -32,9 +33,9 @@ fn refused(answer: Answer) -> Wished
 }
 
 // The first tasks with these offsets in their wishes' place, tasks of zeros after them.
-fn with_offsets(task: [Task; 16], offset: &[u32; 16], tasks: usize) -> [Task; 16]
+fn with_offsets(edition: u8, task: [Task; 16], offset: &[u32; 16], tasks: usize) -> [Task; 16]
     requires { ⌜ tasks ≤ 16 ⌝ }
-    ensures { λ r. ⌜ r ≡ tab (cut tasks (λ i. withOffset (taskOf task i) (row (now (offset .entry)) i)) noTask) 16 ⌝ }
+    ensures { λ r. ⌜ r ≡ tab (cut tasks (λ i. withOffset (inEdition edition (taskOf task i)) (row (now (offset .entry)) i)) noTask) 16 ⌝ }
 {
     let none = no_task();
     let mut found = [none; 16];
@@ -45,6 +46,7 @@ fn with_offsets(task: [Task; 16], offset: &[u32; 16], tasks: usize) -> [Task; 16
             separation: t.separation,
             budget: t.budget,
             offset: offset[i],
+            deadline: deadline_in(edition, t.deadline),
         };
         i += 1;
     }
@@ -62,7 +64,7 @@ fn wish_plan(plan: Plan, offers: usize) -> Wished
     };
     let wishing = plan.task;
     let offset = solved.offset;
-    let task = with_offsets(wishing, &offset, plan.tasks);
+    let task = with_offsets(plan.edition, wishing, &offset, plan.tasks);
     let slack = solved.slack;
     let mut found = plan;
     found.offered = false;
@@ -80,6 +82,7 @@ pub fn wish(sheet: &[u8]) -> Wished
 {
     let counts = read_counts(sheet);
     let Counts::Read {
+        edition,
         cores,
         tasks,
         offers,
@@ -87,6 +90,6 @@ pub fn wish(sheet: &[u8]) -> Wished
     else {
         return refused(uncounted(counts));
     };
-    let plan = load(sheet, cores, tasks, offers);
+    let plan = load(sheet, edition, cores, tasks, offers);
     wish_plan(plan, offers)
 }

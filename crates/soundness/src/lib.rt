@@ -33,7 +33,7 @@ pub fn sound(state: State) -> bool
     if !labels_zero(&labels, cores) {
         return false;
     }
-    if !tasks_zero(task, &slack, tasks) {
+    if !tasks_zero(plan.edition, task, &slack, tasks) {
         return false;
     }
     if limits::CLOCK_END < clock {

@@ -4,6 +4,7 @@
 --     state-back       a sound state is the state of its machine
 --     machine-back     a machine that fits is the machine of its state
 --     in-task          a loop's task in the task set of a plan
+--     plan-limits, plan-compliant, plan-bounded    what a plan has that meets none of its numbers
 --     few-tasks, idle  a sound state has at most sixteen loops, and beyond its table no job and no release
 use Prim.Native.Nat.{ℕ, zero, suc, _+_, _-_, _*_, _/_, _%_, _≤_, _<_}
 use mathlib.Core.Bool.{Bool, true, false, false≢true, true≢false}
@@ -14,15 +15,16 @@ use lib.ListN.{length, getD, List·getD-eq-default}
 use lib.Dec.{ltb}
 use borrow.Author.Tests.{ltb-true, ltb-false, le-ltb, leb-true, le-leb}
 use Rattle.laws.specs.Tab.{tab}
-use Rattle.laws.specs.TabLaws.{length-tab, getD-tab, cut-below}
+use Rattle.laws.specs.TabLaws.{length-tab, getD-tab}
 use Rattle.tasks.specs.declared.Plan.{Plan}
 use Rattle.tasks.specs.declared.Answer.{Answer}
 use Rattle.tasks.specs.declared.Answer.the-variants.{Accepted, Refused}
-use Rattle.tasks.specs.TaskSet.{row}
-use Rattle.tasks.specs.Content.{noTask, taskOf, contentOf, tidy}
+use Rattle.tasks.specs.TaskSet.{Compliant, row}
+use Rattle.tasks.specs.Content.{inEdition, taskOf, contentOf, tidy}
+use Rattle.tasks.specs.ContentLaws.{used-task}
 use Rattle.tasks.specs.Tests.{testPlan}
-use Rattle.tasks.specs.Limits.{Limits}
-use Rattle.tasks.specs.TestsLaws.{tests-limits}
+use Rattle.tasks.specs.Limits.{Limits, Bounded}
+use Rattle.tasks.specs.TestsLaws.{tests-limits, tests-compliant, tests-bounded, plan-passed}
 use Rattle.machine.specs.Machine.{releaseTick, remaining, Lane, Machine, opened}
 use Rattle.machine.specs.Sound.{Rising, Newest, Past, SoundLane}
 use Rattle.state.specs.declared.State.{State}
@@ -40,13 +42,18 @@ passed : (a : Answer) → passes a ≡ true → a ≡ Accepted
 passed Accepted e = refl
 passed (Refused k i) e = absurd (false≢true e)
 
-pub in-task : (p : Plan) (i : ℕ) → i < p .tasks → contentOf p .tasks .task i ≡ taskOf (p .task) i
-unfolding contentOf
-in-task p i h = cut-below (p .tasks) (taskOf (p .task)) noTask i h
+pub in-task : (p : Plan) (i : ℕ) → i < p .tasks → contentOf p .tasks .task i ≡ inEdition (p .edition) (taskOf (p .task) i)
+in-task = used-task
 
-pub plan-limits : (p : Plan) → testPlan p ≡ Accepted → Limits (contentOf p .tasks)
-unfolding testPlan
-plan-limits p a = tests-limits (contentOf p) a
+module _ (p : Plan) (a : testPlan p ≡ Accepted) where
+  pub plan-limits : Limits (contentOf p .tasks)
+  plan-limits = tests-limits (contentOf p) (plan-passed p a .1)
+
+  pub plan-compliant : Compliant (contentOf p .tasks) (contentOf p .slack)
+  plan-compliant = tests-compliant (contentOf p) (plan-passed p a .1)
+
+  pub plan-bounded : Bounded (contentOf p .tasks) (contentOf p .slack)
+  plan-bounded = tests-bounded (contentOf p) (plan-passed p a .1)
 
 pub in-count : (p : Plan) → contentOf p .tasks .count ≡ p .tasks
 unfolding contentOf

@@ -18,7 +18,6 @@ use Rattle.tasks.specs.declared.Answer.the-variants.{Accepted, Refused}
 use Rattle.tasks.specs.Content.{contentOf, tidy}
 use Rattle.tasks.specs.ContentLaws.{tidy-tidy}
 use Rattle.tasks.specs.Tests.{orNext, firstMet, testPlan, unlessRefused}
-use Rattle.tasks.specs.TestsLaws.{tests-compliant, tests-bounded}
 use Rattle.machine.specs.Machine.{Job, job, Machine, opened, full, Allowed, joined, admitted, served, advanced, runs, tick}
 use Rattle.machine.specs.Admission.{admitTests}
 use Rattle.machine.specs.Reached.{Reached}
@@ -29,7 +28,7 @@ use Rattle.state.specs.State.{stateOf}
 use Rattle.state.specs.Calls.{openOf, tasksOf, stepTests, releaseTests, releaseOf, tickedOf, stepOf}
 use Rattle.state.specs.Fit.{Fit}
 use Rattle.state.specs.TidyLaws.{tidy-accepted}
-use Rattle.state.specs.FitLaws.{plan-limits, in-count, in-cores, fit-sound, machine-back}
+use Rattle.state.specs.FitLaws.{plan-limits, plan-compliant, plan-bounded, in-count, in-cores, fit-sound, machine-back}
 
 pub opened-fit : (p : Plan) → testPlan p ≡ Accepted → Fit (tidy p) opened
 unfolding opened
@@ -113,7 +112,7 @@ module _ (p : Plan) (M : Machine) (F : Fit p M) where
   release-state i c h = rw (tests-state i c h, machine-back p M F)
 
 pub reached-fit : (p : Plan) → testPlan p ≡ Accepted → tidy p ≡ p → (M : Machine) → Reached (contentOf p .tasks) M → M .clock ≤ 4000000000 → Fit p M
-unfolding testPlan opened
+unfolding opened
 reached-fit p a e M r h =
     record {
       accepted = a;
@@ -128,8 +127,8 @@ reached-fit p a e M r h =
 
     few : (i : ℕ) (b : Bool) → ltb i (contentOf p .tasks .count) ≡ b → length (M .lane i .queue) ≤ 16
     few i true q =
-        reached-holds (contentOf p .tasks) (contentOf p .slack) (plan-limits p a) (tests-compliant (contentOf p) a)
-        (tests-bounded (contentOf p) a) r i (ltb-true _ _ q)
+        reached-holds (contentOf p .tasks) (contentOf p .slack) (plan-limits p a) (plan-compliant p a)
+        (plan-bounded p a) r i (ltb-true _ _ q)
     few i false q = empty i (reached-sound (contentOf p .tasks) r .unused i (ltb-false _ _ q))
 
 pub open-state : (p : Plan) → testPlan p ≡ Accepted → openOf p ≡ record { answer = Accepted; state = stateOf (tidy p) opened }

@@ -13,7 +13,7 @@ use Rattle.tasks.specs.declared.Answer.{Answer}
 use Rattle.tasks.specs.declared.Answer.the-variants.{Accepted, Refused}
 use Rattle.tasks.specs.Numbers.{clockEnd}
 use Rattle.tasks.specs.TaskSet.{row}
-use Rattle.tasks.specs.Content.{zeroTask, taskOf}
+use Rattle.tasks.specs.Content.{dated, zeroTask, taskOf}
 use Rattle.tasks.specs.Tests.{testPlan}
 use Rattle.state.specs.declared.State.{State}
 use Rattle.state.specs.State.{flagAt}
@@ -31,7 +31,10 @@ unfoldable pub tidyLabel : Plan → ℕ → Bool
 tidyLabel p i = ltb i (p .cores) || eqb (row (p .labels) i) 0
 
 unfoldable pub tidyTask : Plan → ℕ → Bool
-tidyTask p i = ltb i (p .tasks) || (zeroTask (taskOf (p .task) i) && eqb (row (p .slack) i) 0)
+tidyTask p i =
+    (ltb i (p .tasks) || (zeroTask (taskOf (p .task) i) && eqb (row (p .slack) i) 0))
+    -- "the deadline, an unused place in edition 1"
+    && (dated (p .edition) || eqb (taskOf (p .task) i .deadline) 0)
 
 unfoldable pub tidyTest : Plan → Bool
 tidyTest p = allOf (tidyLabel p) 8 && allOf (tidyTask p) 16
@@ -88,7 +91,7 @@ placeSound s k =
 
 unfoldable pub soundOf : State → Bool
 soundOf s =
-    -- "its table part passes 3 to 13"
+    -- "its table part passes 3 to 13"; "a state of" another edition meets 18; 28 is tested "in plans and states too"
     passes (testPlan (s .plan))
     && (tidyTest (s .plan)
     -- "its clock is at most 4,000,000,000"

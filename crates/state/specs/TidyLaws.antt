@@ -10,13 +10,14 @@ use lib.ListN.{length, getD}
 use lib.Dec.{ltb, eqb}
 use borrow.Author.Tests.{ltb-true, ltb-false, le-ltb, eqb-true, eq-eqb}
 use Rattle.laws.specs.Tab.{tab, cut}
-use Rattle.laws.specs.TabLaws.{length-tab, getD-tab, ext-tab, cut-below, cut-above}
+use Rattle.laws.specs.TabLaws.{length-tab, getD-tab, ext-tab, tab-ext, cut-below, cut-above, cut-map}
 use Rattle.tasks.specs.declared.Plan.{Plan}
 use Rattle.tasks.specs.declared.Answer.the-variants.{Accepted}
 use Rattle.tasks.specs.TaskSet.{row}
-use Rattle.tasks.specs.Content.{noTask, zeroTask, taskOf, contentOf, planOf, tidy}
-use Rattle.tasks.specs.ContentLaws.{mark-back, zero-task, no-task, content-tidy}
-use Rattle.tasks.specs.Tests.{testPlan}
+use Rattle.tasks.specs.Content.{inEdition, noTask, zeroTask, taskOf, contentOf, planOf, tidy}
+use Rattle.tasks.specs.ContentLaws.{edition-zero, cut-edition, kept-in, in-kept, mark-back, zero-task, no-task, content-tidy}
+use Rattle.tasks.specs.Tests.{badEdition, tests, testPlan}
+use Rattle.tasks.specs.TestsLaws.{plan-passed, plan-accepted}
 use Rattle.state.specs.SoundState.{tidyLabel, tidyTask, tidyTest}
 use Rattle.laws.specs.EveryLaws.{both, and-both}
 use Rattle.state.specs.AllLaws.{all-at, of-all}
@@ -37,6 +38,7 @@ module _ (p : Plan) where
   tidy-from S n e =
       λ i.
       record {
+        edition = p .edition;
         offered = mark-back (p .offered) (p .tasks) n i;
         cores = p .cores;
         tasks = p .tasks;
@@ -49,15 +51,27 @@ module _ (p : Plan) where
       parts h = let a = both _ _ h in (λ i l. all-at (tidyLabel p) 8 i (a .0) l, λ i l. all-at (tidyTask p) 16 i (a .1) l)
 
       past : (i : ℕ) → i < 16 → p .tasks ≤ i → (zeroTask (getD (p .task) i noTask) ≡ true) × (eqb (getD (p .slack) i 0) 0 ≡ true)
-      past i h l = both _ _ (either (ltb i (p .tasks)) _ (parts e .1 i h) (le-ltb i (p .tasks) l))
+      past i h l = both _ _ (either (ltb i (p .tasks)) _ (both _ _ (parts e .1 i h) .0) (le-ltb i (p .tasks) l))
 
       labels : tab (cut (p .cores) (λ i. getD (p .labels) i 0) 0) 8 ≡ p .labels
       labels =
           uncut (p .labels) 0 (p .cores) 8 (S .labels)
           (λ i h l. eqb-true _ _ (either (ltb i (p .cores)) _ (parts e .0 i h) (le-ltb i (p .cores) l)))
 
-      task : tab (cut (p .tasks) (λ i. getD (p .task) i noTask) noTask) 16 ≡ p .task
-      task = uncut (p .task) noTask (p .tasks) 16 (S .task) (λ i h l. zero-task (getD (p .task) i noTask) (past i h l .0))
+      task : tab (cut (p .tasks) (λ i. inEdition (p .edition) (getD (p .task) i noTask)) noTask) 16 ≡ p .task
+      task =
+          tab-ext _ _ 16
+          (λ i h.
+          cut-map (inEdition (p .edition)) (p .tasks) (λ j. getD (p .task) j noTask) noTask noTask (edition-zero (p .edition)) i
+          ∙ dated-cut i h)
+          ∙ uncut (p .task) noTask (p .tasks) 16 (S .task) (λ i h l. zero-task (getD (p .task) i noTask) (past i h l .0))
+
+      dated-cut : (i : ℕ) → i < 16 → inEdition (p .edition) (cut (p .tasks) (λ j. getD (p .task) j noTask) noTask i) ≡ cut (p .tasks) (λ j. getD (p .task) j noTask) noTask i
+      dated-cut i h = go (ltb i (p .tasks)) refl
+        where
+          go : (b : Bool) → ltb i (p .tasks) ≡ b → inEdition (p .edition) (cut (p .tasks) (λ j. getD (p .task) j noTask) noTask i) ≡ cut (p .tasks) (λ j. getD (p .task) j noTask) noTask i
+          go true q = rw (cut-below (p .tasks) (λ j. getD (p .task) j noTask) noTask i (ltb-true _ _ q)) (kept-in (p .edition) _ (both _ _ (parts e .1 i h) .1))
+          go false q = rw (cut-above (p .tasks) (λ j. getD (p .task) j noTask) noTask i (ltb-false _ _ q)) (edition-zero (p .edition))
 
       slack : tab (cut (p .tasks) (λ i. getD (p .slack) i 0) 0) 16 ≡ p .slack
       slack = uncut (p .slack) 0 (p .tasks) 16 (S .slack) (λ i h l. eqb-true _ _ (past i h l .1))
@@ -84,18 +98,35 @@ module _ (p : Plan) where
   unfolding tidy planOf contentOf row
   slack-past i h l = getD-tab _ 16 i 0 h ∙ cut-above (p .tasks) _ 0 i l
 
+  -- a tidied plan's tasks are as its edition has them
+  task-dated : (i : ℕ) → i < 16 → inEdition (p .edition) (taskOf (tidy p .task) i) ≡ taskOf (tidy p .task) i
+  unfolding tidy planOf contentOf taskOf
+  task-dated i h = rw (getD-tab (cut (p .tasks) (λ j. inEdition (p .edition) (getD (p .task) j noTask)) noTask) 16 i noTask h) (cut-edition (p .edition) (p .tasks) _ i)
+
   pub tidy-to : tidy p ≡ p → tidyTest p ≡ true
   unfolding tidyTest tidyLabel tidyTask
   tidy-to e =
       and-both _ _
       (of-all _ 8 (λ i h. or-else (ltb i (p .cores)) _ (λ f. eq-eqb _ _ (ap (λ (q : Plan). row (q .labels) i) (sym e) ∙ label-past i h (ltb-false _ _ f)))))
       (of-all _ 16
-      (λ i h. or-else (ltb i (p .tasks)) _
+      (λ i h.
+      and-both _ _
+      (or-else (ltb i (p .tasks)) _
       (λ f.
       and-both _ _
       (no-task (taskOf (p .task) i) (ap (λ (q : Plan). taskOf (q .task) i) (sym e) ∙ task-past i h (ltb-false _ _ f)))
-      (eq-eqb _ _ (ap (λ (q : Plan). row (q .slack) i) (sym e) ∙ slack-past i h (ltb-false _ _ f))))))
+      (eq-eqb _ _ (ap (λ (q : Plan). row (q .slack) i) (sym e) ∙ slack-past i h (ltb-false _ _ f)))))
+      (in-kept (p .edition) (taskOf (p .task) i)
+      (ap (λ (q : Plan). inEdition (p .edition) (taskOf (q .task) i)) (sym e)
+      ∙ task-dated i h
+      ∙ ap (λ (q : Plan). taskOf (q .task) i) e))))
+
+tidy-edition : (p : Plan) → tidy p .edition ≡ p .edition
+unfolding tidy planOf contentOf
+tidy-edition p = refl
 
 pub tidy-accepted : (p : Plan) → p .cores ≤ 8 → p .tasks ≤ 16 → testPlan p ≡ Accepted → testPlan (tidy p) ≡ Accepted
-unfolding testPlan
-tidy-accepted p m n a = rw (content-tidy p m n) a
+tidy-accepted p m n a =
+    plan-accepted (tidy p)
+    (ap badEdition (tidy-edition p) ∙ plan-passed p a .0)
+    (ap tests (content-tidy p m n) ∙ plan-passed p a .1)

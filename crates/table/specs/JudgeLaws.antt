@@ -17,7 +17,7 @@ use Rattle.tasks.specs.declared.Answer.the-variants.{Accepted, Refused}
 use Rattle.tasks.specs.TaskSet.{TaskSet, counted, found, row}
 use Rattle.tasks.specs.AmountLaws.{counted-ext}
 use Rattle.tasks.specs.Content.{Content, countedOf, contentOf, planOf, zeroPlan}
-use Rattle.tasks.specs.Tests.{firstMet, orNext, test3, test4, test5, test6, test7, test8, test9, test10, test11, tests, unlessRefused}
+use Rattle.tasks.specs.Tests.{firstMet, orNext, test3, test4, test5, test6, test7, test8, test28, test9, test10, test11, tests, unlessRefused}
 use Rattle.tasks.specs.AnswerLaws.{refuse-passed, orNext-passed, firstMet-passed, firstMet-append, firstMet-alone}
 use Rattle.tasks.specs.LimitsLaws.{limitTests, slackTests, tests-split, limits-passed}
 use Rattle.analysis.specs.SlackTest.{offering, offeredTest, hadSlack}
@@ -57,7 +57,7 @@ module _ (t : List ℕ) where
   none z = z
 
   said-limits : limitTests said ≡ limitTests (contentIn t)
-  unfolding said offering limitTests test3 test4 test5 test6 test7 test8 test9 test10
+  unfolding said offering limitTests test3 test4 test5 test6 test7 test8 test28 test9 test10
   said-limits = limits-all t
 
   -- the slack that stands in the table's content is the slack that it has
@@ -68,6 +68,10 @@ module _ (t : List ℕ) where
       go : (b : Bool) → eqb (slackCount t) 0 ≡ b → contentIn t .slack i ≡ hadSlack (contentIn t) i
       go true e = rw e
       go false e = rw e
+
+  said-edition : said .edition ≡ contentIn t .edition
+  unfolding said offering loaded withSlack planOf contentIn
+  said-edition = refl
 
   said-tasks : taskCount t ≤ 16 → said .tasks ≡ contentIn t .tasks
   unfolding said offering
@@ -89,7 +93,7 @@ module _ (t : List ℕ) where
   -- with the offered slack the plan says what the table says
   said-same : coreCount t ≤ 8 → taskCount t ≤ 16 → slackCount t ≡ taskCount t → (slackCount t ≡ 0 → ⊥) → said ≡ contentIn t
   unfolding said offering
-  said-same m n e z = content-ext said (contentIn t) (said-tasks n) (said-labels m) said-offers (slack-in t n e z)
+  said-same m n e z = content-ext said (contentIn t) said-edition (said-tasks n) (said-labels m) said-offers (slack-in t n e z)
 
   -- 11 is not met
   two-counts : test11 (contentIn t) ≡ Accepted → (slackCount t ≡ 0 → ⊥) → slackCount t ≡ taskCount t
@@ -108,7 +112,7 @@ module _ (t : List ℕ) where
       offered : (b : Bool) → eqb (slackCount t) 0 ≡ b → limitTests (contentIn t) ≡ Accepted → test11 (contentIn t) ≡ Accepted → judging said ≡ judging (contentIn t)
       offered true z e f =
           let w = within e in
-          judging-found said (contentIn t) (said-tasks (w .1)) (said-labels (w .0)) said-offers (none (eqb-true _ _ z))
+          judging-found said (contentIn t) said-edition (said-tasks (w .1)) (said-labels (w .0)) said-offers (none (eqb-true _ _ z))
       offered false z e f =
           let w = within e in
           ap judging (said-same (w .0) (w .1) (two-counts f (eqb-false _ _ z)) (eqb-false _ _ z))
@@ -116,7 +120,7 @@ module _ (t : List ℕ) where
       counts : (a : Answer) → test11 (contentIn t) ≡ a → limitTests (contentIn t) ≡ Accepted → judging said ≡ judging (contentIn t)
       counts (Refused j i) f e =
           let w = within e in
-          judging-count said (contentIn t) (said-tasks (w .1)) (said-labels (w .0)) said-offers j i said-limits e f
+          judging-count said (contentIn t) said-edition (said-tasks (w .1)) (said-labels (w .0)) said-offers j i said-limits e f
       counts Accepted f e = offered (eqb (slackCount t) 0) refl e f
 
       limits : (a : Answer) → limitTests (contentIn t) ≡ a → judging said ≡ judging (contentIn t)

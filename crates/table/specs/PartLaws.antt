@@ -33,16 +33,16 @@ module _ (t : List ℕ) (j : Judgement) (e : j ≡ judged t) where
     unfolding verdict
     long = right-length t (firstMet-passed (test2 t) _ (firstMet-passed (test1 t) _ accepted .1) .0)
 
-    pub part-place : slackFrom (j .plan .cores) (j .plan .tasks) + 1 ≡ slackAt t
+    pub part-place : slackFrom (j .plan .edition) (j .plan .cores) (j .plan .tasks) + 1 ≡ slackAt t
     unfolding judged planOf contentIn taskSetIn slackAt
     part-place = rw (e, accepted) (omega arith)
 
-    pub part-within : slackFrom (j .plan .cores) (j .plan .tasks) + 1 ≤ length t
+    pub part-within : slackFrom (j .plan .edition) (j .plan .cores) (j .plan .tasks) + 1 ≤ length t
     unfolding slackAt
     part-within = omega (arith, part-place, long)
 
     pub part-rest :
-        take (length t - (slackFrom (j .plan .cores) (j .plan .tasks) + 1)) (drop (slackFrom (j .plan .cores) (j .plan .tasks) + 1) t) ≡ slackPart t
+        take (length t - (slackFrom (j .plan .edition) (j .plan .cores) (j .plan .tasks) + 1)) (drop (slackFrom (j .plan .edition) (j .plan .cores) (j .plan .tasks) + 1) t) ≡ slackPart t
     unfolding slackPart
     part-rest =
         rw (part-place, accepted) (take-all (length t - slackAt t) (drop (slackAt t) t) (le-of-eq (length-drop (slackAt t) t)))

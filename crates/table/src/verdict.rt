@@ -34,14 +34,15 @@ fn refused(answer: Answer) -> Judgement
 }
 
 // The plan that the table's sections fill.
-pub fn load(table: &[u8], cores: usize, tasks: usize, offers: usize) -> Plan
-    requires { ⌜ CountsIn (now table) cores tasks offers ⌝ }
+pub fn load(table: &[u8], edition: u8, cores: usize, tasks: usize, offers: usize) -> Plan
+    requires { ⌜ CountsIn (now table) edition cores tasks offers ⌝ }
     ensures { λ r. ⌜ r ≡ loaded (now (table .entry)) ⌝ }
 {
     let labels = load_labels(table, cores);
-    let task = load_tasks(table, tasks_from(cores) + 1, tasks);
-    let slack = load_slack(table, slack_from(cores, tasks) + 1, offers);
+    let task = load_tasks(table, tasks_from(cores) + 1, tasks, edition);
+    let slack = load_slack(table, slack_from(edition, cores, tasks) + 1, offers);
     Plan {
+        edition,
         offered: offers != 0,
         cores,
         tasks,
@@ -51,7 +52,7 @@ pub fn load(table: &[u8], cores: usize, tasks: usize, offers: usize) -> Plan
     }
 }
 
-// Tests 3 to 13, of a table that meets neither 1 nor 2.
+// Tests 3 to 13 and 28, of a table that meets neither 1 nor 2.
 fn judge_plan(plan: Plan, offers: usize) -> Judgement
     ensures { λ r. ⌜ Judges plan offers r ⌝ }
 {
@@ -78,12 +79,13 @@ fn judge_plan(plan: Plan, offers: usize) -> Judgement
     }
 }
 
-// The plan of a table, or the first of 1 to 13 that it meets.
+// The plan of a table, or the first of 1 to 13 and 28 that it meets.
 pub fn judge(table: &[u8]) -> Judgement
     ensures { λ r. ⌜ r ≡ judged (now (table .entry)) ⌝ }
 {
     let counts = read_counts(table);
     let Counts::Read {
+        edition,
         cores,
         tasks,
         offers,
@@ -91,7 +93,7 @@ pub fn judge(table: &[u8]) -> Judgement
     else {
         return refused(uncounted(counts));
     };
-    let plan = load(table, cores, tasks, offers);
+    let plan = load(table, edition, cores, tasks, offers);
     judge_plan(plan, offers)
 }
 
@@ -101,6 +103,7 @@ pub fn uncounted(counts: Counts) -> Answer
 {
     match counts {
         Counts::Read {
+            edition: _,
             cores: _,
             tasks: _,
             offers: _,
@@ -118,6 +121,11 @@ pub fn slack_part(table: &[u8]) -> &[u8]
     let Answer::Accepted = answer else {
         return &table[..0];
     };
-    let at = slack_from(judgement.plan.cores, judgement.plan.tasks) + 1;
+    let at = slack_from(
+        judgement.plan.edition,
+        judgement.plan.cores,
+        judgement.plan.tasks,
+    )
+        + 1;
     &table[at..]
 }

@@ -2,6 +2,9 @@
 --     plan-ext        plans with equal fields are the same
 --     content-ext     contents with the same edition, tasks, labels, slack count and slack are the same
 --     edition-zero    a task of zeros is one in every edition; edition-again: what an edition leaves of a task, it leaves whole
+--     kept-in         a task whose deadline the edition has, or is 0, is as the edition has it; in-kept: and back
+--     cut-edition     a row of tasks as an edition has them, cut off, is one
+--     late-edition    late looks at a deadline that the edition has; late-high: it is at most the bound
 --     used-task       a task of a plan that is in use, as its edition has it
 --     withSlack       a plan with this slack in place of its own
 --     Fits            the content's counts are within a plan's arrays, its rows are zero past the counts, and so are deadlines that its edition doesn't have
@@ -12,22 +15,22 @@
 --     mark-back       the mark of a plan with tasks comes back from its slack count
 --     tidied-code     the tidied plan, array by array
 --     zero-task       a task that the test of zeros passes is the task of zeros; no-task: and back
-use Prim.Native.Nat.{ℕ, _≤_, _<_}
+use Prim.Native.Nat.{ℕ, _+_, _-_, _≤_, _<_}
 use mathlib.Core.Path.{_≡_, refl, sym, ap, fun-ext, _∙_}
-use mathlib.Core.Bool.{Bool, true, false, cond, not}
+use mathlib.Core.Bool.{Bool, true, false, cond, not, _||_}
 use mathlib.Core.List.{List}
 use mathlib.Core.Logic.{_⊎_, inl, inr, ⊎-elim}
 use native.Mathlib.Omega.{arith}
 use lib.ListN.{getD}
 use lib.Dec.{ltb, eqb}
-use borrow.Author.Tests.{ltb-true, ltb-false, eqb-true, eqb-false, ne-eqb}
+use borrow.Author.Tests.{ltb-true, ltb-false, eqb-true, eqb-false, eq-eqb, ne-eqb}
 use Rattle.laws.specs.Tab.{tab, cut}
 use Rattle.laws.specs.TabLaws.{getD-tab, cut-below, cut-above, cut-map}
 use Rattle.laws.specs.EveryLaws.{both}
 use Rattle.tasks.specs.declared.Task.{Task}
 use Rattle.tasks.specs.declared.Plan.{Plan}
-use Rattle.tasks.specs.TaskSet.{TaskSet, row}
-use Rattle.tasks.specs.Content.{dated, inEdition, Content, noTask, zeroTask, taskOf, contentOf, planOf, tidy}
+use Rattle.tasks.specs.TaskSet.{TaskSet, boundOf, row}
+use Rattle.tasks.specs.Content.{dated, inEdition, Content, lateOf, noTask, zeroTask, taskOf, contentOf, planOf, tidy}
 
 pub plan-ext :
     (p q : Plan) → p .edition ≡ q .edition → p .offered ≡ q .offered → p .cores ≡ q .cores → p .tasks ≡ q .tasks
@@ -71,6 +74,45 @@ edition-again e t = go (dated e)
         (record { separation = t .separation; budget = t .budget; offset = t .offset; deadline = cond b (t .deadline) 0 })
     go true = refl
     go false = refl
+
+pub kept-in : (e : ℕ) (t : Task) → dated e || eqb (t .deadline) 0 ≡ true → inEdition e t ≡ t
+kept-in e t h = go (dated e) refl h
+  where
+    same : (d : ℕ) → d ≡ t .deadline → record { separation = t .separation; budget = t .budget; offset = t .offset; deadline = d } ≡ t
+    same d q = λ i. record { separation = t .separation; budget = t .budget; offset = t .offset; deadline = q i }
+
+    go : (b : Bool) → dated e ≡ b → b || eqb (t .deadline) 0 ≡ true → inEdition e t ≡ t
+    go true q h = same _ (rw q)
+    go false q h = same _ (rw q (sym (eqb-true (t .deadline) 0 h)))
+
+pub in-kept : (e : ℕ) (t : Task) → inEdition e t ≡ t → dated e || eqb (t .deadline) 0 ≡ true
+in-kept e t h = go (dated e) refl
+  where
+    go : (b : Bool) → dated e ≡ b → b || eqb (t .deadline) 0 ≡ true
+    go true q = refl
+    go false q = eq-eqb (t .deadline) 0 (sym (ap (λ (k : Task). k .deadline) h) ∙ rw q)
+
+pub cut-edition :
+    (e n : ℕ) (f : ℕ → Task) (i : ℕ) → inEdition e (cut n (λ j. inEdition e (f j)) noTask i) ≡ cut n (λ j. inEdition e (f j)) noTask i
+cut-edition e n f i =
+    sym (cut-map (inEdition e) n (λ j. inEdition e (f j)) noTask noTask (edition-zero e) i)
+    ∙ ap (λ (g : ℕ → Task). cut n g noTask i) (fun-ext (λ j. edition-again e (f j)))
+
+pub late-edition : (e : ℕ) (t : Task) (x : ℕ) → lateOf e (inEdition e t) x ≡ lateOf e t x
+unfolding lateOf
+late-edition e t x = go (dated e)
+  where
+    go : (b : Bool) → cond b (boundOf t x - cond b (t .deadline) 0) (x + t .budget) ≡ cond b (boundOf t x - t .deadline) (x + t .budget)
+    go true = refl
+    go false = refl
+
+pub late-high : (e : ℕ) (t : Task) (x : ℕ) → lateOf e t x ≤ boundOf t x
+unfolding lateOf
+late-high e t x = go (dated e)
+  where
+    go : (b : Bool) → cond b (boundOf t x - t .deadline) (x + t .budget) ≤ boundOf t x
+    go true = omega arith
+    go false = omega arith
 
 pub used-task : (p : Plan) (i : ℕ) → i < p .tasks → contentOf p .tasks .task i ≡ inEdition (p .edition) (taskOf (p .task) i)
 unfolding contentOf
@@ -147,15 +189,10 @@ module _ (p : Plan) (m : p .cores ≤ 8) (n : p .tasks ≤ 16) where
         label-past = cut-above (p .cores) (row (p .labels)) 0;
         task-past = cut-above (p .tasks) (λ i. inEdition (p .edition) (taskOf (p .task) i)) noTask;
         slack-past = cut-above (p .tasks) (row (p .slack)) 0;
-        deadlines = λ i.
-            sym (cut-map (inEdition e) (p .tasks) (λ j. inEdition e (taskOf (p .task) j)) noTask noTask (edition-zero e) i)
-            ∙ ap (λ (f : ℕ → Task). cut (p .tasks) f noTask i) (fun-ext (λ j. edition-again e (taskOf (p .task) j)));
+        deadlines = cut-edition (p .edition) (p .tasks) (taskOf (p .task));
         offers = mark (p .offered);
       }
     where
-      e : ℕ
-      e = p .edition
-
       mark : (b : Bool) → (cond b (p .tasks) 0 ≡ 0) ⊎ (cond b (p .tasks) 0 ≡ p .tasks)
       mark true = inr refl
       mark false = inl refl

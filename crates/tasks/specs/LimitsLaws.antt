@@ -2,17 +2,19 @@
 --     limitTests         3 to 10, and 28; slackTests: 11 to 13
 --     tests-split        the tests are these two, one after the other
 --     Labelled           the labels are below 64 and rise
+--     deadlines-passed   none of these is met: in edition 2 every deadline is at most 1,600,000
 --     limits-passed      none of these is met: the limits hold, and so does Labelled
 use Prim.Native.Nat.{ℕ, suc, _-_, _≤_, _<_}
 use mathlib.Core.Path.{_≡_}
-use mathlib.Core.Bool.{false}
+use mathlib.Core.Bool.{true, false}
 use mathlib.Core.List.{[], _∷_}
 use native.Mathlib.Omega.{arith}
 use lib.Dec.{ltb}
 use borrow.Author.Tests.{ltb-false, leb-false, lt-ltb}
 use Rattle.tasks.specs.declared.Answer.{Answer}
 use Rattle.tasks.specs.declared.Answer.the-variants.{Accepted}
-use Rattle.tasks.specs.Content.{Content}
+use Rattle.tasks.specs.Numbers.{deadlineHigh}
+use Rattle.tasks.specs.Content.{dated, Content}
 use Rattle.tasks.specs.Limits.{Limits}
 use Rattle.tasks.specs.Tests.{orNext, firstMet, badLabel, test3, test4, test5, test6, test7, test8, test28, test9, test10, test11, test12, test13, tests}
 use Rattle.tasks.specs.AnswerLaws.{refuse-passed, lowest-passed, firstMet-passed, firstMet-append, neither, outside-passed}
@@ -87,3 +89,15 @@ module _ (c : Content) where
       let r9 = firstMet-passed _ _ (r28 .1) in
       let r10 = firstMet-passed _ _ (r9 .1) in
       (fields-passed (r3 .0) (r5 .0) (r6 .0) (r7 .0) (r8 .0) (r9 .0) (r10 .0), labels-passed (r4 .0))
+
+  pub deadlines-passed : limitTests c ≡ Accepted → dated (c .edition) ≡ true → (i : ℕ) → i < c .tasks .count → c .tasks .task i .deadline ≤ 1600000
+  unfolding limitTests test28
+  deadlines-passed a d i h =
+      let r3 = firstMet-passed _ _ a in
+      let r4 = firstMet-passed _ _ (r3 .1) in
+      let r5 = firstMet-passed _ _ (r4 .1) in
+      let r6 = firstMet-passed _ _ (r5 .1) in
+      let r7 = firstMet-passed _ _ (r6 .1) in
+      let r8 = firstMet-passed _ _ (r7 .1) in
+      let r28 = firstMet-passed _ _ (r8 .1) in
+      outside-passed 1 deadlineHigh _ (rw d at (lowest-passed _ _ _ (r28 .0) i h)) .1

@@ -9,7 +9,8 @@
 --     Least           compliant slack that is no larger at any loop than any other
 --     found-exists    found slack is that, with one entry for each loop
 --     found-is-only   and is the only one
---     late-from-point     the bound is Y and then late
+--     late-from-point     in edition 1 the bound is Y and then late
+--     late-none, late-from-deadline    in edition 2 late is 0 up to the deadline, and past it the bound is D and then late
 --     offered-exactly    offered slack passes 11 to 13 exactly if it is compliant and every bound is at most 16 × T
 use Prim.Native.Nat.{ℕ, _+_, _-_, _*_, _%_, _≤_, _<_}
 use mathlib.Core.Path.{_≡_, refl, ap, _∙_}
@@ -25,8 +26,8 @@ use Rattle.laws.specs.Sum.{sumOver}
 use Rattle.laws.specs.SumLaws.{sumOver-members, count-members}
 use Rattle.laws.specs.Member.{member, Distinct}
 use Rattle.tasks.specs.declared.Answer.the-variants.{Accepted}
-use Rattle.tasks.specs.TaskSet.{TaskSet, hyperperiod, weight, counted, Compliant, covers, found, bound, late, row}
-use Rattle.tasks.specs.Content.{Content, countedOf}
+use Rattle.tasks.specs.TaskSet.{TaskSet, hyperperiod, weight, counted, Compliant, covers, found, bound, row}
+use Rattle.tasks.specs.Content.{dated, Content, lateOf, late, countedOf}
 use Rattle.tasks.specs.Limits.{Bounded}
 use Rattle.tasks.specs.Tests.{firstMet, test11, test12, test13, tests}
 use Rattle.tasks.specs.AnswerLaws.{pass-lowest, pass-firstMet}
@@ -141,6 +142,18 @@ module _ (c : Content) (passed : limitTests c ≡ Accepted) where
           (pass-firstMet (test12 c) (test13 c ∷ []) (twelve h) (pass-firstMet (test13 c) [] (thirteen b) refl)))
 
 -- The bound is "counted from release", late "from the priority point", which is Y ticks after the release.
-pub late-from-point : (s : TaskSet) (x : ℕ → ℕ) (i : ℕ) → bound s x i ≡ s .task i .offset + late s x i
-unfolding bound late
-late-from-point s x i = omega arith
+module _ (c : Content) (i : ℕ) where
+  pub late-from-point : dated (c .edition) ≡ false → bound (c .tasks) (c .slack) i ≡ c .tasks .task i .offset + late c i
+  unfolding bound late lateOf
+  late-from-point e = rw e (omega arith)
+
+  -- "late is the larger of 0 and bound − D"
+  module _ (e : dated (c .edition) ≡ true) where
+    pub late-none : bound (c .tasks) (c .slack) i ≤ c .tasks .task i .deadline → late c i ≡ 0
+    unfolding bound late lateOf
+    late-none h = rw e (omega arith)
+
+    pub late-from-deadline :
+        c .tasks .task i .deadline ≤ bound (c .tasks) (c .slack) i → bound (c .tasks) (c .slack) i ≡ c .tasks .task i .deadline + late c i
+    unfolding bound late lateOf
+    late-from-deadline h = rw e (omega arith)

@@ -3,7 +3,7 @@
 --     tests-passed                                     it holds
 --     tests-limits, tests-compliant, tests-bounded     three of its parts
 --     plan-passed, plan-accepted                       a plan that meets none has a known edition, and its content meets none; and back
-use Prim.Native.Nat.{ℕ, _<_}
+use Prim.Native.Nat.{ℕ, _≤_, _<_}
 use mathlib.Core.Path.{_≡_, refl, sym, _∙_}
 use mathlib.Core.Bool.{Bool, true, false, _||_}
 use mathlib.Core.Logic.{_⊎_, inl, inr}
@@ -12,11 +12,11 @@ use borrow.Author.Tests.{ltb-false, eqb-true, eq-eqb, not-false}
 use Rattle.tasks.specs.declared.Plan.{Plan}
 use Rattle.tasks.specs.declared.Answer.the-variants.{Accepted}
 use Rattle.tasks.specs.TaskSet.{Compliant, found, row}
-use Rattle.tasks.specs.Content.{Content, contentOf}
+use Rattle.tasks.specs.Content.{dated, Content, contentOf}
 use Rattle.tasks.specs.Limits.{Limits, Bounded}
 use Rattle.tasks.specs.Tests.{refuse, badEdition, test11, test12, test13, tests, testPlan}
 use Rattle.tasks.specs.AnswerLaws.{orNext-passed, refuse-passed, lowest-passed, firstMet-passed}
-use Rattle.tasks.specs.LimitsLaws.{limitTests, slackTests, tests-split, Labelled, limits-passed}
+use Rattle.tasks.specs.LimitsLaws.{limitTests, slackTests, tests-split, Labelled, limits-passed, deadlines-passed}
 use Rattle.tasks.specs.SlackLaws.{covers-compliant, compliant-ext}
 use Rattle.tasks.specs.FoundLaws.{found-compliant}
 
@@ -24,6 +24,7 @@ use Rattle.tasks.specs.FoundLaws.{found-compliant}
 pub record Passed (c : Content) : Type 0 where
   pub limits : Limits (c .tasks)
   pub labelled : Labelled c
+  pub deadline-high : dated (c .edition) ≡ true → (i : ℕ) → i < c .tasks .count → c .tasks .task i .deadline ≤ 1600000
   pub offers : (c .offers ≡ 0) ⊎ (c .offers ≡ c .tasks .count)
   -- "A plan marked as found" has the found slack
   pub as-found : c .offers ≡ 0 → (k : ℕ) → k < c .tasks .count → c .slack k ≡ row (found (c .tasks)) k
@@ -78,6 +79,7 @@ module _ (c : Content) where
       record {
         limits = l .0;
         labelled = l .1;
+        deadline-high = deadlines-passed c (r .0);
         offers = offers-passed (r11 .0);
         as-found = found-passed (r12 .0);
         compliant = compliant-passed (l .0) (r12 .0);

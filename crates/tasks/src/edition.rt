@@ -1,5 +1,6 @@
 // The editions of a table.
 ghost use mathlib.Core.Path.{_≡_};
+ghost use mathlib.Core.Bool.{cond};
 ghost use Rattle.tasks.specs.Content.{dated};
 ghost use Rattle.tasks.specs.Tests.{badEdition};
 
@@ -8,6 +9,16 @@ pub fn has_deadlines(edition: u8) -> bool
     ensures { λ r. ⌜ r ≡ dated edition ⌝ }
 {
     edition == 2
+}
+
+// "an unused place in edition 1"
+pub fn deadline_in(edition: u8, deadline: u32) -> u32
+    ensures { λ r. ⌜ r ≡ cond (dated edition) deadline 0 ⌝ }
+{
+    if has_deadlines(edition) {
+        return deadline;
+    }
+    0
 }
 
 // "Number 1 now refuses bytes other than 1 and 2".

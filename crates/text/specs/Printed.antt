@@ -9,8 +9,8 @@
 use Prim.Native.Nat.{ℕ}
 use mathlib.Core.List.{List, _++_}
 use lib.ListN.{length}
-use Rattle.tasks.specs.TaskSet.{row, bound, late}
-use Rattle.tasks.specs.Content.{Content, countedOf}
+use Rattle.tasks.specs.TaskSet.{row, bound}
+use Rattle.tasks.specs.Content.{Content, countedOf, late}
 use Rattle.tasks.specs.Tests.{numberOf, indexOf, unlessRefused}
 use Rattle.numbers.specs.Bytes.{entries}
 use Rattle.codec.specs.Table.{contentIn, verdict}
@@ -33,7 +33,7 @@ unfoldable pub refusalLine : ℕ → ℕ → List ℕ
 refusalLine k i = pairLine (words "refused ") k (words " at ") i
 
 unfoldable pub lineOf : Content → ℕ → List ℕ
-lineOf c i = taskLine i (c .slack i) (bound (c .tasks) (c .slack) i) (late (c .tasks) (c .slack) i)
+lineOf c i = taskLine i (c .slack i) (bound (c .tasks) (c .slack) i) (late c i)
 
 -- "one more last line, `counted` and the loops, a space before each"
 unfoldable pub countedLine : List ℕ → List ℕ

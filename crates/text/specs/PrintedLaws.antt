@@ -25,11 +25,12 @@ use Rattle.laws.specs.TabLaws.{cut-below}
 use Rattle.tasks.specs.declared.Task.{Task}
 use Rattle.tasks.specs.declared.Plan.{Plan}
 use Rattle.tasks.specs.declared.Answer.the-variants.{Accepted}
-use Rattle.tasks.specs.TaskSet.{bound, late, row}
+use Rattle.tasks.specs.TaskSet.{bound, row}
 use Rattle.tasks.specs.Limits.{Bounded}
-use Rattle.tasks.specs.Content.{contentOf, taskOf, noTask}
+use Rattle.tasks.specs.Content.{lateOf, late, contentOf, taskOf}
+use Rattle.tasks.specs.ContentLaws.{used-task, late-edition, late-high}
 use Rattle.tasks.specs.Tests.{testPlan}
-use Rattle.tasks.specs.TestsLaws.{tests-limits, tests-bounded}
+use Rattle.tasks.specs.TestsLaws.{tests-limits, tests-bounded, plan-passed}
 use Rattle.numbers.specs.Bytes.{entries}
 use Rattle.numbers.specs.ByteLaws.{entries-same}
 use Rattle.text.specs.Printed.{pairLine, countsLine, taskLine, refusalLine, lineOf, planLines, countedLine}
@@ -53,11 +54,11 @@ refusal-short k i h l =
       decimal-length 4 i (omega arith),
     )
 
-unfoldable pub lineIn : List Task → List ℕ → ℕ → List ℕ
-lineIn task slack i =
+unfoldable pub lineIn : ℕ → List Task → List ℕ → ℕ → List ℕ
+lineIn e task slack i =
     let t = taskOf task i in
     let x = row slack i in
-    taskLine i x (t .offset + x + t .budget) (x + t .budget)
+    taskLine i x (t .offset + x + t .budget) (lateOf e t x)
 
 -- pieces stored one behind the other: none yet, and one more
 pub stored-none : (f : ℕ → List ℕ) (l : List ℕ) (at : ℕ) → Stored l at (entries f 0) at l
@@ -71,25 +72,29 @@ unfolding entries
 stored-next f i s r = rw add-one (put-behind s r)
 
 pub lines-next :
-    (task : List Task) (slack : List ℕ) (i b d : ℕ) {l u v : List ℕ} {from at end : ℕ}
-    → b ≡ taskOf task i .offset + row slack i + taskOf task i .budget → d ≡ row slack i + taskOf task i .budget
-    → Stored l from (entries (lineIn task slack) i) at u → Stored u at (taskLine i (row slack i) b d) end v
-    → Stored l from (entries (lineIn task slack) (i + 1)) end v
+    (v : ℕ) (task : List Task) (slack : List ℕ) (i b d : ℕ) {l u w : List ℕ} {from at end : ℕ}
+    → b ≡ taskOf task i .offset + row slack i + taskOf task i .budget → d ≡ lateOf v (taskOf task i) (row slack i)
+    → Stored l from (entries (lineIn v task slack) i) at u → Stored u at (taskLine i (row slack i) b d) end w
+    → Stored l from (entries (lineIn v task slack) (i + 1)) end w
 unfolding lineIn
-lines-next task slack i b d e q s r = stored-next (lineIn task slack) i s (rw (e, q) at r)
+lines-next v task slack i b d e q s r = stored-next (lineIn v task slack) i s (rw (e, q) at r)
 
 module _ (p : Plan) (passed : testPlan p ≡ Accepted) where
   pub within : (p .cores ≤ 8) × (p .tasks ≤ 16)
-  unfolding testPlan contentOf
-  within = let L = tests-limits (contentOf p) passed in (L .cores-high, L .tasks-high)
+  unfolding contentOf
+  within = let L = tests-limits (contentOf p) (plan-passed p passed .1) in (L .cores-high, L .tasks-high)
 
-  pub line-in : (i : ℕ) → i < p .tasks → lineIn (p .task) (p .slack) i ≡ lineOf (contentOf p) i
+  pub line-in : (i : ℕ) → i < p .tasks → lineIn (p .edition) (p .task) (p .slack) i ≡ lineOf (contentOf p) i
   unfolding lineIn lineOf contentOf bound late
-  line-in i h = rw (cut-below (p .tasks) (row (p .slack)) 0 i h, cut-below (p .tasks) (taskOf (p .task)) noTask i h)
+  line-in i h =
+      rw (cut-below (p .tasks) (row (p .slack)) 0 i h, used-task p i h)
+      (ap (taskLine i _ _) (sym (late-edition (p .edition) (taskOf (p .task) i) (row (p .slack) i))))
 
   bound-small : (i : ℕ) → i < p .tasks → bound (contentOf p .tasks) (contentOf p .slack) i ≤ 1600000
-  unfolding testPlan contentOf Bounded
-  bound-small i h = omega (arith, tests-bounded (contentOf p) passed i h, tests-limits (contentOf p) passed .separation-high i h)
+  unfolding contentOf Bounded
+  bound-small i h =
+      let a = plan-passed p passed .1 in
+      omega (arith, tests-bounded (contentOf p) a i h, tests-limits (contentOf p) a .separation-high i h)
 
   line-short : (i : ℕ) → i < p .tasks → length (lineOf (contentOf p) i) ≤ 49
   unfolding lineOf bound late
@@ -98,14 +103,14 @@ module _ (p : Plan) (passed : testPlan p ≡ Accepted) where
       let b = bound-small i h in
       omega (
         arith,
-        length-task-line i (c .slack i) (bound (c .tasks) (c .slack) i) (late (c .tasks) (c .slack) i),
+        length-task-line i (c .slack i) (bound (c .tasks) (c .slack) i) (late c i),
         decimal-length 1 i (omega (arith, within)),
         decimal-length 6 (c .slack i) (omega arith),
         decimal-length 6 (bound (c .tasks) (c .slack) i) (omega arith),
-        decimal-length 6 (late (c .tasks) (c .slack) i) (omega arith),
+        decimal-length 6 (late c i) (omega (arith, late-high (c .edition) (c .tasks .task i) (c .slack i))),
       )
 
-  pub lines-short : (i : ℕ) → i ≤ p .tasks → length (entries (lineIn (p .task) (p .slack)) i) ≤ 49 * i
+  pub lines-short : (i : ℕ) → i ≤ p .tasks → length (entries (lineIn (p .edition) (p .task) (p .slack)) i) ≤ 49 * i
   unfolding entries
   lines-short zero h = omega arith
   lines-short (suc i) h =
@@ -123,8 +128,8 @@ module _ (p : Plan) (passed : testPlan p ≡ Accepted) where
 
   pub line-room :
       (i b d at : ℕ) → i < p .tasks → b ≡ taskOf (p .task) i .offset + row (p .slack) i + taskOf (p .task) i .budget
-      → d ≡ row (p .slack) i + taskOf (p .task) i .budget
-      → at ≡ length (countsLine (p .cores) (p .tasks)) + length (entries (lineIn (p .task) (p .slack)) i)
+      → d ≡ lateOf (p .edition) (taskOf (p .task) i) (row (p .slack) i)
+      → at ≡ length (countsLine (p .cores) (p .tasks)) + length (entries (lineIn (p .edition) (p .task) (p .slack)) i)
       → at + length (taskLine i (row (p .slack) i) b d) ≤ 1024
   unfolding entries lineIn
   line-room i b d at h e q r =
@@ -135,10 +140,10 @@ module _ (p : Plan) (passed : testPlan p ≡ Accepted) where
         within,
         counts-short,
         all,
-        length-append (entries (lineIn (p .task) (p .slack)) i) (lineIn (p .task) (p .slack) i),
+        length-append (entries (lineIn (p .edition) (p .task) (p .slack)) i) (lineIn (p .edition) (p .task) (p .slack) i),
       ))
 
-  pub plan-text : planLines (contentOf p) ≡ countsLine (p .cores) (p .tasks) ++ entries (lineIn (p .task) (p .slack)) (p .tasks)
+  pub plan-text : planLines (contentOf p) ≡ countsLine (p .cores) (p .tasks) ++ entries (lineIn (p .edition) (p .task) (p .slack)) (p .tasks)
   unfolding planLines contentOf
   plan-text = ap (λ (l : List ℕ). countsLine (p .cores) (p .tasks) ++ l) (sym (entries-same _ _ (p .tasks) line-in))
 

@@ -29,8 +29,7 @@ use Rattle.table.specs.declared.Judgement.{Judgement}
 use Rattle.table.specs.Judged.{judged}
 use Rattle.table.specs.NamesLaws.{names-are, names-few, names-count, names-first}
 use Rattle.laws.specs.SetsLaws.{sets-whole}
-use Rattle.roundtrip.specs.SectionLaws.{verdict-parts}
-use Rattle.roundtrip.specs.RoundTrip.{judged-fits}
+use Rattle.roundtrip.specs.RoundTrip.{judged-fits, judged-passes}
 use Rattle.decimal.specs.Decimal.{words, Stored}
 use Rattle.text.specs.Printed.{refusalLine, countedLine, planLines, planText, printed}
 use Rattle.text.specs.PrintedLaws.{within, lines-short, counts-short, plan-text, names-short, counted-line}
@@ -44,8 +43,7 @@ module _ (t : List ℕ) (j : Judgement) (e : j ≡ judged t) where
   content-is a = ap (λ (r : Judgement). contentOf (r .plan)) e ∙ judged-fits t (sym verdict-is ∙ a)
 
   pub judged-passed : j .answer ≡ Accepted → testPlan (j .plan) ≡ Accepted
-  unfolding testPlan
-  judged-passed a = ap tests (content-is a) ∙ verdict-parts t (sym verdict-is ∙ a) .content
+  judged-passed a = ap (λ (r : Judgement). testPlan (r .plan)) e ∙ judged-passes t (sym verdict-is ∙ a)
 
   pub printed-plan : j .answer ≡ Accepted → planLines (contentOf (j .plan)) ++ countedLine (take (j .count) (j .counted)) ≡ printed t
   unfolding printed planText

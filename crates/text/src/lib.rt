@@ -1,17 +1,19 @@
-// The text that the program `plan` prints for a table. Document 01, the end of "Worked tables", and document 02, §1.
+// The text that the program `plan` prints for a table. Document 01, the end of "Worked tables", and document 02, §1 and §5.
 use decimal::put_said;
 use decimal::put_words;
 use table::judge;
 use tasks::Answer;
 use tasks::Plan;
+use tasks::Task;
+use tasks::edition::has_deadlines;
 ghost use mathlib.Core.Path.{_≡_};
 ghost use mathlib.Core.List.{_++_};
-ghost use Prim.Native.Nat.{ℕ, _+_, _≤_, _<_};
+ghost use Prim.Native.Nat.{ℕ, _+_, _-_, _≤_, _<_};
 ghost use lib.ListN.{length, take, drop};
 ghost use Rattle.decimal.specs.Decimal.{Stored};
 ghost use Rattle.tasks.specs.declared.Answer.the-variants.{Accepted};
 ghost use Rattle.tasks.specs.TaskSet.{row};
-ghost use Rattle.tasks.specs.Content.{contentOf};
+ghost use Rattle.tasks.specs.Content.{lateOf, contentOf};
 ghost use Rattle.tasks.specs.Tests.{testPlan};
 ghost use Rattle.text.specs.Printed.{pairLine, taskLine, refusalLine, countedLine, planLines, printed};
 
@@ -19,18 +21,31 @@ ghost use Rattle.text.specs.Printed.{pairLine, taskLine, refusalLine, co
 // and a last one of at most 32.
 pub const LONGEST: usize = 1024;
 
-// "Late is x + C". In 64 bits, as the text's numbers are.
-fn late(slack: u32, budget: u32) -> u64
-    ensures { λ r. ⌜ r ≡ slack + budget ⌝ }
-{
-    slack as u64 + budget as u64
-}
-
-// "The bound of a loop is Y + x + C".
+// "The bound of a loop is Y + x + C". In 64 bits, as the text's numbers are.
 fn bound(offset: u32, slack: u32, budget: u32) -> u64
     ensures { λ r. ⌜ r ≡ offset + slack + budget ⌝ }
 {
     offset as u64 + slack as u64 + budget as u64
+}
+
+// "the larger of 0 and" a − b.
+fn past(a: u64, b: u64) -> u64
+    ensures { λ r. ⌜ r ≡ a - b ⌝ }
+{
+    if a < b {
+        return 0;
+    }
+    a - b
+}
+
+// "Late is x + C"; in edition 2 "the larger of 0 and bound − D".
+fn late(edition: u8, task: Task, slack: u32) -> u64
+    ensures { λ r. ⌜ r ≡ lateOf edition task slack ⌝ }
+{
+    if has_deadlines(edition) {
+        return past(bound(task.offset, slack, task.budget), task.deadline as u64);
+    }
+    slack as u64 + task.budget as u64
 }
 
 // A line of words and a number, twice, from the buffer's beginning on.
@@ -60,6 +75,7 @@ fn put_plan(out: &mut [u8], plan: Plan) -> usize
     requires { ⌜ (testPlan plan ≡ Accepted) × (1024 ≤ length (now out)) ⌝ }
     ensures { λ r. ⌜ Stored (now (out .entry)) 0 (planLines (contentOf plan)) r (now (out .exit)) ⌝ }
 {
+    let edition = plan.edition;
     let tasks = plan.tasks;
     let task = plan.task;
     let slack = plan.slack;
@@ -74,7 +90,7 @@ fn put_plan(out: &mut [u8], plan: Plan) -> usize
             i as u64,
             x as u64,
             bound(t.offset, x, t.budget),
-            late(x, t.budget),
+            late(edition, t, x),
         );
         i += 1;
     }

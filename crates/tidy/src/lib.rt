@@ -1,12 +1,13 @@
 // Zeros in unused places: a task and a plan of zeros, and plans cut at their used places.
 use tasks::Plan;
 use tasks::Task;
+use tasks::edition::deadline_in;
 ghost use mathlib.Core.Path.{_≡_};
 ghost use Prim.Native.Nat.{_≤_};
 ghost use lib.ListN.{length};
 ghost use Rattle.laws.specs.Tab.{tab, cut};
 ghost use Rattle.tasks.specs.TaskSet.{row};
-ghost use Rattle.tasks.specs.Content.{noTask, zeroTask, zeroPlan, taskOf, tidy};
+ghost use Rattle.tasks.specs.Content.{inEdition, noTask, zeroTask, zeroPlan, taskOf, tidy};
 
 // A task of zeros: an unused place.
 pub fn no_task() -> Task
@@ -16,6 +17,7 @@ pub fn no_task() -> Task
         separation: 0,
         budget: 0,
         offset: 0,
+        deadline: 0,
     }
 }
 
@@ -29,7 +31,10 @@ pub fn is_no_task(task: Task) -> bool
     if task.budget != 0 {
         return false;
     }
-    task.offset == 0
+    if task.offset != 0 {
+        return false;
+    }
+    task.deadline == 0
 }
 
 // A plan of zeros, which a refused judgement hands back.
@@ -37,6 +42,7 @@ pub fn no_plan() -> Plan
     ensures { λ r. ⌜ r ≡ zeroPlan ⌝ }
 {
     Plan {
+        edition: 0,
         offered: false,
         cores: 0,
         tasks: 0,
@@ -73,15 +79,27 @@ pub fn tidy_slack(slack: &[u32; 16], tasks: usize) -> [u32; 16]
     out
 }
 
-fn tidy_tasks(task: [Task; 16], tasks: usize) -> [Task; 16]
+// "The loop record gains the deadline, an unused place in edition 1"
+fn in_edition(edition: u8, task: Task) -> Task
+    ensures { λ r. ⌜ r ≡ inEdition edition task ⌝ }
+{
+    Task {
+        separation: task.separation,
+        budget: task.budget,
+        offset: task.offset,
+        deadline: deadline_in(edition, task.deadline),
+    }
+}
+
+fn tidy_tasks(edition: u8, task: [Task; 16], tasks: usize) -> [Task; 16]
     requires { ⌜ tasks ≤ 16 ⌝ }
-    ensures { λ r. ⌜ r ≡ tab (cut tasks (taskOf task) noTask) 16 ⌝ }
+    ensures { λ r. ⌜ r ≡ tab (cut tasks (λ i. inEdition edition (taskOf task i)) noTask) 16 ⌝ }
 {
     let mut out = [no_task(); 16];
     let mut i = 0;
     while i < tasks {
         let t = task[i];
-        out[i] = t;
+        out[i] = in_edition(edition, t);
         i += 1;
     }
     out
@@ -92,6 +110,7 @@ pub fn tidied(plan: Plan) -> Plan
     requires { ⌜ (plan .cores ≤ 8) × (1 ≤ plan .tasks) × (plan .tasks ≤ 16) ⌝ }
     ensures { λ r. ⌜ r ≡ tidy plan ⌝ }
 {
+    let edition = plan.edition;
     let offered = plan.offered;
     let cores = plan.cores;
     let tasks = plan.tasks;
@@ -99,9 +118,10 @@ pub fn tidied(plan: Plan) -> Plan
     let task = plan.task;
     let slack = plan.slack;
     let labels = tidy_bytes(&labels, cores);
-    let task = tidy_tasks(task, tasks);
+    let task = tidy_tasks(edition, task, tasks);
     let slack = tidy_slack(&slack, tasks);
     Plan {
+        edition,
         offered,
         cores,
         tasks,

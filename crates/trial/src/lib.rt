@@ -11,7 +11,7 @@ use trial_ticks::steps;
 ghost use mathlib.Core.Path.{_≡_};
 ghost use Rattle.state.specs.Calls.{releaseOf};
 ghost use Rattle.trial_ticks.specs.Ticks.{stepsOf};
-ghost use Rattle.trial.specs.Trials.{answerCode, tasksIn, planIn, stateIn, TasksLeft, PlanLeft, StateLeft, ReleaseLeaves, StepsLeave};
+ghost use Rattle.trial.specs.Trials.{answerCode, deadlinesOf, tasksIn, planIn, stateIn, TasksLeft, PlanLeft, StateLeft, ReleaseLeaves, StepsLeave};
 
 // An answer as one number: 0, or 4,294,967,296 × refusal number + index.
 fn code(answer: Answer) -> u64
@@ -23,8 +23,13 @@ fn code(answer: Answer) -> u64
     }
 }
 
-fn entries(separation: &[u32; 16], budget: &[u32; 16], offset: &[u32; 16]) -> [Task; 16]
-    ensures { λ r. ⌜ r ≡ tasksIn (now (separation .entry)) (now (budget .entry)) (now (offset .entry)) ⌝ }
+fn entries(
+    separation: &[u32; 16],
+    budget: &[u32; 16],
+    offset: &[u32; 16],
+    deadline: &[u32; 16],
+) -> [Task; 16]
+    ensures { λ r. ⌜ r ≡ tasksIn (now (separation .entry)) (now (budget .entry)) (now (offset .entry)) (now (deadline .entry)) ⌝ }
 {
     let none = no_task();
     let mut task = [none; 16];
@@ -34,6 +39,7 @@ fn entries(separation: &[u32; 16], budget: &[u32; 16], offset: &[u32; 16]) -> [T
             separation: separation[i],
             budget: budget[i],
             offset: offset[i],
+            deadline: deadline[i],
         };
         task[i] = t;
         i += 1;
@@ -43,6 +49,7 @@ fn entries(separation: &[u32; 16], budget: &[u32; 16], offset: &[u32; 16]) -> [T
 
 // The plan whose fields were handed over.
 fn plan_in(
+    edition: u8,
     offered: bool,
     cores: usize,
     tasks: usize,
@@ -50,11 +57,12 @@ fn plan_in(
     task: [Task; 16],
     slack: &[u32; 16],
 ) -> Plan
-    ensures { λ r. ⌜ r ≡ planIn offered cores tasks (now (labels .entry)) task (now (slack .entry)) ⌝ }
+    ensures { λ r. ⌜ r ≡ planIn edition offered cores tasks (now (labels .entry)) task (now (slack .entry)) ⌝ }
 {
     let labels = *labels;
     let slack = *slack;
     Plan {
+        edition,
         offered,
         cores,
         tasks,
@@ -95,14 +103,31 @@ fn state_in(
     }
 }
 
+// Deadlines are no column of the analysis.
+fn deadlines(task: [Task; 16]) -> [u32; 16]
+    ensures { λ r. ⌜ r ≡ deadlinesOf task ⌝ }
+{
+    let mut deadline = [0u32; 16];
+    let mut i = 0;
+    while i < 16 {
+        let t = task[i];
+        deadline[i] = t.deadline;
+        i += 1;
+    }
+    deadline
+}
+
 // The fields of a state's tasks, each to where the caller has its own.
 fn put_tasks(
     state: State,
     separation: &mut [u32; 16],
     budget: &mut [u32; 16],
     offset: &mut [u32; 16],
+    deadline: &mut [u32; 16],
 )
-    ensures { λ _. ⌜ TasksLeft (state .plan .task) (now (separation .exit)) (now (budget .exit)) (now (offset .exit)) ⌝ }
+    ensures { λ _. ⌜
+        TasksLeft (state .plan .task) (now (separation .exit)) (now (budget .exit)) (now (offset .exit)) (now (deadline .exit))
+        ⌝ }
 {
     let plan = state.plan;
     let task = plan.task;
@@ -113,11 +138,13 @@ fn put_tasks(
     *separation = separation_after;
     *budget = budget_after;
     *offset = offset_after;
+    *deadline = deadlines(task);
 }
 
 // The other fields of its plan.
 fn put_plan(
     state: State,
+    edition: &mut u8,
     offered: &mut bool,
     cores: &mut usize,
     tasks: &mut usize,
@@ -125,12 +152,13 @@ fn put_plan(
     slack: &mut [u32; 16],
 )
     ensures { λ _. ⌜
-        PlanLeft (state .plan) (now (offered .exit)) (now (cores .exit)) (now (tasks .exit)) (now (labels .exit)) (now (slack .exit))
+        PlanLeft (state .plan) (now (edition .exit)) (now (offered .exit)) (now (cores .exit)) (now (tasks .exit)) (now (labels .exit)) (now (slack .exit))
         ⌝ }
 {
     let plan = state.plan;
     let labels_after = plan.labels;
     let slack_after = plan.slack;
+    *edition = plan.edition;
     *offered = plan.offered;
     *cores = plan.cores;
     *tasks = plan.tasks;
@@ -183,6 +211,7 @@ fn put_report(stepped: Stepped, runs: &mut [u8; 8], responses: &mut [u32; 16]) -
 // A release of a task, with its demand, on the state behind the pointers.
 #[no_mangle]
 pub extern "C" fn trial_release(
+    edition: &mut u8,
     offered: &mut bool,
     cores: &mut usize,
     tasks: &mut usize,
@@ -190,6 +219,7 @@ pub extern "C" fn trial_release(
     separation: &mut [u32; 16],
     budget: &mut [u32; 16],
     offset: &mut [u32; 16],
+    deadline: &mut [u32; 16],
     slack: &mut [u32; 16],
     clock: &mut u32,
     jobs: &mut [usize; 16],
@@ -201,22 +231,22 @@ pub extern "C" fn trial_release(
     demand: u32,
 ) -> u64
     ensures { λ r. ⌜
-        ReleaseLeaves (releaseOf (stateIn (planIn (now (offered .entry)) (now (cores .entry)) (now (tasks .entry)) (now (labels .entry))
-        (tasksIn (now (separation .entry)) (now (budget .entry)) (now (offset .entry))) (now (slack .entry))) (now (clock .entry))
+        ReleaseLeaves (releaseOf (stateIn (planIn (now (edition .entry)) (now (offered .entry)) (now (cores .entry)) (now (tasks .entry)) (now (labels .entry))
+        (tasksIn (now (separation .entry)) (now (budget .entry)) (now (offset .entry)) (now (deadline .entry))) (now (slack .entry))) (now (clock .entry))
         (now (jobs .entry)) (now (released .entry)) (now (last .entry)) (now (remaining .entry)) (now (release .entry))) task demand) r
-        (now (offered .exit)) (now (cores .exit)) (now (tasks .exit)) (now (labels .exit)) (now (separation .exit)) (now (budget .exit))
-        (now (offset .exit)) (now (slack .exit)) (now (clock .exit)) (now (jobs .exit)) (now (released .exit)) (now (last .exit))
+        (now (edition .exit)) (now (offered .exit)) (now (cores .exit)) (now (tasks .exit)) (now (labels .exit)) (now (separation .exit)) (now (budget .exit))
+        (now (offset .exit)) (now (deadline .exit)) (now (slack .exit)) (now (clock .exit)) (now (jobs .exit)) (now (released .exit)) (now (last .exit))
         (now (remaining .exit)) (now (release .exit))
         ⌝ }
 {
-    let list = entries(separation, budget, offset);
-    let plan = plan_in(*offered, *cores, *tasks, labels, list, slack);
+    let list = entries(separation, budget, offset, deadline);
+    let plan = plan_in(*edition, *offered, *cores, *tasks, labels, list, slack);
     let state = state_in(plan, *clock, jobs, released, last, remaining, release);
     let done = engine::release(state, task, demand);
     let answer = done.answer;
     let after = done.state;
-    put_tasks(after, separation, budget, offset);
-    put_plan(after, offered, cores, tasks, labels, slack);
+    put_tasks(after, separation, budget, offset, deadline);
+    put_plan(after, edition, offered, cores, tasks, labels, slack);
     put_state(after, clock, jobs, released, last, remaining, release);
     code(answer)
 }
@@ -224,6 +254,7 @@ pub extern "C" fn trial_release(
 // A step, and `more` after it, on the state behind the pointers, with the last one's cores and responses.
 #[no_mangle]
 pub extern "C" fn trial_steps(
+    edition: &mut u8,
     offered: &mut bool,
     cores: &mut usize,
     tasks: &mut usize,
@@ -231,6 +262,7 @@ pub extern "C" fn trial_steps(
     separation: &mut [u32; 16],
     budget: &mut [u32; 16],
     offset: &mut [u32; 16],
+    deadline: &mut [u32; 16],
     slack: &mut [u32; 16],
     clock: &mut u32,
     jobs: &mut [usize; 16],
@@ -243,21 +275,21 @@ pub extern "C" fn trial_steps(
     more: usize,
 ) -> u64
     ensures { λ r. ⌜
-        StepsLeave (stepsOf (stateIn (planIn (now (offered .entry)) (now (cores .entry)) (now (tasks .entry)) (now (labels .entry)) (tasksIn
-        (now (separation .entry)) (now (budget .entry)) (now (offset .entry))) (now (slack .entry))) (now (clock .entry))
+        StepsLeave (stepsOf (stateIn (planIn (now (edition .entry)) (now (offered .entry)) (now (cores .entry)) (now (tasks .entry)) (now (labels .entry)) (tasksIn
+        (now (separation .entry)) (now (budget .entry)) (now (offset .entry)) (now (deadline .entry))) (now (slack .entry))) (now (clock .entry))
         (now (jobs .entry)) (now (released .entry)) (now (last .entry)) (now (remaining .entry)) (now (release .entry))) more) r
-        (now (offered .exit)) (now (cores .exit)) (now (tasks .exit)) (now (labels .exit)) (now (separation .exit)) (now (budget .exit))
-        (now (offset .exit)) (now (slack .exit)) (now (clock .exit)) (now (jobs .exit)) (now (released .exit)) (now (last .exit))
+        (now (edition .exit)) (now (offered .exit)) (now (cores .exit)) (now (tasks .exit)) (now (labels .exit)) (now (separation .exit)) (now (budget .exit))
+        (now (offset .exit)) (now (deadline .exit)) (now (slack .exit)) (now (clock .exit)) (now (jobs .exit)) (now (released .exit)) (now (last .exit))
         (now (remaining .exit)) (now (release .exit)) (now (runs .exit)) (now (responses .exit))
         ⌝ }
 {
-    let list = entries(separation, budget, offset);
-    let plan = plan_in(*offered, *cores, *tasks, labels, list, slack);
+    let list = entries(separation, budget, offset, deadline);
+    let plan = plan_in(*edition, *offered, *cores, *tasks, labels, list, slack);
     let state = state_in(plan, *clock, jobs, released, last, remaining, release);
     let done = steps(state, more);
     let after = done.state;
-    put_tasks(after, separation, budget, offset);
-    put_plan(after, offered, cores, tasks, labels, slack);
+    put_tasks(after, separation, budget, offset, deadline);
+    put_plan(after, edition, offered, cores, tasks, labels, slack);
     put_state(after, clock, jobs, released, last, remaining, release);
     put_report(done, runs, responses)
 }

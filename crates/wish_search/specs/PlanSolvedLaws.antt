@@ -10,7 +10,7 @@ use Rattle.tasks.specs.declared.Answer.{Answer}
 use Rattle.tasks.specs.declared.Answer.the-variants.{Accepted, Refused}
 use Rattle.tasks.specs.TaskSet.{TaskSet, plain, row}
 use Rattle.tasks.specs.Content.{Content, taskOf, contentOf}
-use Rattle.tasks.specs.Tests.{firstMet, orNext, test3, test4, test5, test6, test7, test9, test10}
+use Rattle.tasks.specs.Tests.{firstMet, orNext, test3, test4, test5, test6, test7, test28, test9, test10}
 use Rattle.tasks.specs.AnswerLaws.{firstMet-append}
 use Rattle.fields.specs.declared.columns.Columns.{Columns}
 use Rattle.fields.specs.Columns.{columnsOf, setFrom}
@@ -28,10 +28,10 @@ use Rattle.wish_search.specs.SolvedLaws.{wishes-passed}
 tests-staged : (c : Content) → wishTests c ≡ orNext (firstMet (test3 c ∷ test4 c ∷ test5 c ∷ [])) (wishTaskTests c)
 unfolding wishTests wishTaskTests
 tests-staged c =
-    firstMet-append (test3 c ∷ test4 c ∷ test5 c ∷ []) (test6 c ∷ test7 c ∷ test26 c ∷ test9 c ∷ test10 c ∷ sheet11 c ∷ test27 c ∷ [])
+    firstMet-append (test3 c ∷ test4 c ∷ test5 c ∷ []) (test6 c ∷ test7 c ∷ test26 c ∷ test28 c ∷ test9 c ∷ test10 c ∷ sheet11 c ∷ test27 c ∷ [])
     ∙ ap (orNext (firstMet (test3 c ∷ test4 c ∷ test5 c ∷ [])))
-    (firstMet-append (test6 c ∷ test7 c ∷ test26 c ∷ []) (test9 c ∷ test10 c ∷ sheet11 c ∷ test27 c ∷ [])
-    ∙ ap (orNext (firstMet (test6 c ∷ test7 c ∷ test26 c ∷ []))) (firstMet-append (test9 c ∷ test10 c ∷ []) (sheet11 c ∷ test27 c ∷ [])))
+    (firstMet-append (test6 c ∷ test7 c ∷ test26 c ∷ test28 c ∷ []) (test9 c ∷ test10 c ∷ sheet11 c ∷ test27 c ∷ [])
+    ∙ ap (orNext (firstMet (test6 c ∷ test7 c ∷ test26 c ∷ test28 c ∷ []))) (firstMet-append (test9 c ∷ test10 c ∷ []) (sheet11 c ∷ test27 c ∷ [])))
 
 -- the plain tasks of a sheet
 module _ (s : TaskSet) where
@@ -63,9 +63,9 @@ module _ (p : Plan) (k : ℕ) where
   unfolding lastTests sheet11 test27 offering
   last-is = refl
 
-  module _ (f : Framed (p .cores) (p .tasks)) (a : Answer) (ea : a ≡ wishesTest (taskOf (p .task)) (p .tasks)) where
-    fielded : a ≡ firstMet (test6 (offering p k) ∷ test7 (offering p k) ∷ test26 (offering p k) ∷ [])
-    unfolding test6 test7 test26 offering contentOf wishesTest
+  module _ (f : Framed (p .cores) (p .tasks)) (a : Answer) (ea : a ≡ wishesTest (p .edition) (taskOf (p .task)) (p .tasks)) where
+    fielded : a ≡ firstMet (test6 (offering p k) ∷ test7 (offering p k) ∷ test26 (offering p k) ∷ test28 (offering p k) ∷ [])
+    unfolding test6 test7 test26 test28 offering contentOf wishesTest
     fielded = ea ∙ wishes-scan p
 
     pub tasks-refused : (t : Solved) (j i : ℕ) → a ≡ Refused j i → t .answer ≡ a → TasksSolved p k t
@@ -82,7 +82,7 @@ module _ (p : Plan) (k : ℕ) where
 
       pub wish-ranges : WishRanges (setFrom (p .cores) (p .tasks) (l .separation) (l .budget) (l .offset))
       unfolding contentOf
-      wish-ranges = subst WishRanges (sym stands) (plain-wishes _ (wishes-passed (contentOf p .tasks) (sym (wishes-scan p) ∙ sym ea ∙ e)))
+      wish-ranges = subst WishRanges (sym stands) (plain-wishes _ (wishes-passed (p .edition) (contentOf p .tasks) (sym (wishes-scan p) ∙ sym ea ∙ e)))
 
       pub tasks-solved :
           (t : Solved) → RatesSolved (setFrom (p .cores) (p .tasks) (l .separation) (l .budget) (l .offset)) k t → TasksSolved p k t

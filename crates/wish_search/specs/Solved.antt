@@ -3,7 +3,7 @@
 --     lastTests      11 and 27
 --     FoundIn        the offsets and the slack that are found, in arrays
 --     RatesSolved    the answer by 9, 10, 11 and 27, and where it is no refusal what is found
---     TasksSolved    the same with 6, 7 and 26 before them; PlanSolved: with 3 to 5 before these
+--     TasksSolved    the same with 6, 7, 26 and 28 before them; PlanSolved: with 3 to 5 before these
 use Prim.Native.Nat.{ℕ, _*_, _≤_, _<_}
 use mathlib.Core.Path.{_≡_}
 use mathlib.Core.Bool.{not}
@@ -16,7 +16,7 @@ use Rattle.tasks.specs.declared.Answer.the-variants.{Accepted}
 use Rattle.tasks.specs.TaskSet.{TaskSet, row}
 use Rattle.tasks.specs.Content.{Content}
 use Rattle.tasks.specs.ShareLaws.{Timed}
-use Rattle.tasks.specs.Tests.{refuse, firstMet, orNext, test6, test7, test9, test10}
+use Rattle.tasks.specs.Tests.{refuse, firstMet, orNext, test6, test7, test28, test9, test10}
 use Rattle.slack.specs.Rates.{ratesTest}
 use Rattle.analysis.specs.SlackTest.{offering}
 use Rattle.wishes.specs.Wish.{largestOffset, wished, noSolution, test26, sheet11, test27, wishTests}
@@ -39,10 +39,10 @@ pub record RatesSolved (s : TaskSet) (k : ℕ) (r : Solved) : Type 0 where
   pub answer : r .answer ≡ orNext (ratesTest s) (lastTests s k)
   pub found : r .answer ≡ Accepted → FoundIn s r
 
--- 6, 7, 26, 9, 10, 11 and 27, in three stages
+-- 6, 7, 26, 28, 9, 10, 11 and 27, in three stages
 unfoldable pub wishTaskTests : Content → Answer
 wishTaskTests c =
-    orNext (firstMet (test6 c ∷ test7 c ∷ test26 c ∷ []))
+    orNext (firstMet (test6 c ∷ test7 c ∷ test26 c ∷ test28 c ∷ []))
     (orNext (firstMet (test9 c ∷ test10 c ∷ [])) (firstMet (sheet11 c ∷ test27 c ∷ [])))
 
 pub record TasksSolved (p : Plan) (k : ℕ) (r : Solved) : Type 0 where

@@ -163,9 +163,9 @@ module _ (m n : ℕ) (separation budget wish : List ℕ) (f : Framed m n) (g : W
                   offset-row sheet-of slack i l
                   ∙ ap (largestOffset (setFrom m n separation budget wish .task i)) (row-of slack _ 16 i (over .1) (omega (arith, f .tasks-high)))
 
-pub wishes-passed : (t : TaskSet) → wishesTest (t .task) (t .count) ≡ Accepted → WishRanges t
+pub wishes-passed : (e : ℕ) (t : TaskSet) → wishesTest e (t .task) (t .count) ≡ Accepted → WishRanges t
 unfolding wishesTest
-wishes-passed t a =
+wishes-passed e t a =
     let r6 = firstMet-passed _ _ a in
     let r7 = firstMet-passed _ _ (r6 .1) in
     let r26 = firstMet-passed _ _ (r7 .1) in

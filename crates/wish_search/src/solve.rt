@@ -85,14 +85,14 @@ fn solve(
     }
 }
 
-// Tests 6, 7, 26, 9, 10, 11 and 27.
+// Tests 6, 7, 26, 28, 9, 10, 11 and 27.
 fn solve_tasks(plan: Plan, offers: usize) -> Solved
     requires { ⌜ Framed (plan .cores) (plan .tasks) ⌝ }
     ensures { λ r. ⌜ TasksSolved plan offers r ⌝ }
 {
     let tasks = plan.tasks;
     let task = plan.task;
-    let fielded = wish_ranges(task, tasks);
+    let fielded = wish_ranges(task, tasks, plan.edition);
     let Answer::Accepted = fielded else {
         return unsolved(fielded);
     };

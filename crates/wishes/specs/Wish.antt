@@ -19,14 +19,14 @@ use Rattle.tasks.specs.declared.Task.{Task}
 use Rattle.tasks.specs.declared.Answer.{Answer}
 use Rattle.tasks.specs.TaskSet.{TaskSet, Compliant, raise, ceiling, bound, row}
 use Rattle.tasks.specs.Content.{Content}
-use Rattle.tasks.specs.Tests.{refuse, lowest, firstMet, badWish, test3, test4, test5, test6, test7, test9, test10}
+use Rattle.tasks.specs.Tests.{refuse, lowest, firstMet, badWish, test3, test4, test5, test6, test7, test28, test9, test10}
 
 abbrev pub room : Task → ℕ
 room t = t .offset - t .budget
 
 -- a task with this offset in its wish's place
 abbrev pub withOffset : Task → ℕ → Task
-withOffset t y = record { separation = t .separation; budget = t .budget; offset = y }
+withOffset t y = record { separation = t .separation; budget = t .budget; offset = y; deadline = t .deadline }
 
 -- a sheet's tasks with offsets in the wishes' place
 unfoldable pub withOffsets : TaskSet → (ℕ → ℕ) → TaskSet
@@ -76,16 +76,18 @@ module _ (c : Content) where
   unfoldable pub test27 : Answer
   test27 = refuse 27 (noSolution (c .tasks))
 
-  -- "Numbers 8, 12 and 13 don't arise on a sheet"
+  -- "Numbers 8, 12 and 13 don't arise on a sheet"; 28 is "tested after 8 (26 on a sheet)"
   unfoldable pub wishTests : Answer
   wishTests =
       firstMet
-      (test3 c ∷ test4 c ∷ test5 c ∷ test6 c ∷ test7 c ∷ test26 ∷ test9 c ∷ test10 c ∷ sheet11 ∷ test27 ∷ [])
+      (test3 c ∷ test4 c ∷ test5 c ∷ test6 c ∷ test7 c ∷ test26 ∷ test28 c ∷ test9 c ∷ test10 c ∷ sheet11 ∷ test27 ∷ [])
 
-  -- the wished slack and the offsets that it leaves, marked as found
+  -- the wished slack and the offsets that it leaves, marked as found. "A wish sheet may be of either edition", and what is found is of the
+  -- sheet's.
   unfoldable pub solved : Content
   solved =
       record {
+        edition = c .edition;
         tasks = atSlack (c .tasks) (row (wished (c .tasks)));
         label = c .label;
         offers = 0;

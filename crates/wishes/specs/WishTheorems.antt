@@ -1,11 +1,11 @@
 -- What document 02, §3, says of the offsets and the slack found for a wish sheet.
---     sheetLimits        3 to 7, 26, 9 and 10; wish-split: the tests are these, then 11 and 27
+--     sheetLimits        3 to 7, 26, 28, 9 and 10; wish-split: the tests are these, then 11 and 27
 --     Sheet              what they leave; sheet-passed: they leave it
 --     Best               a solution whose slack is the least and whose offsets are the largest of all
 --     solved-best        what is found is that; best-only: and nothing else is
 --     unsolved-exactly   27 is met exactly if no solution exists
 --     offered-exactly    11 is met exactly if the slack count is not 0
---     solved-accepted    the plan found meets none of 3 to 13, its slack being the one found for its offsets
+--     solved-accepted    the plan found meets none of 3 to 13 and 28, its slack being the one found for its offsets
 use Prim.Native.Nat.{ℕ, _*_, _≤_, _<_}
 use mathlib.Core.Path.{_≡_, refl, sym, _∙_, ap}
 use mathlib.Core.Bool.{Bool, true, false, not}
@@ -21,7 +21,7 @@ use Rattle.tasks.specs.declared.Answer.{Answer}
 use Rattle.tasks.specs.declared.Answer.the-variants.{Accepted, Refused}
 use Rattle.tasks.specs.TaskSet.{TaskSet, hyperperiod, share, found, bound, row}
 use Rattle.tasks.specs.Content.{Content}
-use Rattle.tasks.specs.Tests.{refuse, orNext, firstMet, numberOf, test3, test4, test5, test6, test7, test8, test9, test10, test11, test12, test13, tests}
+use Rattle.tasks.specs.Tests.{refuse, orNext, firstMet, numberOf, test3, test4, test5, test6, test7, test8, test28, test9, test10, test11, test12, test13, tests}
 use Rattle.tasks.specs.AnswerLaws.{refuse-passed, refuse-met, pass-lowest, lowest-passed, orNext-passed, firstMet-passed, pass-firstMet, firstMet-append, outside-passed, firstMet-none}
 use Rattle.tasks.specs.LimitsLaws.{limitTests, slackTests, tests-split, limits-passed}
 use Rattle.tasks.specs.FoundLaws.{found-compliant, found-least}
@@ -30,18 +30,18 @@ use Rattle.wishes.specs.WishLaws.{Within, Kept, largest-low, wished-kept
 
 unfoldable pub sheetLimits : Content → Answer
 sheetLimits c =
-    firstMet (test3 c ∷ test4 c ∷ test5 c ∷ test6 c ∷ test7 c ∷ test26 c ∷ test9 c ∷ test10 c ∷ [])
+    firstMet (test3 c ∷ test4 c ∷ test5 c ∷ test6 c ∷ test7 c ∷ test26 c ∷ test28 c ∷ test9 c ∷ test10 c ∷ [])
 
 pub wish-split : (c : Content) → wishTests c ≡ orNext (sheetLimits c) (firstMet (sheet11 c ∷ test27 c ∷ []))
 unfolding wishTests sheetLimits
 wish-split c =
     firstMet-append
-    (test3 c ∷ test4 c ∷ test5 c ∷ test6 c ∷ test7 c ∷ test26 c ∷ test9 c ∷ test10 c ∷ [])
+    (test3 c ∷ test4 c ∷ test5 c ∷ test6 c ∷ test7 c ∷ test26 c ∷ test28 c ∷ test9 c ∷ test10 c ∷ [])
     (sheet11 c ∷ test27 c ∷ [])
 
 -- the sheet's content with slack x and the largest offsets that it leaves
 unfoldable pub contentAt : Content → (ℕ → ℕ) → Content
-contentAt c x = record { tasks = atSlack (c .tasks) x; label = c .label; offers = 0; slack = x }
+contentAt c x = record { edition = c .edition; tasks = atSlack (c .tasks) x; label = c .label; offers = 0; slack = x }
 
 pub record Sheet (s : TaskSet) : Type 0 where
   pub limits : Within s
@@ -50,7 +50,7 @@ pub record Sheet (s : TaskSet) : Type 0 where
 
 module _ (c : Content) (a : sheetLimits c ≡ Accepted) where
   pub at-limits : (x : ℕ → ℕ) → limitTests (contentAt c x) ≡ Accepted
-  unfolding sheetLimits limitTests contentAt test3 test4 test5 test6 test7 test8 test9 test10 hyperperiod share atSlack withOffsets
+  unfolding sheetLimits limitTests contentAt test3 test4 test5 test6 test7 test8 test28 test9 test10 hyperperiod share atSlack withOffsets
   at-limits x =
       let r3 = firstMet-passed _ _ a in
       let r4 = firstMet-passed _ _ (r3 .1) in
@@ -58,7 +58,8 @@ module _ (c : Content) (a : sheetLimits c ≡ Accepted) where
       let r6 = firstMet-passed _ _ (r5 .1) in
       let r7 = firstMet-passed _ _ (r6 .1) in
       let r26 = firstMet-passed _ _ (r7 .1) in
-      let r9 = firstMet-passed _ _ (r26 .1) in
+      let r28 = firstMet-passed _ _ (r26 .1) in
+      let r9 = firstMet-passed _ _ (r28 .1) in
       let r10 = firstMet-passed _ _ (r9 .1) in
       pass-firstMet _ _ (r3 .0)
       (pass-firstMet _ _ (r4 .0)
@@ -66,8 +67,9 @@ module _ (c : Content) (a : sheetLimits c ≡ Accepted) where
       (pass-firstMet _ _ (r6 .0)
       (pass-firstMet _ _ (r7 .0)
       (pass-firstMet _ _ eight
+      (pass-firstMet _ _ (r28 .0)
       (pass-firstMet _ _ (r9 .0)
-      (pass-firstMet _ [] (r10 .0) firstMet-none)))))))
+      (pass-firstMet _ [] (r10 .0) firstMet-none))))))))
     where
       eight : test8 (contentAt c x) ≡ Accepted
       eight = pass-lowest 8 _ (c .tasks .count) (λ i h. le-ltb _ _ (largest-low (c .tasks .task i) (x i)))

@@ -1,7 +1,7 @@
 -- The writer's answer and the bytes that it leaves behind, from what its code has seen.
 --     Writes           the writer's answer, its length and the bytes left behind are the definitions'
---     write-refused    3 to 13, write-short 24, write-done the bytes written
---     plan-few         a plan past 3 to 13 fits its arrays
+--     write-refused    1, 3 to 13 and 28, write-short 24, write-done the bytes written
+--     plan-few         a plan past these fits its arrays
 use Prim.Native.Nat.{ℕ, _≤_, _<_}
 use mathlib.Core.Path.{_≡_}
 use mathlib.Core.List.{List, _++_}
@@ -11,7 +11,7 @@ use Rattle.tasks.specs.declared.Plan.{Plan}
 use Rattle.tasks.specs.declared.Answer.the-variants.{Accepted, Refused}
 use Rattle.tasks.specs.Content.{contentOf}
 use Rattle.tasks.specs.Tests.{firstMet, testPlan}
-use Rattle.tasks.specs.TestsLaws.{tests-limits}
+use Rattle.tasks.specs.TestsLaws.{tests-limits, plan-passed}
 use Rattle.writer.specs.declared.Written.{Written}
 use Rattle.codec.specs.Table.{bytesOf}
 use Rattle.writer.specs.Written.{answerOfWritten, lengthOfWritten, writeTest, writtenLength, writtenTo}
@@ -46,5 +46,5 @@ module _ (p : Plan) (out : List ℕ) (r : Written) where
         (rw (q, a), rw (q, l), rw q w)
 
 pub plan-few : (p : Plan) → testPlan p ≡ Accepted → (p .cores ≤ 8) × (p .tasks ≤ 16)
-unfolding testPlan contentOf
-plan-few p e = let L = tests-limits (contentOf p) e in (L .cores-high, L .tasks-high)
+unfolding contentOf
+plan-few p e = let L = tests-limits (contentOf p) (plan-passed p e .1) in (L .cores-high, L .tasks-high)

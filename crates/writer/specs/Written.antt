@@ -15,7 +15,7 @@ use Rattle.writer.specs.declared.Written.{Written}
 use Rattle.writer.specs.declared.Written.the-variants.{Length, Refused as NotWritten}
 use Rattle.codec.specs.Table.{bytesOf}
 
--- "24. The buffer lent to the writer … is too short, tested after 3 to 13."
+-- "24. The buffer lent to the writer … is too short, tested after 3 to 13": after all that a plan is tested by
 unfoldable pub writeTest : Plan → ℕ → Answer
 writeTest p room = firstMet (testPlan p ∷ refuse 24 (ltb room (length (bytesOf (contentOf p)))) ∷ [])
 

@@ -39,7 +39,7 @@ pub fn write(plan: Plan, out: &mut [u8]) -> Written
         return unwritten(tested);
     };
     let offers = slack_count(plan.offered, plan.tasks);
-    if out.len() < table_length(plan.cores, plan.tasks, offers) {
+    if out.len() < table_length(plan.edition, plan.cores, plan.tasks, offers) {
         return Written::Refused {
             number: refusal::BUFFER_TOO_SHORT,
             index: 0,

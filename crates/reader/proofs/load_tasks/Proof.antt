@@ -12,10 +12,10 @@ use Rattle.reader.proofs.load_tasks.Statement.{statement}
 use Rattle.reader.proofs.load_tasks.Tie as tie
 
 abbrev Inv-loop : tie.InvT-loop
-Inv-loop t from count tasks₀ end i₀ tasks i = (i ≤ end) × (tasks ≡ tab (cut i (λ j. taskIn t (from + taskSize * j)) noTask) 16)
+Inv-loop t from count edition tasks₀ size end i₀ tasks i = (i ≤ end) × (tasks ≡ tab (cut i (λ j. taskIn edition t (from + taskSize edition * j)) noTask) 16)
 
 abbrev μ-loop : tie.MeasureT-loop
-μ-loop t from count tasks₀ end i₀ tasks i = end - i
+μ-loop t from count edition tasks₀ size end i₀ tasks i = end - i
 
 no-task-requires : tie.Need-no-task-requires Inv-loop μ-loop
 no-task-requires c κs = search needs

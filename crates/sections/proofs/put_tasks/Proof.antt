@@ -15,10 +15,10 @@ use Rattle.sections.proofs.put_tasks.Statement.{statement}
 use Rattle.sections.proofs.put_tasks.Tie as tie
 
 abbrev Inv-loop : tie.InvT-loop
-Inv-loop out₀ at count task from i₀ out i = (i ≤ count) × (length out ≡ length out₀) × (out ≡ sets out₀ from (entries (λ j. taskBytes (taskOf task j)) i))
+Inv-loop out₀ at count edition task from size i₀ out i = (i ≤ count) × (length out ≡ length out₀) × (out ≡ sets out₀ from (entries (λ j. taskBytes edition (taskOf task j)) i))
 
 abbrev μ-loop : tie.MeasureT-loop
-μ-loop out₀ at count task from i₀ out i = count - i
+μ-loop out₀ at count edition task from size i₀ out i = count - i
 
 cast-out : tie.Need-cast-out Inv-loop μ-loop
 cast-out c = search needs

@@ -16,7 +16,7 @@ returns c =
 
 returns-2 : tie.Need-returns-2
 returns-2 c =
-    let p = counted-accepted _ _ (c .before .before .before .before .before .read-counts .ensures) _ _ _ (c .before .before .before .counts .given .1) in
+    let p = counted-accepted _ _ (c .before .before .before .before .before .read-counts .ensures) _ _ _ _ (c .before .before .before .counts .given .1) in
     sheet-from _ _ (p .passed) (rw (c .before .load .ensures, p .offers) at (c .wish-plan .ensures))
 
 pub wish-spec : {M : Type 1} → statement M
@@ -29,6 +29,6 @@ wish-spec =
     (λ c κs. search needs)
     (λ c κs. search needs)
     returns
-    (λ c κs. counted-accepted _ _ (c .before .before .before .read-counts .ensures) _ _ _ (c .before .counts .given .1))
+    (λ c κs. counted-accepted _ _ (c .before .before .before .read-counts .ensures) _ _ _ _ (c .before .counts .given .1))
     (λ c κs. search needs)
     returns-2)

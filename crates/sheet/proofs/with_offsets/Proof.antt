@@ -6,18 +6,18 @@ use borrow.Author.Needs.{needs}
 use Rattle.laws.specs.Tab.{tab, cut}
 use Rattle.laws.specs.TabLaws.{filled-none}
 use Rattle.tasks.specs.TaskSet.{row}
-use Rattle.tasks.specs.Content.{noTask, taskOf}
+use Rattle.tasks.specs.Content.{inEdition, noTask, taskOf}
 use Rattle.reader.specs.LoadLaws.{filled-step}
 use Rattle.wishes.specs.Wish.{withOffset}
 use Rattle.sheet.proofs.with_offsets.Statement.{statement}
 use Rattle.sheet.proofs.with_offsets.Tie as tie
 
 abbrev Inv-loop : tie.InvT-loop
-Inv-loop offset tasks task found₀ i₀ found i =
-    (i ≤ tasks) × (found ≡ tab (cut i (λ j. withOffset (taskOf task j) (row offset j)) noTask) 16)
+Inv-loop edition offset tasks task found₀ i₀ found i =
+    (i ≤ tasks) × (found ≡ tab (cut i (λ j. withOffset (inEdition edition (taskOf task j)) (row offset j)) noTask) 16)
 
 abbrev μ-loop : tie.MeasureT-loop
-μ-loop offset tasks task found₀ i₀ found i = tasks - i
+μ-loop edition offset tasks task found₀ i₀ found i = tasks - i
 
 loop-again : tie.Need-loop-again Inv-loop μ-loop
 unfolding taskOf noTask row

@@ -16,10 +16,10 @@ use Rattle.text.proofs.put_plan.Statement.{statement}
 use Rattle.text.proofs.put_plan.Tie as tie
 
 abbrev Inv-loop : tie.InvT-loop
-Inv-loop out₀ tasks task slack at₀ i₀ out at i = (i ≤ tasks) × (length out ≡ length out₀) × Stored out₀ at₀ (entries (lineIn task slack) i) at out
+Inv-loop out₀ edition tasks task slack at₀ i₀ out at i = (i ≤ tasks) × (length out ≡ length out₀) × Stored out₀ at₀ (entries (lineIn edition task slack) i) at out
 
 abbrev μ-loop : tie.MeasureT-loop
-μ-loop out₀ tasks task slack at₀ i₀ out at i = tasks - i
+μ-loop out₀ edition tasks task slack at₀ i₀ out at i = tasks - i
 
 slice-aggregate-put-pair : tie.Need-slice-aggregate-put-pair Inv-loop μ-loop
 slice-aggregate-put-pair c = search needs
@@ -64,7 +64,7 @@ put-task-requires c κs =
     omega (
       arith,
       line-room (s .args .plan) (s .pre .0) (k .i) (c .before .bound .result) (c .late .result) (k .at) (omega arith) (c .before .bound .ensures) (c .late .ensures)
-          (k .inv .2 .place ∙ ap (λ n. n + length (entries (lineIn (s .args .plan .task) (s .args .plan .slack)) (k .i))) (q .ensures .place ∙ zero-add _)),
+          (k .inv .2 .place ∙ ap (λ n. n + length (entries (lineIn (s .args .plan .edition) (s .args .plan .task) (s .args .plan .slack)) (k .i))) (q .ensures .place ∙ zero-add _)),
       k .inv .1,
       q .kept .0,
       s .pre .1,
@@ -84,7 +84,7 @@ loop-again c =
     let t = c .before .before .put-task in (
       search needs,
       t .kept .0 ∙ k .inv .1,
-      lines-next (a .plan .task) (a .plan .slack) (k .i) _ _ (c .before .before .before .before .bound .ensures) (c .before .before .before .late .ensures) (k .inv .2) (t .ensures),
+      lines-next (a .plan .edition) (a .plan .task) (a .plan .slack) (k .i) _ _ (c .before .before .before .before .bound .ensures) (c .before .before .before .late .ensures) (k .inv .2) (t .ensures),
     )
 
 same-length : tie.Need-same-length Inv-loop μ-loop

@@ -5,7 +5,7 @@ use Rattle.tasks.specs.declared.Plan.{Plan}
 use Rattle.tasks.specs.declared.Answer.{Answer}
 use Rattle.tasks.specs.declared.Answer.the-variants.{Accepted, Refused}
 use Rattle.tasks.specs.TaskSet.{row}
-use Rattle.tasks.specs.Tests.{firstMet, orNext, test3, test4, test5, test6, test7, test8, test9, test10, test11}
+use Rattle.tasks.specs.Tests.{firstMet, orNext, test3, test4, test5, test6, test7, test8, test28, test9, test10, test11}
 use Rattle.tasks.specs.AnswerLaws.{orNext-assoc}
 use Rattle.tasks.specs.LimitsLaws.{limitTests}
 use Rattle.analysis.specs.declared.slack_test.Tested.{Tested}
@@ -41,7 +41,7 @@ module _ (p : Plan) (k : ℕ) (a : Answer) (ea : a ≡ frameTest (p .cores) (row
       ap (λ (b : Answer). orNext b (firstMet (test11 (offering p k) ∷ offeredTest (offering p k) ∷ []))) (limits-split (offering p k))
       ∙ regroup
       (firstMet (test3 (offering p k) ∷ test4 (offering p k) ∷ test5 (offering p k) ∷ []))
-      (firstMet (test6 (offering p k) ∷ test7 (offering p k) ∷ test8 (offering p k) ∷ []))
+      (firstMet (test6 (offering p k) ∷ test7 (offering p k) ∷ test8 (offering p k) ∷ test28 (offering p k) ∷ []))
       (firstMet (test9 (offering p k) ∷ test10 (offering p k) ∷ []))
       (firstMet (test11 (offering p k) ∷ offeredTest (offering p k) ∷ []))
 

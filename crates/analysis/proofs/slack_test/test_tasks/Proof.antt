@@ -4,7 +4,7 @@ use Rattle.tasks.specs.declared.Answer.{Answer}
 use Rattle.tasks.specs.declared.Answer.the-variants.{Accepted, Refused}
 use Rattle.tasks.specs.TaskSet.{plain}
 use Rattle.tasks.specs.Content.{taskOf, contentOf}
-use Rattle.tasks.specs.Tests.{firstMet, orNext, test6, test7, test8}
+use Rattle.tasks.specs.Tests.{firstMet, orNext, test6, test7, test8, test28}
 use Rattle.fields.specs.declared.columns.Columns.{Columns}
 use Rattle.analysis.specs.declared.slack_test.Tested.{Tested}
 use Rattle.fields.specs.Columns.{columnsOf, setFrom}
@@ -28,7 +28,7 @@ use Rattle.analysis.proofs.slack_test.test_rated.Reads as test-rated-re
 use Rattle.analysis.proofs.slack_test.untested.Reads as untested-reads
 
 module _ (p : Plan) (k : ℕ) (f : Framed (p .cores) (p .tasks)) (a : Answer) (ea : a ≡ fieldsTest (taskOf (p .task)) (p .tasks)) where
-  fielded : a ≡ firstMet (test6 (offering p k) ∷ test7 (offering p k) ∷ test8 (offering p k) ∷ [])
+  fielded : a ≡ firstMet (test6 (offering p k) ∷ test7 (offering p k) ∷ test8 (offering p k) ∷ test28 (offering p k) ∷ [])
   fielded = ea ∙ fields-tests p k
 
   refused : (t : Tested) (j i : ℕ) → a ≡ Refused j i → t .answer ≡ a → TasksTested p k t

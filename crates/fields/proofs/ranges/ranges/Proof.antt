@@ -10,13 +10,13 @@ use Rattle.fields.proofs.ranges.ranges.Statement.{statement}
 use Rattle.fields.proofs.ranges.ranges.Tie as tie
 
 abbrev Inv-loop : tie.InvT-loop
-Inv-loop tasks wishes task number₀ index₀ i₀ number index i = (i ≤ tasks) × (scan (rangeTests wishes (taskOf task)) i ≡ seen number index)
+Inv-loop tasks edition wishes task number₀ index₀ i₀ number index i = (i ≤ tasks) × (scan (rangeTests edition wishes (taskOf task)) i ≡ seen number index)
 
 abbrev μ-loop : tie.MeasureT-loop
-μ-loop tasks wishes task number₀ index₀ i₀ number index i = tasks - i
+μ-loop tasks edition wishes task number₀ index₀ i₀ number index i = tasks - i
 
 loop-holds : tie.Need-loop-holds Inv-loop μ-loop
-loop-holds c = (omega arith, range-none _ _)
+loop-holds c = (omega arith, range-none _ _ _)
 
 mul-t : tie.Need-mul-t Inv-loop μ-loop
 mul-t c = search needs
@@ -43,8 +43,8 @@ loop-again c =
     let m = c .before .met .ensures in (
       omega arith,
       ⊎-elim
-          (λ w. range-lower _ _ _ _ _ (l .inv .1) m (w .0 .taken) (w .1) (w .2))
-          (λ w. range-kept _ _ _ _ _ (l .inv .1) m (w .0 .left) (w .1) (w .2))
+          (λ w. range-lower _ _ _ _ _ _ (l .inv .1) m (w .0 .taken) (w .1) (w .2))
+          (λ w. range-kept _ _ _ _ _ _ (l .inv .1) m (w .0 .left) (w .1) (w .2))
           (c .if1 .came),
     )
 

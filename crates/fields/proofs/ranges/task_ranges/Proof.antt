@@ -6,4 +6,4 @@ use Rattle.fields.proofs.ranges.task_ranges.Statement.{statement}
 use Rattle.fields.proofs.ranges.task_ranges.Tie as tie
 
 pub task-ranges-spec : {M : Type 1} → statement M
-task-ranges-spec = tie.close (tie.spec (λ c κs. search needs) (λ c. c .ranges .ensures ∙ scan-fields _ _))
+task-ranges-spec = tie.close (tie.spec (λ c κs. search needs) (λ c. c .ranges .ensures ∙ scan-fields _ _ _))

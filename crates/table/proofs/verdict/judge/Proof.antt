@@ -32,14 +32,14 @@ returns c =
     ∙ counts-refused _ _ _ (counted-refused _ _ g _ _ e)
 
 load-requires : tie.Need-load-requires
-load-requires c κs = counted-accepted _ _ (c .before .before .before .read-counts .ensures) _ _ _ (c .before .counts .given .1)
+load-requires c κs = counted-accepted _ _ (c .before .before .before .read-counts .ensures) _ _ _ _ (c .before .counts .given .1)
 
 judge-plan-requires : tie.Need-judge-plan-requires
 judge-plan-requires c κs = search needs
 
 returns-2 : tie.Need-returns-2
 returns-2 c =
-    let p = counted-accepted _ _ (c .before .before .before .before .before .read-counts .ensures) _ _ _ (c .before .before .before .counts .given .1) in
+    let p = counted-accepted _ _ (c .before .before .before .before .before .read-counts .ensures) _ _ _ _ (c .before .before .before .counts .given .1) in
     judged-from _ (p .passed) _ (rw (c .before .load .ensures, p .offers) at (c .judge-plan .ensures))
 
 pub judge-spec : {M : Type 1} → statement M

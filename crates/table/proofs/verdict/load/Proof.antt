@@ -28,7 +28,7 @@ load-slack-requires c κs = search needs
 
 returns : tie.Need-returns
 returns c =
-    loaded-from _ _ _ _ (c .before .before .before .before .before .before .pre) _ refl refl refl
+    loaded-from _ _ _ _ _ (c .before .before .before .before .before .before .pre) _ refl refl refl refl
     (c .before .before .before .before .load-labels .ensures)
     (c .before .before .load-tasks .ensures ∙ rw (c .before .before .before .tasks-from .ensures))
     (c .load-slack .ensures ∙ rw (c .before .slack-from .ensures))
