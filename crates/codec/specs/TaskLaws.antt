@@ -1,5 +1,6 @@
 -- Laws of a task's entry: the only ones that look at a task's fields.
 --     size-low, size-high    it has 12 bytes or more, and 16 or fewer; size-dated: with a deadline 16
+--     length-plain      its first three numbers have 12
 --     size-times        entries of n tasks have 16 × n bytes or fewer; entry-inside: one that is among them ends within them
 --     edition-in        a table's tasks are as its edition has them
 --     length-task       how many bytes it has
@@ -23,6 +24,10 @@ use Rattle.tasks.specs.TestsLaws.{Passed}
 use Rattle.numbers.specs.Bytes.{byte, number, digits}
 use Rattle.codec.specs.Table.{taskSize, editionIn, taskCount, taskIn, plainBytes, taskBytes, taskSetIn, contentIn}
 use Rattle.numbers.specs.ByteLaws.{Bytes, number-same, number-digits, number-digits-at, digits-number, length-digits}
+
+pub length-plain : (k : Task) → length (plainBytes k) ≡ 12
+unfolding plainBytes digits
+length-plain k = refl
 
 module _ (e : ℕ) where
   pub size-low : 12 ≤ taskSize e
@@ -127,7 +132,7 @@ task-back e k n =
     go : (b : Bool) → dated e ≡ b → cond b (number 4 (plainBytes k ++ cond b (digits 4 (k .deadline)) []) 12) 0 ≡ cond b (k .deadline) 0
     go true q =
         rw (← (append-nil (digits 4 (k .deadline))))
-        (number-digits-at 4 (k .deadline) (plainBytes k) [] 12 refl (n .deadline q))
+        (number-digits-at 4 (k .deadline) (plainBytes k) [] 12 (length-plain k) (n .deadline q))
     go false q = refl
 
 pub task-again :

@@ -1,15 +1,17 @@
 -- How the stage's answer follows from what its code has seen, and what its caller knows by it.
---     core-count, task-count, slack-count    the counts, from the bytes that the code has read
+--     edition-read, core-count, task-count, slack-count    the edition and the counts, from the bytes that the code has read
+--     no-slack-count, other-length    the length is not what the counts give: it ends before the third count, or is another
 --     counted-edition    the first byte is absent or no edition
 --     counted-length     it is one, and the length is not what the counts give
 --     counted-read       it is one, and the length is what they give
 --     CountsIn           edition and counts are the table's, and it meets neither 1 nor 2
 --     counted-accepted, counted-refused    what each case of the answer says of the table
 --     right-length       a table that doesn't meet 2 has the length that its counts give
-use Prim.Native.Nat.{ℕ}
+use Prim.Native.Nat.{ℕ, _≤_}
+use native.Mathlib.Omega.{arith}
 use mathlib.Core.Path.{_≡_, sym, ap, _∙_}
 use mathlib.Core.List.{List, [], _∷_}
-use lib.ListN.{length}
+use lib.ListN.{length, getD}
 use mathlib.Core.Bool.{true, false}
 use borrow.Author.Tests.{eq-eqb, ne-eqb, eqb-true, not-false}
 use Rattle.tasks.specs.declared.Answer.the-variants.{Accepted, Refused}
@@ -29,9 +31,21 @@ pub task-count : (t : List ℕ) (m n : ℕ) → m ≡ byte t 1 → n ≡ byte t 
 unfolding taskCount
 task-count t m n e f = rw (core-count t m e) (sym f)
 
-pub slack-count : (t : List ℕ) (m n x : ℕ) → m ≡ byte t 1 → n ≡ byte t (tasksFrom m) → x ≡ byte t (slackFrom (editionIn t) m n) → slackCount t ≡ x
+pub edition-read : (t : List ℕ) (e : ℕ) → e ≡ getD t 0 0 → editionIn t ≡ e
+unfolding byte
+edition-read t e q = sym q
+
+pub slack-count :
+    (t : List ℕ) (e m n x : ℕ) → editionIn t ≡ e → m ≡ byte t 1 → n ≡ byte t (tasksFrom m) → x ≡ byte t (slackFrom e m n) → slackCount t ≡ x
 unfolding slackCount
-slack-count t m n x e f g = rw (core-count t m e, task-count t m n e f) (sym g)
+slack-count t e m n x d p q r = rw (d, core-count t m p, task-count t m n p q) (sym r)
+
+module _ (t : List ℕ) (e m n : ℕ) (ee : editionIn t ≡ e) (em : coreCount t ≡ m) (en : taskCount t ≡ n) where
+  pub no-slack-count : length t ≤ slackFrom e m n → length t ≡ countedLength t → ⊥
+  no-slack-count h q = omega (arith, h, rw (ee, em, en) at q)
+
+  pub other-length : (x : ℕ) → slackCount t ≡ x → (length t ≡ tableLength e m n x → ⊥) → length t ≡ countedLength t → ⊥
+  other-length x ex h q = h (rw (ee, em, en, ex) at q)
 
 module _ (t : List ℕ) (r : Counts) where
   stopped : (k i : ℕ) → countsTest t ≡ Refused k i → r ≡ NotRead k i → Counted t r

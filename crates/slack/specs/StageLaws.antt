@@ -1,5 +1,5 @@
 -- What settles a plan's slack, from what the stages have worked out.
---     frame-passed, ranges-passed    what 3 to 8 leave
+--     frame-passed, ranges-passed    what 3 to 8 and 28 leave
 --     arrays-of                    the rates and columns of a task set past 3 to 10
 --     cores-low … surplus-high       what ties the arrays to a task set keeps every number small
 --     counted-row                    the tasks that the code counts are those counted
@@ -53,9 +53,9 @@ frame-passed m label n a =
     let o5 = outside-passed (m + 1) 16 n (refuse-passed 5 _ (r5 .0)) in
     record { cores-low = o3 .0; cores-high = o3 .1; more-tasks = omega arith; tasks-high = o5 .1 }
 
-pub ranges-passed : (s : TaskSet) → Framed (s .cores) (s .count) → fieldsTest (s .task) (s .count) ≡ Accepted → Ranges s
+pub ranges-passed : (e : ℕ) (s : TaskSet) → Framed (s .cores) (s .count) → fieldsTest e (s .task) (s .count) ≡ Accepted → Ranges s
 unfolding fieldsTest
-ranges-passed s f a =
+ranges-passed e s f a =
     let r6 = firstMet-passed _ _ a in
     let r7 = firstMet-passed _ _ (r6 .1) in
     let r8 = firstMet-passed _ _ (r7 .1) in

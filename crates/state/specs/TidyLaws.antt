@@ -3,7 +3,7 @@
 --     tidied-shaped     such a plan has its arrays' lengths
 --     tidy-accepted     a tidied plan passes what the plan passes
 use Prim.Native.Nat.{ℕ, _≤_, _<_}
-use mathlib.Core.Bool.{Bool, true, false}
+use mathlib.Core.Bool.{Bool, true, false, _&&_, _||_}
 use mathlib.Core.Path.{_≡_, refl, sym, ap, _∙_}
 use mathlib.Core.List.{List}
 use lib.ListN.{length, getD}
@@ -14,7 +14,7 @@ use Rattle.laws.specs.TabLaws.{length-tab, getD-tab, ext-tab, tab-ext, cut-belo
 use Rattle.tasks.specs.declared.Plan.{Plan}
 use Rattle.tasks.specs.declared.Answer.the-variants.{Accepted}
 use Rattle.tasks.specs.TaskSet.{row}
-use Rattle.tasks.specs.Content.{inEdition, noTask, zeroTask, taskOf, contentOf, planOf, tidy}
+use Rattle.tasks.specs.Content.{dated, inEdition, noTask, zeroTask, taskOf, contentOf, planOf, tidy}
 use Rattle.tasks.specs.ContentLaws.{edition-zero, cut-edition, kept-in, in-kept, mark-back, zero-task, no-task, content-tidy}
 use Rattle.tasks.specs.Tests.{badEdition, tests, testPlan}
 use Rattle.tasks.specs.TestsLaws.{plan-passed, plan-accepted}
@@ -50,13 +50,29 @@ module _ (p : Plan) where
       parts : (allOf-labels : tidyTest p ≡ true) → (((i : ℕ) → i < 8 → tidyLabel p i ≡ true) × ((i : ℕ) → i < 16 → tidyTask p i ≡ true))
       parts h = let a = both _ _ h in (λ i l. all-at (tidyLabel p) 8 i (a .0) l, λ i l. all-at (tidyTask p) 16 i (a .1) l)
 
+      task-parts :
+          (i : ℕ) → i < 16
+          → (ltb i (p .tasks) || (zeroTask (getD (p .task) i noTask) && eqb (getD (p .slack) i 0) 0) ≡ true)
+          × (dated (p .edition) || eqb (getD (p .task) i noTask .deadline) 0 ≡ true)
+      task-parts i h = both _ _ (parts e .1 i h)
+
       past : (i : ℕ) → i < 16 → p .tasks ≤ i → (zeroTask (getD (p .task) i noTask) ≡ true) × (eqb (getD (p .slack) i 0) 0 ≡ true)
-      past i h l = both _ _ (either (ltb i (p .tasks)) _ (both _ _ (parts e .1 i h) .0) (le-ltb i (p .tasks) l))
+      past i h l = both _ _ (either (ltb i (p .tasks)) _ (task-parts i h .0) (le-ltb i (p .tasks) l))
 
       labels : tab (cut (p .cores) (λ i. getD (p .labels) i 0) 0) 8 ≡ p .labels
       labels =
           uncut (p .labels) 0 (p .cores) 8 (S .labels)
           (λ i h l. eqb-true _ _ (either (ltb i (p .cores)) _ (parts e .0 i h) (le-ltb i (p .cores) l)))
+
+      undated : (i : ℕ) → i < 16 → inEdition (p .edition) (getD (p .task) i noTask) ≡ getD (p .task) i noTask
+      undated i h = kept-in (p .edition) (getD (p .task) i noTask) (task-parts i h .1)
+
+      dated-cut : (i : ℕ) → i < 16 → inEdition (p .edition) (cut (p .tasks) (λ j. getD (p .task) j noTask) noTask i) ≡ cut (p .tasks) (λ j. getD (p .task) j noTask) noTask i
+      dated-cut i h = go (ltb i (p .tasks)) refl
+        where
+          go : (b : Bool) → ltb i (p .tasks) ≡ b → inEdition (p .edition) (cut (p .tasks) (λ j. getD (p .task) j noTask) noTask i) ≡ cut (p .tasks) (λ j. getD (p .task) j noTask) noTask i
+          go true q = rw (cut-below (p .tasks) (λ j. getD (p .task) j noTask) noTask i (ltb-true _ _ q)) (undated i h)
+          go false q = rw (cut-above (p .tasks) (λ j. getD (p .task) j noTask) noTask i (ltb-false _ _ q)) (edition-zero (p .edition))
 
       task : tab (cut (p .tasks) (λ i. inEdition (p .edition) (getD (p .task) i noTask)) noTask) 16 ≡ p .task
       task =
@@ -65,13 +81,6 @@ module _ (p : Plan) where
           cut-map (inEdition (p .edition)) (p .tasks) (λ j. getD (p .task) j noTask) noTask noTask (edition-zero (p .edition)) i
           ∙ dated-cut i h)
           ∙ uncut (p .task) noTask (p .tasks) 16 (S .task) (λ i h l. zero-task (getD (p .task) i noTask) (past i h l .0))
-
-      dated-cut : (i : ℕ) → i < 16 → inEdition (p .edition) (cut (p .tasks) (λ j. getD (p .task) j noTask) noTask i) ≡ cut (p .tasks) (λ j. getD (p .task) j noTask) noTask i
-      dated-cut i h = go (ltb i (p .tasks)) refl
-        where
-          go : (b : Bool) → ltb i (p .tasks) ≡ b → inEdition (p .edition) (cut (p .tasks) (λ j. getD (p .task) j noTask) noTask i) ≡ cut (p .tasks) (λ j. getD (p .task) j noTask) noTask i
-          go true q = rw (cut-below (p .tasks) (λ j. getD (p .task) j noTask) noTask i (ltb-true _ _ q)) (kept-in (p .edition) _ (both _ _ (parts e .1 i h) .1))
-          go false q = rw (cut-above (p .tasks) (λ j. getD (p .task) j noTask) noTask i (ltb-false _ _ q)) (edition-zero (p .edition))
 
       slack : tab (cut (p .tasks) (λ i. getD (p .slack) i 0) 0) 16 ≡ p .slack
       slack = uncut (p .slack) 0 (p .tasks) 16 (S .slack) (λ i h l. eqb-true _ _ (past i h l .1))

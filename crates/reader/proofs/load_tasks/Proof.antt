@@ -1,12 +1,13 @@
 -- `reader::load_tasks` meets its contract. The loop's invariant: the array is filled up to i, and holds zeros after it.
 use Prim.Native.Nat.{_≤_, _+_, _*_, _-_}
 use native.Mathlib.Omega.{arith}
-use mathlib.Core.Path.{_≡_}
+use mathlib.Core.Path.{_≡_, _∙_}
 use borrow.Author.Needs.{needs}
 use Rattle.laws.specs.Tab.{tab, cut}
 use Rattle.laws.specs.TabLaws.{filled-none}
 use Rattle.tasks.specs.Content.{noTask}
 use Rattle.codec.specs.Table.{taskSize, taskIn}
+use Rattle.codec.specs.TaskLaws.{size-times, entry-inside}
 use Rattle.reader.specs.LoadLaws.{filled-step, filled-end}
 use Rattle.reader.proofs.load_tasks.Statement.{statement}
 use Rattle.reader.proofs.load_tasks.Tie as tie
@@ -17,38 +18,14 @@ Inv-loop t from count edition tasks₀ size end i₀ tasks i = (i ≤ end) × (t
 abbrev μ-loop : tie.MeasureT-loop
 μ-loop t from count edition tasks₀ size end i₀ tasks i = end - i
 
-no-task-requires : tie.Need-no-task-requires Inv-loop μ-loop
-no-task-requires c κs = search needs
-
-lesser-requires : tie.Need-lesser-requires Inv-loop μ-loop
-lesser-requires c κs = search needs
-
-loop-holds : tie.Need-loop-holds Inv-loop μ-loop
-loop-holds c = (search needs, rw (c .before .no-task .ensures) (filled-none _ noTask 16))
-
-mul-task-at : tie.Need-mul-task-at Inv-loop μ-loop
-mul-task-at c = search needs
-
-add-task-at : tie.Need-add-task-at Inv-loop μ-loop
-add-task-at c = search needs
-
 task-at-requires : tie.Need-task-at-requires Inv-loop μ-loop
-task-at-requires c κs = search needs
-
-mul-tasks : tie.Need-mul-tasks Inv-loop μ-loop
-mul-tasks c = search needs
-
-array-set-from-tasks : tie.Need-array-set-from-tasks Inv-loop μ-loop
-array-set-from-tasks c = search needs
-
-add-i : tie.Need-add-i Inv-loop μ-loop
-add-i c = search needs
-
-loop-less : tie.Need-loop-less Inv-loop μ-loop
-loop-less c = search needs
+task-at-requires c κs =
+    let a = c .before .before .before .before .before .before .args in
+    rw (c .before .before .before .task-size .ensures) (omega (arith, entry-inside (a .edition) (c .before .loop .i) (a .count) (omega arith)))
 
 loop-again : tie.Need-loop-again Inv-loop μ-loop
-loop-again c = (search needs, filled-step _ noTask _ 16 _ _ (omega arith) (c .before .before .loop .inv .1) (c .task-at .ensures))
+loop-again c =
+    (search needs, filled-step _ noTask _ 16 _ _ (omega arith) (c .before .before .loop .inv .1) (c .task-at .ensures ∙ rw (c .before .before .before .before .task-size .ensures)))
 
 returns : tie.Need-returns Inv-loop μ-loop
 returns c = filled-end _ noTask _ 16 _ _ (omega arith) (c .before .loop .inv .1)
@@ -59,15 +36,20 @@ load-tasks-spec =
     (tie.spec
     Inv-loop
     μ-loop
-    no-task-requires
-    lesser-requires
-    loop-holds
-    mul-task-at
-    add-task-at
+    (λ c κs. search needs)
+    (λ c κs. search needs)
+    (λ c κs. search needs)
+    (λ c. (search needs, rw (c .before .before .no-task .ensures) (filled-none _ noTask 16)))
+    (λ c.
+    rw (c .before .before .before .task-size .ensures)
+    (omega (arith, size-times (c .before .before .before .before .before .before .args .edition) (c .before .loop .i))))
+    (λ c.
+    let a = c .before .before .before .before .before .before .args in
+    rw (c .before .before .before .task-size .ensures) (omega (arith, entry-inside (a .edition) (c .before .loop .i) (a .count) (omega arith))))
     task-at-requires
-    mul-tasks
-    array-set-from-tasks
-    add-i
-    loop-less
+    (λ c. search needs)
+    (λ c. search needs)
+    (λ c. search needs)
+    (λ c. search needs)
     loop-again
     returns)

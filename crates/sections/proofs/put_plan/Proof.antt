@@ -3,6 +3,7 @@ use native.Mathlib.Omega.{arith}
 use mathlib.Core.Path.{sym, _∙_}
 use lib.ListN.{length-set}
 use borrow.Author.Needs.{needs}
+use Rattle.codec.specs.TaskLaws.{size-times}
 use Rattle.sections.specs.WriteLaws.{length-plan, plan-written}
 use Rattle.sections.proofs.put_plan.Statement.{statement}
 use Rattle.sections.proofs.put_plan.Tie as tie
@@ -16,7 +17,7 @@ slice-write-out c = omega (arith, length-plan (c .before .before .args .t2))
 put-labels-requires : tie.Need-put-labels-requires
 put-labels-requires c κs =
     let a = c .before .before .before .before .before .args in
-    omega (arith, length-plan (a .t2), length-set (a .out .now) 0 1)
+    omega (arith, length-plan (a .t2), length-set (a .out .now) 0 (a .t2 .edition))
 
 tasks-from-requires : tie.Need-tasks-from-requires
 tasks-from-requires c κs = search needs
@@ -27,13 +28,15 @@ put-tasks-requires c κs =
     omega (
       arith,
       length-plan (a .t2),
-      length-set (a .out .now) 0 1,
+      length-set (a .out .now) 0 (a .t2 .edition),
       c .before .before .before .before .before .put-labels .kept .0,
       c .before .tasks-from .ensures,
     )
 
 slack-from-requires : tie.Need-slack-from-requires
-slack-from-requires c κs = search needs
+slack-from-requires c κs =
+    let d = c .before .before .before .before .before .before .before .before .before .before .before .before .before .before .before in
+    omega (arith, size-times (d .args .t2 .edition) (d .args .t2 .tasks), d .pre)
 
 put-slack-requires : tie.Need-put-slack-requires
 put-slack-requires c κs =
@@ -45,7 +48,7 @@ put-slack-requires c κs =
       d .slack-count .ensures .0,
       d .slack-count .ensures .1,
       d .before .before .pre,
-      length-set (a .out .now) 0 1,
+      length-set (a .out .now) 0 (a .t2 .edition),
       c .before .before .before .before .before .before .before .before .before .before .before .before .put-labels .kept .0,
       c .before .before .before .before .before .before .put-tasks .kept .0,
       c .before .before .slack-from .ensures,
@@ -54,7 +57,7 @@ put-slack-requires c κs =
 table-length-requires : tie.Need-table-length-requires
 table-length-requires c κs =
     let d = c .before .before .before .before .before .before .before .before .before .before .before .before .before .before .before .before .before .before .before in
-    omega (arith, d .slack-count .ensures .1, d .before .before .pre)
+    omega (arith, size-times (d .before .before .args .t2 .edition) (d .before .before .args .t2 .tasks), d .slack-count .ensures .1, d .before .before .pre)
 
 same-length : tie.Need-same-length
 same-length c =
@@ -62,7 +65,7 @@ same-length c =
     c .before .before .before .put-slack .kept .0
     ∙ c .before .before .before .before .before .before .before .before .before .before .put-tasks .kept .0
     ∙ c .before .before .before .before .before .before .before .before .before .before .before .before .before .before .before .before .put-labels .kept .0
-    ∙ length-set (a .out .now) 0 1
+    ∙ length-set (a .out .now) 0 (a .t2 .edition)
 
 returns : tie.Need-returns
 returns c =

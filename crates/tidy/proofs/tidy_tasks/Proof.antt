@@ -1,5 +1,5 @@
 -- `tidy::tidy_tasks` meets its contract; the loop's invariant says what its turns so far have made.
-use Rattle.tasks.specs.Content.{noTask, taskOf}
+use Rattle.tasks.specs.Content.{inEdition, noTask, taskOf}
 use Rattle.laws.specs.TabLaws.{filled-none, filled-next}
 use Rattle.laws.specs.Tab.{tab, cut}
 use borrow.Author.Needs.{needs}
@@ -11,10 +11,10 @@ use Rattle.tidy.proofs.tidy_tasks.Statement.{statement}
 use Rattle.tidy.proofs.tidy_tasks.Tie as tie
 
 abbrev Inv-loop : tie.InvT-loop
-Inv-loop tasks task out₀ i₀ out i = (i ≤ tasks) × (out ≡ tab (cut i (taskOf task) noTask) 16)
+Inv-loop edition tasks task out₀ i₀ out i = (i ≤ tasks) × (out ≡ tab (cut i (λ j. inEdition edition (taskOf task j)) noTask) 16)
 
 abbrev μ-loop : tie.MeasureT-loop
-μ-loop tasks task out₀ i₀ out i = tasks - i
+μ-loop edition tasks task out₀ i₀ out i = tasks - i
 
 loop-holds : tie.Need-loop-holds Inv-loop μ-loop
 loop-holds c = (omega arith, ap (replicate 16) (c .no-task .ensures) ∙ filled-none _ noTask 16)
@@ -27,6 +27,9 @@ mul-t c = search needs
 
 array-copy-out-t : tie.Need-array-copy-out-t Inv-loop μ-loop
 array-copy-out-t c = search needs
+
+in-edition-requires : tie.Need-in-edition-requires Inv-loop μ-loop
+in-edition-requires c κs = search needs
 
 mul-out : tie.Need-mul-out Inv-loop μ-loop
 mul-out c = search needs
@@ -43,9 +46,9 @@ loop-less c = search needs
 loop-again : tie.Need-loop-again Inv-loop μ-loop
 unfolding taskOf noTask
 loop-again c =
-    let l = c .before .before .loop in
-    let a = c .before .before .before .before .args in
-    (omega arith, rw (l .inv .1) (filled-next (taskOf (a .t1)) noTask (l .i) 16 (omega arith)))
+    let l = c .before .before .before .loop in
+    let a = c .before .before .before .before .before .args in
+    (omega arith, rw (l .inv .1, c .in-edition .ensures) (filled-next (λ j. inEdition (a .edition) (taskOf (a .t2) j)) noTask (l .i) 16 (omega arith)))
 
 returns : tie.Need-returns Inv-loop μ-loop
 returns c =
@@ -63,6 +66,7 @@ tidy-tasks-spec =
     loop-holds
     mul-t
     array-copy-out-t
+    in-edition-requires
     mul-out
     array-set-from-out
     add-i

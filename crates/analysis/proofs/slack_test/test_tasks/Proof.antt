@@ -27,7 +27,7 @@ use Rattle.fields.proofs.ranges.task_ranges.Reads as task-ranges-reads
 use Rattle.analysis.proofs.slack_test.test_rated.Reads as test-rated-reads
 use Rattle.analysis.proofs.slack_test.untested.Reads as untested-reads
 
-module _ (p : Plan) (k : ℕ) (f : Framed (p .cores) (p .tasks)) (a : Answer) (ea : a ≡ fieldsTest (taskOf (p .task)) (p .tasks)) where
+module _ (p : Plan) (k : ℕ) (f : Framed (p .cores) (p .tasks)) (a : Answer) (ea : a ≡ fieldsTest (p .edition) (taskOf (p .task)) (p .tasks)) where
   fielded : a ≡ firstMet (test6 (offering p k) ∷ test7 (offering p k) ∷ test8 (offering p k) ∷ test28 (offering p k) ∷ [])
   fielded = ea ∙ fields-tests p k
 
@@ -45,7 +45,7 @@ module _ (p : Plan) (k : ℕ) (f : Framed (p .cores) (p .tasks)) (a : Answer) (e
 
     ranges : Ranges (setFrom (p .cores) (p .tasks) (l .separation) (l .budget) (l .offset))
     unfolding contentOf
-    ranges = subst Ranges (sym stands) (plain-ranges _ (ranges-passed (contentOf p .tasks) f (sym (fields-scan p) ∙ sym ea ∙ e)))
+    ranges = subst Ranges (sym stands) (plain-ranges _ (ranges-passed (p .edition) (contentOf p .tasks) f (sym (fields-scan p) ∙ sym ea ∙ e)))
 
     tested : (t : Tested) → RatesTested (setFrom (p .cores) (p .tasks) (l .separation) (l .budget) (l .offset)) (p .slack) k t → TasksTested p k t
     unfolding taskTests offering

@@ -10,7 +10,9 @@ last-met-spec =
     (tie.spec
     (λ c κs. search needs)
     (λ c. rw (c .before .before .if1 .taken, sym (c .before .bad-wish .ensures) ∙ c .if2 .taken))
-    (λ c. rw (c .before .before .if1 .taken, sym (c .before .bad-wish .ensures) ∙ c .if2 .left))
+    (λ c κs. search needs)
+    (λ c. rw (c .before .before .before .if1 .taken, sym (c .before .before .bad-wish .ensures) ∙ c .before .if2 .left) (c .deadline-met .ensures))
     (λ c κs. search needs)
     (λ c. rw (c .before .before .if1 .left, sym (c .before .bad-offset .ensures) ∙ c .if3 .taken))
-    (λ c. rw (c .before .before .if1 .left, sym (c .before .bad-offset .ensures) ∙ c .if3 .left)))
+    (λ c κs. search needs)
+    (λ c. rw (c .before .before .before .if1 .left, sym (c .before .before .bad-offset .ensures) ∙ c .before .if3 .left) (c .deadline-met2 .ensures)))
