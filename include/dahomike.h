@@ -10,11 +10,11 @@
  * have any length: what is wrong with them is refused. The functions keep no pointer and allocate nothing.
  *
  * What a refused call answers: 4,294,967,296 x number + index. So answer >> 32 is the refusal number, 0 for a call that is not refused,
- * and the low 32 bits are the index: the lowest failing core for 4, loop for 6, 7, 8, 12, 13 and 26, log entry for 15, and 0 for every
- * other number. A refused call writes nothing.
+ * and the low 32 bits are the index: the lowest failing core for 4, loop for 6, 7, 8, 12, 13, 26 and 28, log entry for 15, and 0 for
+ * every other number. A refused call writes nothing.
  *
- *      1  The edition byte is absent or not 1.
- *      2  The length isn't exactly what the counts give, or a count is absent.
+ *      1  The edition byte is absent or neither 1 nor 2.
+ *      2  The length isn't exactly what the edition and the counts give, or a count is absent.
  *      3  Cores are not 2 to 8.
  *      4  A core label is above 63 or not above the one before.
  *      5  Loops are fewer than cores + 1 or more than 16.
@@ -33,10 +33,11 @@
  *     25  The buffer lent for a sentence is too short.
  *     26  On a wish sheet, W is not C to 16 x T.
  *     27  On a wish sheet, no solution exists.
+ *     28  In edition 2, a deadline is not 1 to 1,600,000.
  *
- * Each number is tested over all entries before the next, and the first that is met is answered: 1 to 13 of the table, then 24 for
- * dahomike_judge and dahomike_counted; 1 to 7 of the sheet, then 26, 9, 10, 11, 27 and 24 for dahomike_wish; 1 to 13 of the table, then
- * 14 to 16 for dahomike_run_log. dahomike_sentence tests 25 alone.
+ * Each number is tested over all entries before the next, and the first that is met is answered: 1 to 8, 28 and 9 to 13 of the table,
+ * then 24 for dahomike_judge and dahomike_counted, 14 to 16 for dahomike_run_log; 1 to 7 of the sheet, then 26, 28, 9, 10, 11, 27 and 24
+ * for dahomike_wish. dahomike_sentence tests 25 alone.
  */
 #ifndef DAHOMIKE_H
 #define DAHOMIKE_H
@@ -51,13 +52,15 @@ extern "C" {
 /*
  * Judges a show table.
  *
- *     table   the bytes of a show table: edition 1; a count m and m core labels, one byte each; a count n and n loops of 12 bytes,
- *             separation T, budget C and priority offset Y; a count, n or 0, and as many entries of slack, 4 bytes each
+ *     table   the bytes of a show table: the edition, 1 or 2; a count m and m core labels, one byte each; a count n and n loops, in
+ *             edition 1 of 12 bytes, separation T, budget C and priority offset Y, in edition 2 of 16 bytes, the deadline D last, which
+ *             is 1 to 1,600,000; a count, n or 0, and as many entries of slack, 4 bytes each
  *     out     where the table is accepted, for each loop its slack x and its bound Y + x + C, 4 bytes each: slack 0, bound 0, slack 1,
  *             bound 1 and so on, 8 x n bytes; bytes beyond these stay. 128 bytes are enough for every table
  *
- * Answers n, which is 3 to 16, or the refusal: one of 1 to 13 and 24. With a slack count of 0 the slack is found: the least that is
- * compliant. Otherwise it is the slack offered, tested by 12.
+ * Answers n, which is 3 to 16, or the refusal: one of 1 to 13, 24 and 28. With a slack count of 0 the slack is found: the least that is
+ * compliant. Otherwise it is the slack offered, tested by 12. Deadlines are tested by 28 and not used otherwise: the slack and the
+ * bounds, and what the functions below write, are the same in both editions.
  */
 uint64_t dahomike_judge(const uint8_t *table, size_t table_len, uint8_t *out, size_t out_len);
 
@@ -68,19 +71,21 @@ uint64_t dahomike_judge(const uint8_t *table, size_t table_len, uint8_t *out, si
  *     out     where the table is accepted, these loops, one byte each, largest weight first, equal weights by lower loop; bytes beyond
  *             these stay. 7 bytes are enough for every table
  *
- * Answers how many, m - 1, or the refusal: one of 1 to 13 and 24.
+ * Answers how many, m - 1, or the refusal: one of 1 to 13, 24 and 28.
  */
 uint64_t dahomike_counted(const uint8_t *table, size_t table_len, uint8_t *out, size_t out_len);
 
 /*
  * Finds offsets from wished responses: whole offsets 0 to T and compliant whole slack with Y + x + C at most W for every loop.
  *
- *     sheet   the bytes of a wish sheet: a show table as above, with the wished bound W in the offset's place and slack count 0
+ *     sheet   the bytes of a wish sheet: a show table of either edition as above, with the wished bound W in the offset's place and
+ *             slack count 0
  *     out     where the call is not refused, for each loop its offset Y, its slack x and its bound Y + x + C, 4 bytes each: offset 0,
  *             slack 0, bound 0, offset 1 and so on, 12 x n bytes; bytes beyond these stay. 192 bytes are enough for every sheet
  *
- * Answers n, which is 3 to 16, or the refusal: one of 1 to 7, 9 to 11, 24, 26 and 27; 11 meets any slack count but 0. The slack is the
- * least and each offset the largest of all solutions. dahomike_judge finds the same slack and bounds for the table with these offsets.
+ * Answers n, which is 3 to 16, or the refusal: one of 1 to 7, 9 to 11, 24 and 26 to 28; 11 meets any slack count but 0. The slack is
+ * the least and each offset the largest of all solutions. dahomike_judge finds the same slack and bounds for the table with these
+ * offsets.
  */
 uint64_t dahomike_wish(const uint8_t *sheet, size_t sheet_len, uint8_t *out, size_t out_len);
 
@@ -93,8 +98,8 @@ uint64_t dahomike_wish(const uint8_t *sheet, size_t sheet_len, uint8_t *out, siz
  *     out     where the call is not refused, 8 bytes for each entry: kind 1 and its finish tick, or kind 2 and its refusal number, 4
  *             bytes each; bytes beyond these stay. 524,280 bytes are enough for every log
  *
- * Answers taken + 65,536 x refused, how many entries were of kind 1 and of kind 2, or the refusal: one of 1 to 16. An entry of kind 2
- * refuses itself only, by the first that it meets of
+ * Answers taken + 65,536 x refused, how many entries were of kind 1 and of kind 2, or the refusal: one of 1 to 16 and 28. An entry of
+ * kind 2 refuses itself only, by the first that it meets of
  *     17  Its tick is below the largest tick before it.
  *     20  The loop isn't in the table.
  *     21  The demand is not 1 to C.
@@ -109,7 +114,7 @@ uint64_t dahomike_run_log(const uint8_t *table, size_t table_len, const uint8_t 
 /*
  * Tells a refusal in one English sentence, which names the loop, core, log entry or release and says what would be right.
  *
- *     number  the refusal number, 1 to 27; those that no C function answers are told too. Any other number gets a sentence with the word
+ *     number  the refusal number, 1 to 28; those that no C function answers are told too. Any other number gets a sentence with the word
  *             `unknown`, and no other sentence has it
  *     index   the index that came with it
  *     value   what was found there, as the separation for 6 or the tick for 15; docs/REFUSALS.md says which. 0 where none is meant

@@ -1,4 +1,5 @@
-// Fixed words of sentences, those between index and value: what would be right, for 14 to 27, of a log, the engine, lent buffers and wishes.
+// Fixed words of sentences, those between index and value: what would be right, for 14 to 28, of a log, the engine, lent buffers, wishes and
+// deadlines.
 use decimal::put_words;
 ghost use Prim.Native.Nat.{_+_, _≤_};
 ghost use lib.ListN.{length};
@@ -107,15 +108,20 @@ fn put_wish_words(out: &mut [u8], at: usize, number: u32) -> usize
     }
 }
 
-// The words of 14 to 27, from `at` on.
+// The words of 14 to 28, from `at` on.
 pub fn put_run_words(out: &mut [u8], at: usize, number: u32) -> usize
-    requires { ⌜ (14 ≤ number) × (number ≤ 27) × (at + 160 ≤ length (now out)) ⌝ }
+    requires { ⌜ (14 ≤ number) × (number ≤ 28) × (at + 160 ≤ length (now out)) ⌝ }
     ensures { λ r. ⌜ Stored (now (out .entry)) at (wording number .rule) r (now (out .exit)) ⌝ }
 {
     match number {
         ..=17 => put_log_words(out, at, number),
         ..=23 => put_engine_words(out, at, number),
         ..=25 => put_buffer_words(out, at, number),
-        _ => put_wish_words(out, at, number),
+        ..=27 => put_wish_words(out, at, number),
+        _ => put_words(
+            out,
+            at,
+            b": its deadline must be 1 to 1,600,000 ticks, not ",
+        ),
     }
 }

@@ -11,11 +11,11 @@ fn put_frame_words(out: &mut [u8], at: usize, number: u32) -> usize
     ensures { λ r. ⌜ Stored (now (out .entry)) at (wording number .rule) r (now (out .exit)) ⌝ }
 {
     match number {
-        1 => put_words(out, at, b": the edition must be 1, not "),
+        1 => put_words(out, at, b": the edition must be 1 or 2, not "),
         2 => put_words(
             out,
             at,
-            b" onwards: the table must have 4 bytes and 1 more for each core, 12 for each loop and 4 for each entry of slack, not ",
+            b" onwards: the table must have 4 bytes and 1 more for each core, 12 for each loop (16 in edition 2) and 4 for each entry of slack, not ",
         ),
         3 => put_words(
             out,

@@ -20,11 +20,11 @@ pub record Wording : Type 0 where
 abbrev pub fixed : String → String → Wording
 fixed place rule = record { place = words place; rule = words rule }
 
--- document 01's numbers, and 25, 26 and 27: what the index counts, and what would be right. Where document 01 gives no index, 0 is where the count begins
+-- document 01's numbers, and 25 to 28: what the index counts, and what would be right. Where document 01 gives no index, 0 is where the count begins
 unfoldable pub wordings : List Wording
 wordings =
-    fixed " for byte " ": the edition must be 1, not "
-    ∷ fixed " for byte " " onwards: the table must have 4 bytes and 1 more for each core, 12 for each loop and 4 for each entry of slack, not "
+    fixed " for byte " ": the edition must be 1 or 2, not "
+    ∷ fixed " for byte " " onwards: the table must have 4 bytes and 1 more for each core, 12 for each loop (16 in edition 2) and 4 for each entry of slack, not "
     ∷ fixed " for core " " onwards: the number of cores must be 2 to 8, not "
     ∷ fixed " for core " ": its label must be 0 to 63 and above the label of the core before, not "
     ∷ fixed " for loop " " onwards: the number of loops must be above the number of cores and at most 16, not "
@@ -50,6 +50,7 @@ wordings =
     ∷ fixed " for byte " " onwards: the buffer lent for a sentence must be at least as long as the sentence, for which 256 bytes are always enough, not "
     ∷ fixed " for loop " ": its wish must be at least its budget and at most 16 times its separation, not "
     ∷ fixed " for loop " " onwards: whole offsets and compliant slack must exist with every bound at most its wish, and the number of such solutions is "
+    ∷ fixed " for loop " ": its deadline must be 1 to 1,600,000 ticks, not "
     ∷ []
 
 -- "A number outside the table … gets a sentence with the word `unknown`"
@@ -58,7 +59,7 @@ otherWording = fixed " for place " ": the meaning of this number is unknown here
 
 -- "the table, which 25 and each later number joins"
 abbrev pub lastKnown : ℕ
-lastKnown = 27
+lastKnown = 28
 
 abbrev pub Known : ℕ → Type 0
 Known k = (1 ≤ k) × (k ≤ lastKnown)

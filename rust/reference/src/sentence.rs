@@ -35,10 +35,11 @@ pub fn sentence_into(
 /// 1 to 5: edition, length, cores, and the number of loops.
 fn of_table(number: u32, index: u32, value: u64) -> Option<String> {
     let sentence = match number {
-        1 => format!("Refusal 1 for byte {index}: the edition must be 1, not {value}."),
+        1 => format!("Refusal 1 for byte {index}: the edition must be 1 or 2, not {value}."),
         2 => format!(
             "Refusal 2 for byte {index} onwards: the table must have 4 bytes and 1 more for \
-             each core, 12 for each loop and 4 for each entry of slack, not {value}."
+             each core, 12 for each loop (16 in edition 2) and 4 for each entry of slack, not \
+             {value}."
         ),
         3 => format!(
             "Refusal 3 for core {index} onwards: the number of cores must be 2 to 8, not {value}."
@@ -56,7 +57,7 @@ fn of_table(number: u32, index: u32, value: u64) -> Option<String> {
     Some(sentence)
 }
 
-/// 6 to 13: the loops, each by itself or all together, and their slack.
+/// 6 to 13 and 28: the loops, each by itself or all together, and their slack.
 fn of_loops(number: u32, index: u32, value: u64) -> Option<String> {
     let sentence = match number {
         6 => format!(
@@ -89,6 +90,9 @@ fn of_loops(number: u32, index: u32, value: u64) -> Option<String> {
         13 => format!(
             "Refusal 13 for loop {index}: its bound must be at most 16 times its separation, not \
              {value}."
+        ),
+        28 => format!(
+            "Refusal 28 for loop {index}: its deadline must be 1 to 1,600,000 ticks, not {value}."
         ),
         _ => return None,
     };
