@@ -26,7 +26,13 @@ use Rattle.analysis.specs.declared.slack_test.Tested.{Tested}
 
 unfoldable pub offering : Plan → ℕ → Content
 offering p k =
-    record { edition = p .edition; tasks = contentOf p .tasks; label = contentOf p .label; offers = k; slack = contentOf p .slack }
+    record {
+      edition = contentOf p .edition;
+      tasks = contentOf p .tasks;
+      label = contentOf p .label;
+      offers = k;
+      slack = contentOf p .slack;
+    }
 
 unfoldable pub offeredTest : Content → Answer
 offeredTest c =

@@ -29,7 +29,7 @@ use Rattle.codec.specs.Table.{coreCount, taskCount, slackCount, taskSetIn, cont
 use Rattle.reader.specs.Counted.{countsTest}
 use Rattle.tasks.specs.ContentLaws.{content-ext, withSlack}
 use Rattle.table.specs.Judged.{refusedWith, countedIn, judged}
-use Rattle.table.specs.LoadedLaws.{loaded, tasks-in, labels-in, slack-in, limits-all}
+use Rattle.table.specs.LoadedLaws.{loaded, edition-same, tasks-in, labels-in, slack-in, limits-all}
 
 -- 3 to 12, and then 13 with the slack that the plan has
 unfoldable pub judgedAnswer : Plan → ℕ → Answer
@@ -70,8 +70,8 @@ module _ (t : List ℕ) where
       go false e = rw e
 
   said-edition : said .edition ≡ contentIn t .edition
-  unfolding said offering loaded withSlack planOf contentIn
-  said-edition = refl
+  unfolding said offering
+  said-edition = edition-same t
 
   said-tasks : taskCount t ≤ 16 → said .tasks ≡ contentIn t .tasks
   unfolding said offering

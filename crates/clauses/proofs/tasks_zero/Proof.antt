@@ -13,10 +13,10 @@ use Rattle.clauses.proofs.tasks_zero.Statement.{statement}
 use Rattle.clauses.proofs.tasks_zero.Tie as tie
 
 abbrev Inv-loop : tie.InvT-loop
-Inv-loop slack tasks task i₀ i = (i ≤ 16) × (allOf (taskZero tasks task slack) i ≡ true)
+Inv-loop edition slack tasks task i₀ i = (i ≤ 16) × (allOf (taskZero edition tasks task slack) i ≡ true)
 
 abbrev μ-loop : tie.MeasureT-loop
-μ-loop slack tasks task i₀ i = 16 - i
+μ-loop edition slack tasks task i₀ i = 16 - i
 
 loop-holds : tie.Need-loop-holds Inv-loop μ-loop
 unfolding allOf
@@ -39,7 +39,22 @@ task-zero-requires c κs = search needs
 
 returns : tie.Need-returns Inv-loop μ-loop
 unfolding taskZero taskOf noTask row
-returns c = sym (all-fails _ 16 (c .before .before .before .before .before .loop .i) (omega arith) (sym (c .before .task-zero .ensures) ∙ not-true _ (c .if1 .taken)))
+returns c =
+    let a = c .before .before .before .before .before .before .args in
+    sym
+    (all-fails (taskZero (a .edition) (a .tasks) (a .t2) (a .slack .now)) 16 (c .before .before .before .before .before .loop .i) (omega arith)
+    (rw (sym (c .before .task-zero .ensures) ∙ not-true _ (c .if1 .taken))))
+
+returns-2 : tie.Need-returns-2 Inv-loop μ-loop
+unfolding taskZero taskOf noTask row
+returns-2 c =
+    let a = c .before .before .before .before .before .before .before .before .args in
+    sym
+    (all-fails (taskZero (a .edition) (a .tasks) (a .t2) (a .slack .now)) 16 (c .before .before .before .before .before .before .before .loop .i) (omega arith)
+    (rw (
+      sym (c .before .before .before .task-zero .ensures) ∙ not-false _ (c .before .before .if1 .left),
+      sym (c .before .deadline-zero .ensures) ∙ not-true _ (c .if2 .taken),
+    )))
 
 add-i : tie.Need-add-i Inv-loop μ-loop
 add-i c = search needs
@@ -49,10 +64,18 @@ loop-less c = search needs
 
 loop-again : tie.Need-loop-again Inv-loop μ-loop
 unfolding taskZero taskOf noTask row
-loop-again c = (omega arith, all-more _ (c .before .before .before .before .before .loop .i) (c .before .before .before .before .before .loop .inv .1) (sym (c .before .task-zero .ensures) ∙ not-false _ (c .if1 .left)))
+loop-again c =
+    let l = c .before .before .before .before .before .before .before .loop in (
+      omega arith,
+      all-more _ (l .i) (l .inv .1)
+          (rw (
+            sym (c .before .before .before .task-zero .ensures) ∙ not-false _ (c .before .before .if1 .left),
+            sym (c .before .deadline-zero .ensures) ∙ not-false _ (c .if2 .left),
+          )),
+    )
 
-returns-2 : tie.Need-returns-2 Inv-loop μ-loop
-returns-2 c = let e : c .before .loop .i ≡ 16 = omega arith in sym (rw e at (c .before .loop .inv .1))
+returns-3 : tie.Need-returns-3 Inv-loop μ-loop
+returns-3 c = let e : c .before .loop .i ≡ 16 = omega arith in sym (rw e at (c .before .loop .inv .1))
 
 pub tasks-zero-spec : {M : Type 1} → statement M
 tasks-zero-spec =
@@ -67,7 +90,9 @@ tasks-zero-spec =
     element-copy-out-task-zero
     task-zero-requires
     returns
+    (λ c κs. search needs)
+    returns-2
     add-i
     loop-less
     loop-again
-    returns-2)
+    returns-3)

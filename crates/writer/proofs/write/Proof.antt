@@ -3,6 +3,7 @@ use native.Mathlib.Omega.{arith}
 use mathlib.Core.Path.{refl, sym, _∙_}
 use borrow.Author.Needs.{needs}
 use Rattle.writer.specs.declared.Written.the-variants.{Length, Refused as NotWritten}
+use Rattle.codec.specs.TaskLaws.{size-times}
 use Rattle.sections.specs.WriteLaws.{length-plan}
 use Rattle.writer.specs.WriterLaws.{write-refused, plan-few, write-short, write-done}
 use Rattle.writer.proofs.write.Statement.{statement}
@@ -32,7 +33,8 @@ slack-count-requires c κs = search needs
 
 table-length-requires : tie.Need-table-length-requires
 table-length-requires c κs =
-    omega (arith, plan-few _ (sym (c .before .before .before .test .ensures) ∙ c .before .enum-told .given .1), c .slack-count .ensures .1)
+    let a = c .before .before .before .before .before .args in
+    omega (arith, size-times (a .plan .edition) (a .plan .tasks), plan-few _ (sym (c .before .before .before .test .ensures) ∙ c .before .enum-told .given .1), c .slack-count .ensures .1)
 
 returns-2 : tie.Need-returns-2
 returns-2 c =
