@@ -6,7 +6,7 @@
 --     sheet-refused  a sheet that meets 1 or 2
 --     sheet-from     one that meets neither
 use Prim.Native.Nat.{ℕ, _+_, _-_, _≤_, _<_, min}
-use mathlib.Core.Path.{_≡_, refl, sym, ap, _∙_}
+use mathlib.Core.Path.{_≡_, refl, sym, ap, ap₂, _∙_}
 use mathlib.Core.Bool.{false}
 use mathlib.Core.List.{List, [], _∷_}
 use mathlib.Core.Logic.{⊎-elim}
@@ -96,7 +96,7 @@ module _ (p : Plan) (k : ℕ) where
         each i =
             ⊎-elim
             (λ (h : i < p .tasks).
-            cut-below (p .tasks) _ noTask i h ∙ rw (offset-at i h, ← wisher-below i h) (sym (solved-at i)))
+            cut-below (p .tasks) _ noTask i h ∙ ap₂ withOffset (sym (wisher-below i h)) (offset-at i h) ∙ sym (solved-at i))
             (λ (h : p .tasks ≤ i).
             cut-above (p .tasks) _ noTask i h ∙ sym (solved-at i ∙ unused (wisher i) _ (wisher-above i h)))
             (below-or-not i (p .tasks))

@@ -1,7 +1,7 @@
 -- The array is filled in order.
 use Prim.Native.Nat.{_≤_, _-_}
 use native.Mathlib.Omega.{arith}
-use mathlib.Core.Path.{_≡_, refl}
+use mathlib.Core.Path.{_≡_}
 use borrow.Author.Needs.{needs}
 use Rattle.laws.specs.Tab.{tab, cut}
 use Rattle.laws.specs.TabLaws.{filled-none}
@@ -22,7 +22,7 @@ abbrev μ-loop : tie.MeasureT-loop
 loop-again : tie.Need-loop-again Inv-loop μ-loop
 unfolding taskOf noTask row
 loop-again c =
-    (omega arith, filled-step _ noTask _ 16 _ _ (omega arith) (c .before .before .before .loop .inv .1) refl)
+    (omega arith, filled-step _ noTask _ 16 _ _ (omega arith) (c .before .before .before .before .loop .inv .1) (rw (c .deadline-in .ensures)))
 
 returns : tie.Need-returns Inv-loop μ-loop
 returns c =
@@ -41,6 +41,7 @@ with-offsets-spec =
     (λ c. search needs)
     (λ c. search needs)
     (λ c. search needs)
+    (λ c κs. search needs)
     (λ c. search needs)
     (λ c. search needs)
     (λ c. search needs)
