@@ -14,19 +14,20 @@ use native.Mathlib.Nat.{zero-add}
 use native.Mathlib.Omega.{arith}
 use lib.ListN.{length, getD, drop, take, length-append, length-take, List·getD-eq-default}
 use lib.Seq.{getD-take, length-take-le}
-use lib.Dec.{ltb, eqb, lit<}
+use lib.Dec.{ltb, lit<}
 use borrow.Author.Tests.{ne-eqb, ltb-true, ltb-false}
 use Rattle.tasks.specs.declared.Plan.{Plan}
 use Rattle.tasks.specs.declared.Answer.the-variants.{Accepted, Refused}
 use Rattle.tasks.specs.TaskSet.{row}
 use Rattle.tasks.specs.Content.{contentOf}
-use Rattle.tasks.specs.Tests.{refuse, firstMet, tests, testPlan}
+use Rattle.tasks.specs.Tests.{refuse, firstMet, badEdition, tests, testPlan}
 use Rattle.tasks.specs.AnswerLaws.{refuse-met, firstMet-pass, firstMet-stop}
 use Rattle.numbers.specs.Bytes.{byte}
 use Rattle.numbers.specs.ByteLaws.{Bytes}
-use Rattle.codec.specs.Table.{coreCount, taskCount, slackCount, tasksAt, slackAt, contentIn, test1, test2, verdict}
+use Rattle.codec.specs.Table.{taskSize, editionIn, coreCount, taskCount, slackCount, tasksAt, slackAt, contentIn, test1, test2, verdict}
 use Rattle.table.specs.declared.Judgement.{Judgement}
 use Rattle.table.specs.Judged.{judged}
+use Rattle.codec.specs.TaskLaws.{size-times}
 use Rattle.table.specs.NamesLaws.{names-are, names-few, names-count, names-first}
 use Rattle.laws.specs.SetsLaws.{sets-whole}
 use Rattle.roundtrip.specs.RoundTrip.{judged-fits, judged-passes}
@@ -78,23 +79,23 @@ text-whole t l {u} e h n s = rw (← e) (s .place ∙ zero-add _, s .left ∙ se
 
 -- ---- input that is longer than any table
 
--- no table is longer than its counts give, each at most 255: 1 + 1 + 255 + 1 + 12 × 255 + 1 + 4 × 255 = 4,339 bytes
-long-second : (t : List ℕ) → Bytes t → 4340 ≤ length t → test2 t ≡ Refused 2 0
+-- no table is longer than its counts give in edition 2, each at most 255: 1 + 1 + 255 + 1 + 16 × 255 + 1 + 4 × 255 = 5,359 bytes
+long-second : (t : List ℕ) → Bytes t → 5360 ≤ length t → test2 t ≡ Refused 2 0
 unfolding test2 slackAt tasksAt coreCount taskCount slackCount Bytes
 long-second t b h =
     refuse-met 2 _
-    (ap not (ne-eqb (length t) (slackAt t + 4 * slackCount t) (λ e. omega (arith, b 1, b (2 + coreCount t), b (tasksAt t + 12 * taskCount t)))))
+    (ap not (ne-eqb (length t) (slackAt t + 4 * slackCount t) (λ e. omega (arith, e, size-times (editionIn t) (taskCount t), b 1, b (2 + coreCount t), b (tasksAt t + taskSize (editionIn t) * taskCount t)))))
 
 -- so a longer input is refused by its first byte: 1, or else 2
 abbrev byFirst : Bool → ℕ
 byFirst true = 1
 byFirst false = 2
 
-long-verdict : (t : List ℕ) → Bytes t → 4340 ≤ length t → verdict t ≡ Refused (byFirst (not (eqb (byte t 0) 1))) 0
+long-verdict : (t : List ℕ) → Bytes t → 5360 ≤ length t → verdict t ≡ Refused (byFirst (badEdition (editionIn t))) 0
 unfolding verdict test1
-long-verdict t b h = go (not (eqb (byte t 0) 1)) refl
+long-verdict t b h = go (badEdition (editionIn t)) refl
   where
-    go : (q : Bool) → not (eqb (byte t 0) 1) ≡ q → firstMet (refuse 1 (not (eqb (byte t 0) 1)) ∷ test2 t ∷ tests (contentIn t) ∷ []) ≡ Refused (byFirst (not (eqb (byte t 0) 1))) 0
+    go : (q : Bool) → badEdition (editionIn t) ≡ q → firstMet (refuse 1 (badEdition (editionIn t)) ∷ test2 t ∷ tests (contentIn t) ∷ []) ≡ Refused (byFirst (badEdition (editionIn t))) 0
     go true e = rw e (firstMet-stop _ _ 1 0 refl)
     go false e = rw e (firstMet-pass Accepted _ refl ∙ firstMet-stop _ _ 2 0 (long-second t b h))
 
@@ -111,10 +112,10 @@ bytes-take n t b i = go (ltb i n) refl
     go true e = rw (getD-take n t i 0 (ltb-true i n e)) (b i)
     go false e = rw (List·getD-eq-default (take n t) 0 {n = i} (omega (arith, ltb-false i n e, length-take n t))) (lit< tt)
 
-pub long-text : (t : List ℕ) → Bytes t → 4340 ≤ length t → printed (take 4340 t) ≡ printed t
+pub long-text : (t : List ℕ) → Bytes t → 5360 ≤ length t → printed (take 5360 t) ≡ printed t
 unfolding byte
 long-text t b h =
-    let same : byte (take 4340 t) 0 ≡ byte t 0 = getD-take 4340 t 0 0 (lit< tt) in
-    refused-text (take 4340 t) t _ 0
-    (long-verdict (take 4340 t) (bytes-take 4340 t b) (omega (arith, length-take-le 4340 t h)) ∙ rw same)
+    let same : byte (take 5360 t) 0 ≡ byte t 0 = getD-take 5360 t 0 0 (lit< tt) in
+    refused-text (take 5360 t) t _ 0
+    (long-verdict (take 5360 t) (bytes-take 5360 t b) (omega (arith, length-take-le 5360 t h)) ∙ rw same)
     (long-verdict t b h)

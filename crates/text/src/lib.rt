@@ -59,12 +59,12 @@ fn put_pair(out: &mut [u8], first: &[u8], a: u64, second: &[u8], b: u64) -> usiz
 }
 
 // The line of one loop, from `at` on: "index, x, bound and late".
-fn put_task(out: &mut [u8], at: usize, i: u64, slack: u64, bound: u64, late: u64) -> usize
+fn put_task(out: &mut [u8], at: usize, i: u64, slack: u32, bound: u64, late: u64) -> usize
     requires { ⌜ at + length (taskLine i slack bound late) ≤ length (now out) ⌝ }
     ensures { λ r. ⌜ Stored (now (out .entry)) at (taskLine i slack bound late) r (now (out .exit)) ⌝ }
 {
     let first = put_said(out, at, b"loop ", i);
-    let second = put_said(out, first, b" slack ", slack);
+    let second = put_said(out, first, b" slack ", slack as u64);
     let third = put_said(out, second, b" bound ", bound);
     let fourth = put_said(out, third, b" late ", late);
     put_words(out, fourth, b"\n")
@@ -88,7 +88,7 @@ fn put_plan(out: &mut [u8], plan: Plan) -> usize
             out,
             at,
             i as u64,
-            x as u64,
+            x,
             bound(t.offset, x, t.budget),
             late(edition, t, x),
         );

@@ -46,9 +46,6 @@ mul-x c = omega (arith, within (c .before .before .before .before .before .befor
 array-read-x : tie.Need-array-read-x Inv-loop μ-loop
 array-read-x c = omega (arith, within (c .before .before .before .before .before .before .before .before .before .before .before .before .args .plan) (c .before .before .before .before .before .before .before .before .before .before .before .before .pre .0))
 
-cast-put-task : tie.Need-cast-put-task Inv-loop μ-loop
-cast-put-task c = search needs
-
 bound-requires : tie.Need-bound-requires Inv-loop μ-loop
 bound-requires c κs = search needs
 
@@ -112,7 +109,6 @@ put-plan-spec =
     array-copy-out-t
     mul-x
     array-read-x
-    cast-put-task
     bound-requires
     late-requires
     put-task-requires
