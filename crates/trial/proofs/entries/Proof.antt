@@ -12,34 +12,16 @@ use Rattle.trial.proofs.entries.Statement.{statement}
 use Rattle.trial.proofs.entries.Tie as tie
 
 abbrev Inv-loop : tie.InvT-loop
-Inv-loop separation budget offset task₀ i₀ task i = (i ≤ 16) × (task ≡ tab (cut i (entry separation budget offset) noTask) 16)
+Inv-loop separation budget offset deadline task₀ i₀ task i = (i ≤ 16) × (task ≡ tab (cut i (entry separation budget offset deadline) noTask) 16)
 
 abbrev μ-loop : tie.MeasureT-loop
-μ-loop separation budget offset task₀ i₀ task i = 16 - i
+μ-loop separation budget offset deadline task₀ i₀ task i = 16 - i
 
 no-task-requires : tie.Need-no-task-requires Inv-loop μ-loop
 no-task-requires c κs = search needs
 
 loop-holds : tie.Need-loop-holds Inv-loop μ-loop
 loop-holds c = (omega arith, rw (c .no-task .ensures) (filled-none _ noTask 16))
-
-mul-t9 : tie.Need-mul-t9 Inv-loop μ-loop
-mul-t9 c = search needs
-
-element-copy-out-t12 : tie.Need-element-copy-out-t12 Inv-loop μ-loop
-element-copy-out-t12 c = search needs
-
-mul-t13 : tie.Need-mul-t13 Inv-loop μ-loop
-mul-t13 c = search needs
-
-element-copy-out-t16 : tie.Need-element-copy-out-t16 Inv-loop μ-loop
-element-copy-out-t16 c = search needs
-
-mul-t17 : tie.Need-mul-t17 Inv-loop μ-loop
-mul-t17 c = search needs
-
-element-copy-out-t20 : tie.Need-element-copy-out-t20 Inv-loop μ-loop
-element-copy-out-t20 c = search needs
 
 mul-task : tie.Need-mul-task Inv-loop μ-loop
 mul-task c = search needs
@@ -56,10 +38,10 @@ loop-less c = search needs
 loop-again : tie.Need-loop-again Inv-loop μ-loop
 unfolding entry row
 loop-again c =
-    let l = c .before .before .before .before .loop in
-    let a = c .before .before .before .before .before .before .args in (
+    let l = c .before .before .before .before .before .loop in
+    let a = c .before .before .before .before .before .before .before .args in (
       omega arith,
-      rw (l .inv .1) (filled-next (entry (a .separation .now) (a .budget .now) (a .offset .now)) noTask (l .i) 16 (omega arith)),
+      rw (l .inv .1) (filled-next (entry (a .separation .now) (a .budget .now) (a .offset .now) (a .deadline .now)) noTask (l .i) 16 (omega arith)),
     )
 
 returns : tie.Need-returns Inv-loop μ-loop
@@ -77,12 +59,14 @@ entries-spec =
     μ-loop
     no-task-requires
     loop-holds
-    mul-t9
-    element-copy-out-t12
-    mul-t13
-    element-copy-out-t16
-    mul-t17
-    element-copy-out-t20
+    (λ c. search needs)
+    (λ c. search needs)
+    (λ c. search needs)
+    (λ c. search needs)
+    (λ c. search needs)
+    (λ c. search needs)
+    (λ c. search needs)
+    (λ c. search needs)
     mul-task
     array-set-from-task
     add-i

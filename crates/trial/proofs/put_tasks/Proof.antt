@@ -8,7 +8,7 @@ split-requires : tie.Need-split-requires
 split-requires c κs = search needs
 
 returns : tie.Need-returns
-returns c = tasks-left _ _ (c .before .before .before .split .ensures)
+returns c = tasks-left _ _ _ (c .before .before .before .before .split .ensures) (c .deadlines .ensures)
 
 pub put-tasks-spec : {M : Type 1} → statement M
-put-tasks-spec = tie.close (tie.spec split-requires returns)
+put-tasks-spec = tie.close (tie.spec split-requires (λ c κs. search needs) returns)

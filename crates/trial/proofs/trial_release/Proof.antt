@@ -30,9 +30,9 @@ code-requires c κs = search needs
 
 returns : tie.Need-returns
 returns c =
-    release-left _ _ _ _ _ _ _ _ _ _ _ _ _ _ _ (c .before .before .before .before .before .before .before .before .before .before .before .before .before .before .before .before .before .before .before .release .result) _
-    (rw (rw (rw (c .before .before .before .before .before .before .before .before .before .before .before .before .before .before .before .before .before .before .before .before .before .before .before .before .before .before .before .before .before .before .before .before .entries .ensures) at (c .before .before .before .before .before .before .before .before .before .before .before .before .before .before .before .before .before .before .before .before .before .before .before .before .before .before .before .plan-in .ensures)) at (c .before .before .before .before .before .before .before .before .before .before .before .before .before .before .before .before .before .before .before .before .state-in .ensures)) at (c .before .before .before .before .before .before .before .before .before .before .before .before .before .before .before .before .before .before .before .release .ensures))
-    (c .code .ensures) (c .before .before .before .before .before .before .before .before .before .before .before .before .before .before .put-tasks .ensures) (c .before .before .before .before .before .before .before .before .put-plan .ensures) (c .before .put-state .ensures)
+    release-left _ _ _ _ _ _ _ _ _ _ _ _ _ _ _ _ _ (c .before .before .before .before .before .before .before .before .before .before .before .before .before .before .before .before .before .before .before .before .before .release .result) _
+    (rw (rw (rw (c .before .before .before .before .before .before .before .before .before .before .before .before .before .before .before .before .before .before .before .before .before .before .before .before .before .before .before .before .before .before .before .before .before .before .before .entries .ensures) at (c .before .before .before .before .before .before .before .before .before .before .before .before .before .before .before .before .before .before .before .before .before .before .before .before .before .before .before .before .before .plan-in .ensures)) at (c .before .before .before .before .before .before .before .before .before .before .before .before .before .before .before .before .before .before .before .before .before .before .state-in .ensures)) at (c .before .before .before .before .before .before .before .before .before .before .before .before .before .before .before .before .before .before .before .before .before .release .ensures))
+    (c .code .ensures) (c .before .before .before .before .before .before .before .before .before .before .before .before .before .before .before .put-tasks .ensures) (c .before .before .before .before .before .before .before .before .put-plan .ensures) (c .before .put-state .ensures)
 
 pub trial-release-spec : {M : Type 1} → statement M
 trial-release-spec = tie.close (tie.spec entries-requires plan-in-requires state-in-requires release-requires put-tasks-requires put-plan-requires put-state-requires code-requires returns)
