@@ -15,3 +15,4 @@ pub mod MirrorLog
 pub mod LogClock
 pub mod Worked
 pub mod Owners
+pub mod PlainEngine

@@ -1,3 +1,4 @@
 pub mod Outcome
 pub mod ReadLaws
 pub mod OutcomeLaws
+pub mod Editions

@@ -1,0 +1,141 @@
+-- Document 02, §5: "A log gives the same entries and counts under accepted tables of either edition where cores, T, C, Y and slack agree."
+-- Here of bytes, as in Outcome.antt; that slack agrees is not needed, since no run looks at it.
+--     Alike         two tables have as many cores and loops, and every loop's T, C and Y agree
+--     same-run      a log run answers the same under two accepted tables that are alike
+--     same-left     and leaves the same in a lent answer
+--     same-number   and so does its C function
+use Prim.Native.Nat.{ℕ, _≤_, _<_}
+use mathlib.Core.Path.{_≡_, refl, sym, ap, _∙_}
+use mathlib.Core.Logic.{⊎-elim}
+use mathlib.Core.List.{List}
+use native.Mathlib.Omega.{arith}
+use lib.ListN.{length}
+use Rattle.laws.specs.EveryLaws.{below-or-not}
+use Rattle.laws.specs.TabLaws.{cut-above}
+use Rattle.tasks.specs.declared.Task.{Task}
+use Rattle.tasks.specs.declared.Answer.{Answer}
+use Rattle.tasks.specs.declared.Answer.the-variants.{Accepted, Refused}
+use Rattle.tasks.specs.TaskSet.{TaskSet, plainTask, plain}
+use Rattle.tasks.specs.Content.{Content, noTask}
+use Rattle.tasks.specs.Tests.{firstMet, unlessRefused}
+use Rattle.tasks.specs.AnswerLaws.{firstMet-passed}
+use Rattle.codec.specs.Table.{coreCount, taskCount, taskSetIn, contentIn, verdict}
+use Rattle.table.specs.Judged.{judged}
+use Rattle.roundtrip.specs.RoundTrip.{judged-fits}
+use Rattle.logs.specs.LogBytes.{entryCount, entriesIn, logTest, reportsTo}
+use Rattle.history.specs.Engine.{Engine}
+use Rattle.history.specs.Report.{Report, report, takenCount, refusedCount}
+use Rattle.history.specs.OnMachine.{machineEngine}
+use Rattle.history.specs.PlainEngine.{plain-engine}
+use Rattle.delivered.specs.DeliveredLaws.{plan-counts}
+use Rattle.delivered.specs.Demand3.{runOn, plan-passes, log-early, demand-machine}
+use Rattle.replay.specs.declared.run.Ran.{Ran}
+use Rattle.replay.specs.Ran.{runTest, ranOf, runLeaves}
+use Rattle.dahomike.specs.Answers.{runNumber}
+use Rattle.outcome.specs.Outcome.{coresOf, loopsOf, separationOf, budgetOf, offsetOf}
+use Rattle.outcome.specs.ReadLaws.{same-loops, separation-at, budget-at, offset-at}
+
+pub record Alike (t u : List ℕ) : Type 0 where
+  pub cores : coresOf t ≡ coresOf u
+  pub loops : loopsOf t ≡ loopsOf u
+  pub separations : (i : ℕ) → i < loopsOf t → separationOf t i ≡ separationOf u i
+  pub budgets : (i : ℕ) → i < loopsOf t → budgetOf t i ≡ budgetOf u i
+  pub offsets : (i : ℕ) → i < loopsOf t → offsetOf t i ≡ offsetOf u i
+
+-- past a table's loops there is no task
+past : (t : List ℕ) (i : ℕ) → loopsOf t ≤ i → contentIn t .tasks .task i ≡ noTask
+unfolding contentIn taskSetIn taskCount coreCount
+past t i h = cut-above (loopsOf t) _ noTask i h
+
+module _ (t u : List ℕ) (A : Alike t u) where
+  -- a field that agrees at every loop agrees everywhere
+  everywhere :
+      (field : Task → ℕ)
+      → ((i : ℕ) → i < loopsOf t → field (contentIn t .tasks .task i) ≡ field (contentIn u .tasks .task i))
+      → (i : ℕ) → field (contentIn t .tasks .task i) ≡ field (contentIn u .tasks .task i)
+  everywhere field agree i =
+      ⊎-elim (λ (h : i < loopsOf t). agree i h)
+      (λ (h : loopsOf t ≤ i). ap field (past t i h ∙ sym (past u i (omega (arith, A .loops)))))
+      (below-or-not i (loopsOf t))
+
+  same-tasks : plain (contentIn t .tasks) ≡ plain (contentIn u .tasks)
+  unfolding plain contentIn taskSetIn coreCount taskCount
+  same-tasks =
+      let T =
+      everywhere (λ k. k .separation)
+      (λ i h. separation-at t i h ∙ A .separations i h ∙ sym (separation-at u i (omega (arith, A .loops)))) in
+      let C = everywhere (λ k. k .budget) (λ i h. budget-at t i h ∙ A .budgets i h ∙ sym (budget-at u i (omega (arith, A .loops)))) in
+      let Y = everywhere (λ k. k .offset) (λ i h. offset-at t i h ∙ A .offsets i h ∙ sym (offset-at u i (omega (arith, A .loops)))) in
+      λ j. record { cores = A .cores j; count = A .loops j; task = λ i. plainTask (T i j) (C i j) (Y i j) }
+
+  same-engine : machineEngine (contentIn t .tasks) ≡ machineEngine (contentIn u .tasks)
+  same-engine = sym (plain-engine (contentIn t .tasks)) ∙ ap machineEngine same-tasks ∙ plain-engine (contentIn u .tasks)
+
+-- what a run under an accepted table counts and writes is what its machine's does
+module _ (t : List ℕ) (a : verdict t ≡ Accepted) (l : List ℕ) (b : logTest l ≡ Accepted) where
+  counted-taken : takenCount (runOn t) (entriesIn l) ≡ takenCount (machineEngine (contentIn t .tasks)) (entriesIn l)
+  counted-taken =
+      plan-counts (judged t .plan) (plan-passes t a) (entriesIn l) (log-early l b) .0
+      ∙ ap (λ (c : Content). takenCount (machineEngine (c .tasks)) (entriesIn l)) (judged-fits t a)
+
+  counted-refused : refusedCount (runOn t) (entriesIn l) ≡ refusedCount (machineEngine (contentIn t .tasks)) (entriesIn l)
+  counted-refused =
+      plan-counts (judged t .plan) (plan-passes t a) (entriesIn l) (log-early l b) .1
+      ∙ ap (λ (c : Content). refusedCount (machineEngine (c .tasks)) (entriesIn l)) (judged-fits t a)
+
+module _ (t u : List ℕ) (a : verdict t ≡ Accepted) (d : verdict u ≡ Accepted) (A : Alike t u) (l : List ℕ) where
+  same-test : (room : ℕ) → runTest t l room ≡ runTest u l room
+  unfolding runTest
+  same-test room = rw (a, d)
+
+  -- a run that is not refused has a log past 14 and 15
+  passed : (room : ℕ) → runTest u l room ≡ Accepted → logTest l ≡ Accepted
+  unfolding runTest
+  passed room e = firstMet-passed _ _ (firstMet-passed _ _ e .1) .0
+
+  module _ (b : logTest l ≡ Accepted) where
+    L = entriesIn l
+
+    same-taken : takenCount (runOn t) L ≡ takenCount (runOn u) L
+    same-taken = counted-taken t a l b ∙ ap (λ (E : Engine). takenCount E L) (same-engine t u A) ∙ sym (counted-taken u d l b)
+
+    same-refused : refusedCount (runOn t) L ≡ refusedCount (runOn u) L
+    same-refused = counted-refused t a l b ∙ ap (λ (E : Engine). refusedCount E L) (same-engine t u A) ∙ sym (counted-refused u d l b)
+
+    same-reports : report (runOn t) L ≡ report (runOn u) L
+    same-reports = demand-machine t a l b ∙ ap (λ (E : Engine). report E L) (same-engine t u A) ∙ sym (demand-machine u d l b)
+
+  pub same-run : (room : ℕ) → ranOf t l room ≡ ranOf u l room
+  unfolding ranOf
+  same-run room = rw (same-test room) (go (runTest u l room) refl)
+    where
+      go :
+          (r : Answer) → runTest u l room ≡ r
+          → _≡_ {A = Ran}
+          (record {
+            answer = r;
+            taken = unlessRefused r (takenCount (runOn t) (entriesIn l)) 0;
+            refused = unlessRefused r (refusedCount (runOn t) (entriesIn l)) 0;
+          })
+          (record {
+            answer = r;
+            taken = unlessRefused r (takenCount (runOn u) (entriesIn l)) 0;
+            refused = unlessRefused r (refusedCount (runOn u) (entriesIn l)) 0;
+          })
+      go (Refused k i) e = refl
+      go Accepted e = λ j. record { answer = Accepted; taken = same-taken (passed room e) j; refused = same-refused (passed room e) j }
+
+  pub same-left : (out : List ℕ) → runLeaves t l out ≡ runLeaves u l out
+  unfolding runLeaves
+  same-left out = rw (same-test (length out)) (go (runTest u l (length out)) refl)
+    where
+      go :
+          (r : Answer) → runTest u l (length out) ≡ r
+          → unlessRefused r (reportsTo (report (runOn t) (entriesIn l)) (entryCount l) out) out
+          ≡ unlessRefused r (reportsTo (report (runOn u) (entriesIn l)) (entryCount l) out) out
+      go (Refused k i) e = refl
+      go Accepted e = ap (λ (R : ℕ → Report). reportsTo R (entryCount l) out) (same-reports (passed (length out) e))
+
+  pub same-number : (room : ℕ) → runNumber t l room ≡ runNumber u l room
+  unfolding runNumber
+  same-number room = rw (same-run room)
