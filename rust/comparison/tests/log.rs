@@ -2,7 +2,7 @@
 //! against the fast form on logs with ticks up to 1,000,000,000; the same ones on every run.
 
 use comparison::{FAR, LogForm, LogTally, Logs, NEAR, compare_logs};
-use reference::{Entry, Log, Table, Task};
+use reference::{Entry, Log, Table};
 use samples::Random;
 
 const REFERENCE: LogForm = ("reference", reference::run_log);
@@ -86,9 +86,7 @@ fn far_logs_by_events() {
 
 /// P3 on the cores 0 and 1.
 fn p3() -> Vec<u8> {
-    let task = |separation, budget, offset| Task { separation, budget, offset };
-    let tasks = vec![task(2, 1, 2), task(2, 1, 2), task(3, 3, 0)];
-    Table { labels: vec![0, 1], tasks, slack: vec![] }.bytes()
+    Table::of(2, &[(2, 1, 2), (2, 1, 2), (3, 3, 0)]).bytes()
 }
 
 /// Kind and value of each of three entries, the same in every form.

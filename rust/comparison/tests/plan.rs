@@ -1,8 +1,10 @@
 //! The program `plan`, as it is built at `target/bin/plan` of the repository, against the reference:
 //! every byte that it prints, for the sample shows and for tables made from a fixed seed.
 
-use reference::{Table, Task, text};
-use samples::{Random, any_tight, damaged_table, faulty_table, long, mixed, noise_table, offered, steep};
+use reference::{Table, text};
+use samples::{
+    Random, any_tight, damaged_table, faulty_table, long, mixed, noise_table, offered, steep,
+};
 use std::collections::BTreeMap;
 use std::fs;
 use std::io::Write;
@@ -51,9 +53,7 @@ fn compare(table: &[u8], met: &mut BTreeMap<String, usize>) {
 }
 
 fn p1(second_budget: u32) -> Vec<u8> {
-    let task = |separation, budget, offset| Task { separation, budget, offset };
-    let tasks = vec![task(10, 9, 10), task(10, second_budget, 10), task(100, 20, 90)];
-    Table { labels: vec![0, 1], tasks, slack: vec![] }.bytes()
+    Table::of(2, &[(10, 9, 10), (10, second_budget, 10), (100, 20, 90)]).bytes()
 }
 
 #[test]

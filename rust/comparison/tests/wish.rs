@@ -2,7 +2,7 @@
 //! every run, and on tiny sheets against trying every offset and every slack.
 
 use comparison::{WishTally, compare_edge, compare_wish, compare_wish_at};
-use reference::{Plan, Refusal, Table, Task, wish_by_trying};
+use reference::{Plan, Refusal, Table, wish_by_trying};
 use samples::{
     Random, any_sheet, damaged_table, deep_sheets, edge_sheets, end_sheet, faulty_sheet,
     noise_table, offering_sheet, roomy_sheet, slow_sheets, tight_edge_sheets, tight_sheet,
@@ -146,22 +146,15 @@ fn the_slowest_sheets() {
     assert_eq!(tally.named("accepted"), tally.named("accepted after more than 500 rounds"));
 }
 
-/// Labels from 0 and tasks as (T, C, W).
-fn sheet(cores: u8, tasks: &[(u32, u32, u32)]) -> Vec<u8> {
-    let task = |&(separation, budget, offset): &_| Task { separation, budget, offset };
-    let tasks = tasks.iter().map(task).collect();
-    Table { labels: (0..cores).collect(), tasks, slack: vec![] }.bytes()
-}
-
 #[test]
 fn every_length_of_a_buffer() {
     let random = &mut Random::new(82);
-    let p1 = sheet(2, &[(10, 9, 29), (10, 9, 99), (100, 20, 90)]);
-    let largest = sheet(8, &[(16, 8, 40); 16]);
+    let p1 = Table::of(2, &[(10, 9, 29), (10, 9, 99), (100, 20, 90)]);
+    let largest = Table::of(8, &[(16, 8, 40); 16]);
     for (sheet, needed) in [(p1, 36), (largest, 192)] {
         let mut tally = WishTally::default();
         for length in 0..=needed + 13 {
-            compare_wish_at(random, &sheet, length, &mut tally);
+            compare_wish_at(random, &sheet.bytes(), length, &mut tally);
         }
         assert_eq!(tally.refused(24), needed as u64);
         assert_eq!(tally.named("accepted, buffer exactly long enough"), 1);

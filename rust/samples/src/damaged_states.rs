@@ -59,7 +59,7 @@ fn with_jobs(random: &mut Random, state: &State, jobs: usize) -> Option<usize> {
 /// A number of an entry at, just above or far above what it may be.
 fn entry(random: &mut Random, state: &mut State) {
     let place = random.index(16);
-    let Task { separation, budget, offset } = state.tasks.at(place);
+    let Task { separation, budget, offset, .. } = state.tasks.at(place);
     let tasks = &mut state.tasks;
     match random.index(3) {
         0 => {

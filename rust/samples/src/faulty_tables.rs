@@ -36,7 +36,7 @@ fn add_fault(random: &mut Random, table: &mut Table) {
         }),
         6 => change_task(random, table, |random, task| {
             let separation = random.pick(&[99_991, 9_973, 997, 100_000]);
-            *task = Task { separation, budget: 1, offset: 0 };
+            *task = Task::new(separation, 1, 0);
         }),
         7 => change_task(random, table, |_, task| task.budget = task.separation),
         8 => change_slack_count(random, table),
@@ -64,7 +64,7 @@ pub fn change_label(random: &mut Random, labels: &mut [u8]) {
 }
 
 pub fn change_tasks(random: &mut Random, table: &mut Table) {
-    let any = Task { separation: 10, budget: 1, offset: 10 };
+    let any = Task::new(10, 1, 10);
     let count = match random.index(4) {
         0 => table.labels.len(),
         1 => random.index(table.labels.len() + 1),

@@ -1,7 +1,7 @@
 //! Tables to run logs on.
 
 use crate::offering_tables::with_offer;
-use crate::plain_tables::{labels, loaded, offset};
+use crate::plain_tables::{loaded, offset, without_slack};
 use crate::tight_tables::tight_with;
 use crate::{Random, Shape, any_tight, long, mixed, offered, steep};
 use reference::{Table, Task};
@@ -70,12 +70,12 @@ fn held_up(random: &mut Random) -> Table {
     let mut tasks = Vec::new();
     for _ in 0..cores {
         let budget = random.between(least, most);
-        tasks.push(Task { separation, budget, offset: random.pick(&[0, 0, 1, 2]) });
+        tasks.push(Task::new(separation, budget, random.pick(&[0, 0, 1, 2])));
     }
     for _ in 0..random.pick(&[1, 1, 2]) {
         let separation = random.pick(&[1, 1, 2, 3]);
-        let offset = offset(random, separation);
-        tasks.insert(random.index(tasks.len() + 1), Task { separation, budget: 1, offset });
+        let task = Task::new(separation, 1, offset(random, separation));
+        tasks.insert(random.index(tasks.len() + 1), task);
     }
-    Table { labels: labels(random, cores), tasks, slack: vec![] }
+    without_slack(random, cores, tasks)
 }

@@ -1,7 +1,7 @@
 //! Engine states that are sound: busy ones, ones with equal priority points, and ones near the
 //! clock's end. Not all of them can be reached from an opening.
 
-use crate::plain_tables::{labels, offset};
+use crate::plain_tables::{offset, without_slack};
 use crate::{Random, Shape, any_tight, mixed, offered, steep};
 use reference::{Job, LAST_TICK, MOST_JOBS, Plan, State, Table, Task, judge, open, set_queue};
 
@@ -35,10 +35,10 @@ pub fn brisk(random: &mut Random, shape: Shape) -> Table {
         let separation = random.pick(&BRISK);
         let share = (separation * most / shape.tasks as u32).clamp(1, separation);
         let budget = random.between(1, share);
-        Task { separation, budget, offset: offset(random, separation) }
+        Task::new(separation, budget, offset(random, separation))
     });
     let tasks = tasks.collect();
-    Table { labels: labels(random, shape.cores), tasks, slack: vec![] }
+    without_slack(random, shape.cores, tasks)
 }
 
 /// A sound state of a plan, at any clock, each task with any number of jobs.

@@ -1,6 +1,6 @@
 //! Tables whose shares add up to exactly m × H, and to a little more.
 
-use crate::plain_tables::{composite, divisor, labels, offset};
+use crate::plain_tables::{composite, divisor, offset, without_slack};
 use crate::{Random, Shape};
 use reference::{Table, Task};
 
@@ -27,7 +27,7 @@ pub fn tight_with(random: &mut Random, shape: Shape, separations: &[u32]) -> Tab
         let (filled, members) = group(random, cores, left);
         let separation = long_enough(*separation, members);
         for budget in parts(random, filled as u32 * separation, members, separation) {
-            tasks.push(Task { separation, budget, offset: offset(random, separation) });
+            tasks.push(Task::new(separation, budget, offset(random, separation)));
         }
         cores -= filled;
         left -= members;
@@ -36,7 +36,7 @@ pub fn tight_with(random: &mut Random, shape: Shape, separations: &[u32]) -> Tab
         }
     }
     shuffle(random, &mut tasks);
-    Table { labels: labels(random, shape.cores), tasks, slack: vec![] }
+    without_slack(random, shape.cores, tasks)
 }
 
 /// Separations for the groups: two with a product just below 1,000,000, or divisors of a number.

@@ -1,6 +1,6 @@
 //! Wish sheets: tables with the wished bound W in the offset's place and slack count 0.
 
-use crate::plain_tables::labels;
+use crate::plain_tables::without_slack;
 use crate::tight_tables::tight_with;
 use crate::{Random, Shape, any_tight, long, mixed, steep, tight};
 use reference::{Table, Task, judge};
@@ -59,12 +59,12 @@ pub fn tiny_sheet(random: &mut Random) -> Table {
         let task = |random: &mut Random| {
             let separation = random.between(1, 3);
             let budget = random.between(1, separation);
-            Task { separation, budget, offset: budget + random.between(0, 6) }
+            Task::new(separation, budget, budget + random.between(0, 6))
         };
         let tasks: Vec<Task> = (0..3).map(|_| task(random)).collect();
         let share = |task: &Task| 6 / task.separation * task.budget;
         if tasks.iter().map(share).sum::<u32>() <= 2 * 6 {
-            return Table { labels: labels(random, 2), tasks, slack: vec![] };
+            return without_slack(random, 2, tasks);
         }
     }
 }
