@@ -1,11 +1,13 @@
 //! Compares the proved code, and the plain code written for speed, with the reference: of a
 //! judgement, a log run, a sentence and a wish the answer and every byte of the lent buffer and
 //! around it, of a release or a step the answer and every field that it hands back. A log run is
-//! held to demand 3 as well, and a sentence and a wish to what document 02 says of them.
+//! held to demand 3 as well, and a sentence and a wish to what document 02 says of them. All but
+//! sentences are of either edition.
 
 #![forbid(unsafe_code)]
 
 mod counts;
+mod edition_names;
 mod engine;
 mod engine_tally;
 mod in_time;
@@ -20,6 +22,7 @@ mod tables;
 mod wish_tally;
 mod wishes;
 
+pub use edition_names::EDITIONS_AT_LEAST;
 pub use engine::{compare_release, compare_step, compare_steps};
 pub use engine_tally::EngineTally;
 pub use log_families::{FAR, Family, NEAR, compare_logs};

@@ -3,7 +3,7 @@
 use crate::offering_tables::with_offer;
 use crate::plain_tables::{loaded, offset, without_slack};
 use crate::tight_tables::tight_with;
-use crate::{Random, Shape, any_tight, long, mixed, offered, steep};
+use crate::{Random, Shape, any_tight, either, long, mixed, offered, steep};
 use reference::{Table, Task};
 
 /// Separations that have a small H among themselves.
@@ -43,7 +43,8 @@ fn accepted(random: &mut Random, make: fn(&mut Random) -> Table) -> Table {
 fn short_tight(random: &mut Random) -> Table {
     let shape = Shape::any(random);
     let separations = random.pick(&SHORT);
-    tight_with(random, shape, &separations)
+    let table = tight_with(random, shape, &separations);
+    either(random, table)
 }
 
 fn short_loaded(random: &mut Random) -> Table {
@@ -77,5 +78,6 @@ fn held_up(random: &mut Random) -> Table {
         let task = Task::new(separation, 1, offset(random, separation));
         tasks.insert(random.index(tasks.len() + 1), task);
     }
-    without_slack(random, cores, tasks)
+    let table = without_slack(random, cores, tasks);
+    either(random, table)
 }

@@ -1,7 +1,7 @@
 //! Tables that offer slack: at compliance, one below and one above it, zeros, and 2^32 − 1.
 
 use crate::plain_tables::without_slack;
-use crate::{Random, any_tight, long, mixed, steep};
+use crate::{Random, any_tight, either, long, mixed, steep};
 use reference::{Analysis, Table, Task};
 
 /// A table that offers slack on either side of compliance for some task.
@@ -41,7 +41,8 @@ fn flat(random: &mut Random) -> Table {
         1 if budget > 1 => tasks[task].budget -= 1,
         _ => {}
     }
-    without_slack(random, 2, tasks)
+    let table = without_slack(random, 2, tasks);
+    either(random, table)
 }
 
 /// What each entry is to be at least, before the vector is raised to a compliant one.

@@ -1,6 +1,6 @@
 //! Tables of valid shape without slack: they pass 1 to 8, most of them 9 and 10 too.
 
-use crate::Random;
+use crate::{Random, either};
 use reference::{Table, Task};
 
 /// The factors of composite numbers, the small ones more often.
@@ -76,7 +76,8 @@ pub fn steep(random: &mut Random) -> Table {
     let short = random.pick(&[1, 1, 2, long / 25, long / 10]).max(1);
     let place = random.index(tasks.len());
     tasks[place] = Task::new(short, random.between(1, short), random.between(0, short));
-    without_slack(random, cores, tasks)
+    let table = without_slack(random, cores, tasks);
+    either(random, table)
 }
 
 /// These tasks on cores with any labels, in edition 1.
@@ -141,5 +142,6 @@ pub fn loaded(random: &mut Random, cores: usize, separations: &[u32]) -> Table {
         Task::new(separation, budget, offset(random, separation))
     });
     let tasks = tasks.collect();
-    without_slack(random, cores, tasks)
+    let table = without_slack(random, cores, tasks);
+    either(random, table)
 }

@@ -83,7 +83,8 @@ const THREE_UNSOLVED: [Wish; 3] =
 const THREE_SOLVED: [Wish; 3] =
     [(100_000, 95_699, 1_600_000), (100_000, 52_162, 173_936), (100_000, 52_138, 173_912)];
 
-/// Sheets of 16 and of 9 loops on 8 cores and of 3 on 2, each without a solution and with one.
+/// Sheets of edition 1, of 16 and of 9 loops on 8 cores and of 3 on 2, each without a solution and
+/// with one.
 pub fn slow_sheets() -> Vec<Table> {
     vec![
         Table::of(8, &SIXTEEN_UNSOLVED),

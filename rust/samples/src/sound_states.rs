@@ -2,7 +2,7 @@
 //! clock's end. Not all of them can be reached from an opening.
 
 use crate::plain_tables::{offset, without_slack};
-use crate::{Random, Shape, any_tight, mixed, offered, steep};
+use crate::{Random, Shape, any_tight, either, mixed, offered, steep};
 use reference::{Job, LAST_TICK, MOST_JOBS, Plan, State, Table, Task, judge, open, set_queue};
 
 /// Separations whose least common multiple is 120.
@@ -19,7 +19,8 @@ pub fn accepted_plan(random: &mut Random) -> Plan {
             3 => any_tight(random),
             _ => {
                 let shape = Shape::any(random);
-                brisk(random, shape)
+                let table = brisk(random, shape);
+                either(random, table)
             }
         };
         if let Ok(plan) = judge(&table.bytes()) {
@@ -28,7 +29,7 @@ pub fn accepted_plan(random: &mut Random) -> Plan {
     }
 }
 
-/// A table of short tasks; most are accepted.
+/// A table of short tasks, in edition 1; most are accepted.
 pub fn brisk(random: &mut Random, shape: Shape) -> Table {
     let most = 1 + shape.cores as u32;
     let tasks = (0..shape.tasks).map(|_| {

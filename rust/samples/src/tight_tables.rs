@@ -1,16 +1,17 @@
 //! Tables whose shares add up to exactly m × H, and to a little more.
 
 use crate::plain_tables::{composite, divisor, offset, without_slack};
-use crate::{Random, Shape};
+use crate::{Random, Shape, either};
 use reference::{Table, Task};
 
 /// A table without slack, of any shape, whose shares add up to exactly m × H.
 pub fn any_tight(random: &mut Random) -> Table {
     let shape = Shape::any(random);
-    tight(random, shape)
+    let table = tight(random, shape);
+    either(random, table)
 }
 
-/// A table without slack of this shape whose shares add up to exactly m × H.
+/// A table without slack of this shape whose shares add up to exactly m × H, in edition 1.
 pub fn tight(random: &mut Random, shape: Shape) -> Table {
     let separations = separations(random);
     tight_with(random, shape, &separations)
@@ -50,8 +51,8 @@ fn separations(random: &mut Random) -> Vec<u32> {
 }
 
 /// A tight table with one budget one higher, so that the shares are more than m × H.
-pub fn overfull(random: &mut Random, shape: Shape) -> Table {
-    let mut table = tight(random, shape);
+pub fn overfull(random: &mut Random) -> Table {
+    let mut table = any_tight(random);
     let raisable: Vec<usize> = (0..table.tasks.len())
         .filter(|&i| table.tasks[i].budget < table.tasks[i].separation)
         .collect();
