@@ -2,7 +2,7 @@
 //! judgement, a log run, a sentence and a wish the answer and every byte of the lent buffer and
 //! around it, of a release or a step the answer and every field that it hands back. A log run is
 //! held to demand 3 as well, and a sentence and a wish to what document 02 says of them. All but
-//! sentences are of either edition.
+//! sentences are of either edition, and what must not depend on it is compared between the two.
 
 #![forbid(unsafe_code)]
 
@@ -19,6 +19,8 @@ mod sentence_tally;
 mod sentences;
 mod table_tally;
 mod tables;
+mod twin_tally;
+mod twins;
 mod wish_tally;
 mod wishes;
 
@@ -32,5 +34,7 @@ pub use sentence_tally::SentenceTally;
 pub use sentences::{compare_lent, compare_lent_at, compare_sentences};
 pub use table_tally::TableTally;
 pub use tables::compare_table;
+pub use twin_tally::TwinTally;
+pub use twins::Twins;
 pub use wish_tally::WishTally;
 pub use wishes::{compare_edge, compare_wish, compare_wish_at};
