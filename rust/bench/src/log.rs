@@ -5,7 +5,7 @@
 
 use std::hint::black_box;
 
-use reference::{Entry, Log, Table, Task};
+use reference::{Entry, Log, Table};
 use samples::Random;
 
 use crate::turns::{best, median_ratio, seconds, take_turns};
@@ -102,8 +102,7 @@ fn far_against_near() {
 
 fn spread(last: u64) -> Case {
     let mut random = Random::new(1);
-    let task = Task { separation: 200, budget: 10, offset: 200 };
-    let table = Table { labels: (0..8).collect(), tasks: vec![task; 16], slack: vec![] };
+    let table = Table::of(8, &[(200, 10, 200); 16]);
     let entry = |index| Entry {
         tick: (index as u64 * last / (ENTRIES as u64 - 1)) as u32,
         task: (index % 16) as u8,
@@ -115,10 +114,8 @@ fn spread(last: u64) -> Case {
 /// Jobs of 100,000 ticks. A task with such a budget fills a core, so seven tasks of sixteen have
 /// one, and the other nine share what is left.
 fn long_jobs_against_ticks() {
-    let long = Task { separation: 100_000, budget: 100_000, offset: 100_000 };
-    let other = Task { separation: 100_000, budget: 11_111, offset: 100_000 };
-    let tasks = [vec![long; 7], vec![other; 9]].concat();
-    let table = Table { labels: (0..8).collect(), tasks, slack: vec![] };
+    let (long, other) = ((100_000, 100_000, 100_000), (100_000, 11_111, 100_000));
+    let table = Table::of(8, &[vec![long; 7], vec![other; 9]].concat());
     let entry = |index: usize| Entry {
         tick: (index / 7 * 100_000 + index % 7 * 14_285) as u32,
         task: (index % 7) as u8,
@@ -170,8 +167,8 @@ fn dense(table: &Table, name: &str) {
 
 /// Tasks with this separation and budget, and offsets that differ, so that jobs overtake others.
 fn dense_table(cores: u8, tasks: u32, (separation, budget): (u32, u32)) -> Table {
-    let task = |i| Task { separation, budget, offset: separation - i % 3 };
-    Table { labels: (0..cores).collect(), tasks: (0..tasks).map(task).collect(), slack: vec![] }
+    let tasks: Vec<_> = (0..tasks).map(|i| (separation, budget, separation - i % 3)).collect();
+    Table::of(cores, &tasks)
 }
 
 fn print_pair(name: &str, first: &str, first_turns: &[f64], second: &str, second_turns: &[f64]) {

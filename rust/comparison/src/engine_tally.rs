@@ -1,7 +1,9 @@
 //! What the compared releases and steps met, so that a run can show that it was not empty.
 
 use crate::counts::Counts;
-use reference::{Clause, IDLE, LAST_TICK, MOST_JOBS, Refusal, State, Stepped, broken, points};
+use reference::{
+    Clause, IDLE, LAST_TICK, MOST_JOBS, Refusal, State, Stepped, broken, known, points,
+};
 
 /// How many states and calls were compared, how many calls met each refusal number, how many were
 /// on a state that breaks just these clauses of soundness, and how many lay at an edge, by a name
@@ -127,11 +129,42 @@ impl EngineTally {
 
     fn count(&mut self, state: &State, answer: Result<(), Refusal>) {
         self.calls += 1;
+        let taken = answer.is_ok();
+        self.named.count_if(taken && state.edition == 1, "taken or stepped, edition 1");
+        self.named.count_if(taken && state.edition == 2, "taken or stepped, edition 2");
         if let Err(Refusal { number, .. }) = answer {
             self.refused.count(number);
             if number == 18 {
                 self.unsound.count(broken(state));
+                if let Some(name) = edition_name(state) {
+                    self.named.count(name);
+                }
             }
         }
     }
+}
+
+/// What is wrong with the edition or the deadlines of a state, where nothing else is.
+fn edition_name(state: &State) -> Option<&'static str> {
+    let mut mended = state.clone();
+    (mended.edition, mended.tasks.deadline) = (1, [0; 16]);
+    if !broken(&mended).is_empty() {
+        return None;
+    }
+    let (used, unused) = state.tasks.deadline.split_at(known(state).end);
+    let some = |deadlines: &[u32]| deadlines.iter().any(|&deadline| deadline != 0);
+    let name = match state.edition {
+        0 => "refused 18, edition 0",
+        1 if !used.contains(&0) => "refused 18, edition 1, a deadline for each task",
+        1 if some(used) => "refused 18, edition 1, a deadline for some tasks",
+        1 => "refused 18, edition 1, a deadline outside the table",
+        2 if !some(used) => "refused 18, edition 2, each D = 0",
+        2 if used.contains(&0) => "refused 18, edition 2, some D = 0",
+        2 if used.contains(&1_600_001) => "refused 18, edition 2, some D = 1,600,001",
+        2 if some(unused) => "refused 18, edition 2, a deadline outside the table",
+        3 => "refused 18, edition 3",
+        255 => "refused 18, edition 255",
+        _ => return None,
+    };
+    Some(name)
 }

@@ -1,11 +1,13 @@
 //! Compares the proved code, and the plain code written for speed, with the reference: of a
 //! judgement, a log run, a sentence and a wish the answer and every byte of the lent buffer and
 //! around it, of a release or a step the answer and every field that it hands back. A log run is
-//! held to demand 3 as well, and a sentence and a wish to what document 02 says of them.
+//! held to demand 3 as well, and a sentence and a wish to what document 02 says of them. All but
+//! sentences are of either edition, and what must not depend on it is compared between the two.
 
 #![forbid(unsafe_code)]
 
 mod counts;
+mod edition_names;
 mod engine;
 mod engine_tally;
 mod in_time;
@@ -17,9 +19,12 @@ mod sentence_tally;
 mod sentences;
 mod table_tally;
 mod tables;
+mod twin_tally;
+mod twins;
 mod wish_tally;
 mod wishes;
 
+pub use edition_names::EDITIONS_AT_LEAST;
 pub use engine::{compare_release, compare_step, compare_steps};
 pub use engine_tally::EngineTally;
 pub use log_families::{FAR, Family, NEAR, compare_logs};
@@ -29,5 +34,7 @@ pub use sentence_tally::SentenceTally;
 pub use sentences::{compare_lent, compare_lent_at, compare_sentences};
 pub use table_tally::TableTally;
 pub use tables::compare_table;
+pub use twin_tally::TwinTally;
+pub use twins::Twins;
 pub use wish_tally::WishTally;
 pub use wishes::{compare_edge, compare_wish, compare_wish_at};

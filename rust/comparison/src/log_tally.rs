@@ -55,7 +55,7 @@ impl LogTally {
         self.calls.count(number);
         let needed = 8 * (log.len().saturating_sub(2) / 9);
         match number {
-            1..=13 => {
+            1..=13 | 28 => {
                 self.named.count_if(Log::read(log).is_err(), "table refused, and the log too")
             }
             14 => self.named.count_if(log.len() < 2, "refused 14, count absent"),
@@ -81,6 +81,8 @@ impl LogTally {
         self.named.count_if(keeps, "run, log keeps the table");
         self.named.count_if(!keeps, "run, log does not keep the table");
         self.named.count_if(plan.offered, "run, slack offered");
+        self.named.count_if(plan.edition == 1, "run, edition 1");
+        self.named.count_if(plan.edition == 2, "run, edition 2");
         self.named.count_if(entries.is_empty(), "run, log empty");
         let largest = entries.iter().map(|entry| entry.tick).max();
         self.named.count_if(largest == Some(1_000_000_000), "run, largest tick 1,000,000,000");

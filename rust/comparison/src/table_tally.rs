@@ -1,6 +1,7 @@
 //! What the compared tables met, so that a run can show that it was not empty.
 
 use crate::counts::Counts;
+use crate::edition_names::edition_names;
 use crate::tables::Answer;
 use reference::{Analysis, Refusal, Table, judge};
 
@@ -41,7 +42,8 @@ impl TableTally {
         if let Err(Refusal { number, .. }) = answer {
             self.refused.count(number);
         }
-        if matches!(answer, Err(Refusal { number: 1..=8, .. })) {
+        edition_names(bytes, answer).into_iter().for_each(|name| self.named.count(name));
+        if matches!(answer, Err(Refusal { number: 1..=8 | 28, .. })) {
             return;
         }
         let table = Table::read(bytes).expect("1 and 2 are passed");

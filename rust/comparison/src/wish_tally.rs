@@ -1,6 +1,7 @@
 //! What the compared wish sheets met, so that a run can show that it was not empty.
 
 use crate::counts::Counts;
+use crate::edition_names::edition_names;
 use crate::tables::Answer;
 use crate::wishes::numbers;
 use reference::{Analysis, Refusal, Table, Task};
@@ -48,6 +49,7 @@ impl WishTally {
         if let Err(Refusal { number, .. }) = answer {
             self.refused.count(number);
         }
+        edition_names(bytes, answer).into_iter().for_each(|name| self.named.count(name));
         if matches!(answer, Err(Refusal { number: 1..=6, .. })) {
             return;
         }

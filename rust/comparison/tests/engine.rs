@@ -18,7 +18,19 @@ const REFUSED_AT_LEAST: u64 = 2_000;
 const UNSOUND_AT_LEAST: u64 = 300;
 
 /// How often each of these is met, at least.
-const AT_LEAST: [(u64, &str); 27] = [
+const AT_LEAST: [(u64, &str); 39] = [
+    (50_000, "taken or stepped, edition 1"),
+    (50_000, "taken or stepped, edition 2"),
+    (500, "refused 18, edition 0"),
+    (500, "refused 18, edition 3"),
+    (500, "refused 18, edition 255"),
+    (1_000, "refused 18, edition 1, a deadline for each task"),
+    (500, "refused 18, edition 1, a deadline for some tasks"),
+    (300, "refused 18, edition 1, a deadline outside the table"),
+    (1_000, "refused 18, edition 2, each D = 0"),
+    (300, "refused 18, edition 2, some D = 0"),
+    (300, "refused 18, edition 2, some D = 1,600,001"),
+    (300, "refused 18, edition 2, a deadline outside the table"),
     (20_000, "taken"),
     (3_000, "taken, the task's first"),
     (3_000, "taken, exactly T after the last"),

@@ -1,23 +1,24 @@
 //! The proved judgement and its names against the reference on hundreds of thousands of tables, the
 //! same ones on every run.
 
-use comparison::{TableTally, compare_table};
+use comparison::{EDITIONS_AT_LEAST, TableTally, compare_table};
 use samples::{
-    Random, Shape, any_tight, damaged_table, faulty_table, long, mixed, noise_table, offered,
-    overfull, steep,
+    Random, any_tight, damaged_table, faulty_table, long, mixed, noise_table, offered, overfull,
+    steep, table_with_bad_deadlines,
 };
 
 /// A way to make tables, and how many of them are compared.
 type Family = (u64, fn(&mut Random) -> Vec<u8>);
 
-const FAMILIES: [Family; 9] = [
-    (60_000, |random| mixed(random).bytes()),
+const FAMILIES: [Family; 10] = [
+    (50_000, |random| mixed(random).bytes()),
     (50_000, |random| long(random).bytes()),
     (40_000, |random| steep(random).bytes()),
     (60_000, |random| any_tight(random).bytes()),
-    (20_000, any_overfull),
-    (120_000, |random| offered(random).bytes()),
+    (20_000, |random| overfull(random).bytes()),
+    (110_000, |random| offered(random).bytes()),
     (70_000, |random| faulty_table(random).bytes()),
+    (30_000, |random| table_with_bad_deadlines(random).bytes()),
     (80_000, any_damaged),
     (20_000, noise_table),
 ];
@@ -58,11 +59,6 @@ const AT_LEAST: [(u64, &str); 29] = [
     (1_000, "named, offered, others than at the found slack"),
 ];
 
-fn any_overfull(random: &mut Random) -> Vec<u8> {
-    let shape = Shape::any(random);
-    overfull(random, shape).bytes()
-}
-
 fn any_damaged(random: &mut Random) -> Vec<u8> {
     let table = match random.index(4) {
         0 => mixed(random),
@@ -84,11 +80,11 @@ fn many_tables() {
     }
     tally.print();
     assert!(tally.tables() >= 300_000);
-    for number in (1..=13).chain([24]) {
+    for number in (1..=13).chain([28, 24]) {
         let met = tally.refused(number);
         assert!(met >= REFUSED_AT_LEAST, "refused {number}: {met} tables");
     }
-    for (least, name) in AT_LEAST {
+    for (least, name) in AT_LEAST.into_iter().chain(EDITIONS_AT_LEAST) {
         let met = tally.named(name);
         assert!(met >= least, "{name}: {met} tables");
     }
@@ -101,10 +97,12 @@ fn every_table_of_up_to_two_bytes_after_the_edition() {
     compare_table(&mut random, &[], &mut tally);
     for first in 0..=255 {
         compare_table(&mut random, &[first], &mut tally);
-        compare_table(&mut random, &[1, first], &mut tally);
-        for second in 0..=255 {
-            compare_table(&mut random, &[1, first, second], &mut tally);
+        for edition in [1, 2] {
+            compare_table(&mut random, &[edition, first], &mut tally);
+            for second in 0..=255 {
+                compare_table(&mut random, &[edition, first, second], &mut tally);
+            }
         }
     }
-    assert_eq!((tally.refused(1), tally.refused(2)), (256, 1 + 256 + 65_536));
+    assert_eq!((tally.refused(1), tally.refused(2)), (255, 2 * (1 + 256 + 65_536)));
 }

@@ -2,7 +2,7 @@
 //! against the fast form on logs with ticks up to 1,000,000,000; the same ones on every run.
 
 use comparison::{FAR, LogForm, LogTally, Logs, NEAR, compare_logs};
-use reference::{Entry, Log, Table, Task};
+use reference::{Entry, Log, Table};
 use samples::Random;
 
 const REFERENCE: LogForm = ("reference", reference::run_log);
@@ -10,7 +10,9 @@ const PROVED: LogForm = ("proved", dahomike::run_log);
 const FAST: LogForm = ("fast", fast::run_log);
 
 /// How often each of these is met, at least, by near logs and by far ones.
-const AT_LEAST: [(u64, u64, &str); 27] = [
+const AT_LEAST: [(u64, u64, &str); 29] = [
+    (50_000, 10_000, "run, edition 1"),
+    (50_000, 10_000, "run, edition 2"),
     (50_000, 10_000, "run, log keeps the table"),
     (40_000, 10_000, "run, log does not keep the table"),
     (20_000, 4_000, "run, slack offered"),
@@ -65,7 +67,7 @@ fn near_logs_tick_by_tick() {
     let tally = compare_logs(&[REFERENCE, PROVED, FAST], &NEAR, 1);
     assert!(tally.logs() >= 300_000);
     check_numbers(&tally);
-    for number in 1..=13 {
+    for number in (1..=13).chain([28]) {
         let met = tally.calls(number);
         assert!(met >= 100, "refused {number}: {met} calls");
     }
@@ -86,9 +88,7 @@ fn far_logs_by_events() {
 
 /// P3 on the cores 0 and 1.
 fn p3() -> Vec<u8> {
-    let task = |separation, budget, offset| Task { separation, budget, offset };
-    let tasks = vec![task(2, 1, 2), task(2, 1, 2), task(3, 3, 0)];
-    Table { labels: vec![0, 1], tasks, slack: vec![] }.bytes()
+    Table::of(2, &[(2, 1, 2), (2, 1, 2), (3, 3, 0)]).bytes()
 }
 
 /// Kind and value of each of three entries, the same in every form.

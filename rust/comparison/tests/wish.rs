@@ -1,23 +1,24 @@
 //! The proved wishes against the reference on hundreds of thousands of sheets, the same ones on
 //! every run, and on tiny sheets against trying every offset and every slack.
 
-use comparison::{WishTally, compare_edge, compare_wish, compare_wish_at};
-use reference::{Plan, Refusal, Table, Task, wish_by_trying};
+use comparison::{EDITIONS_AT_LEAST, WishTally, compare_edge, compare_wish, compare_wish_at};
+use reference::{Plan, Refusal, Table, wish_by_trying};
 use samples::{
-    Random, any_sheet, damaged_table, deep_sheets, edge_sheets, end_sheet, faulty_sheet,
-    noise_table, offering_sheet, roomy_sheet, slow_sheets, tight_edge_sheets, tight_sheet,
-    tiny_sheet,
+    Random, any_sheet, damaged_table, deep_sheets, edge_sheets, either, end_sheet, faulty_sheet,
+    noise_table, offering_sheet, roomy_sheet, sheet_with_bad_deadlines, slow_sheets,
+    tight_edge_sheets, tight_sheet, tiny_sheet, with_deadlines,
 };
 
 /// A way to make sheets, and how many of them are compared.
 type Family = (u64, fn(&mut Random) -> Vec<u8>);
 
-const FAMILIES: [Family; 8] = [
+const FAMILIES: [Family; 9] = [
     (60_000, |random| roomy_sheet(random).bytes()),
     (40_000, |random| any_sheet(random).bytes()),
     (20_000, |random| tight_sheet(random).bytes()),
     (30_000, |random| end_sheet(random).bytes()),
     (60_000, |random| faulty_sheet(random).bytes()),
+    (20_000, |random| sheet_with_bad_deadlines(random).bytes()),
     (15_000, |random| offering_sheet(random).bytes()),
     (40_000, any_damaged),
     (10_000, noise_table),
@@ -102,7 +103,7 @@ fn many_sheets() {
     }
     tally.print();
     assert!(tally.sheets() >= 300_000, "{} sheets", tally.sheets());
-    for number in (1..=7).chain([26, 9, 10, 11, 27, 24]) {
+    for number in (1..=7).chain([26, 28, 9, 10, 11, 27, 24]) {
         let met = tally.refused(number);
         assert!(met >= REFUSED_AT_LEAST, "refused {number}: {met} sheets");
     }
@@ -110,7 +111,7 @@ fn many_sheets() {
     for number in [8, 12, 13] {
         assert_eq!(tally.refused(number), 0, "refused {number}");
     }
-    for (least, name) in AT_LEAST {
+    for (least, name) in AT_LEAST.into_iter().chain(EDITIONS_AT_LEAST) {
         let met = tally.named(name);
         assert!(met >= least, "{name}: {met} sheets");
     }
@@ -123,12 +124,14 @@ fn every_sheet_of_up_to_two_bytes_after_the_edition() {
     compare_wish(&mut random, &[], &mut tally);
     for first in 0..=255 {
         compare_wish(&mut random, &[first], &mut tally);
-        compare_wish(&mut random, &[1, first], &mut tally);
-        for second in 0..=255 {
-            compare_wish(&mut random, &[1, first, second], &mut tally);
+        for edition in [1, 2] {
+            compare_wish(&mut random, &[edition, first], &mut tally);
+            for second in 0..=255 {
+                compare_wish(&mut random, &[edition, first, second], &mut tally);
+            }
         }
     }
-    assert_eq!((tally.refused(1), tally.refused(2)), (256, 1 + 256 + 65_536));
+    assert_eq!((tally.refused(1), tally.refused(2)), (255, 2 * (1 + 256 + 65_536)));
 }
 
 /// The sheets that take the most rounds, and those with the largest slack, in all forms.
@@ -137,6 +140,7 @@ fn the_slowest_sheets() {
     let (random, mut tally) = (&mut Random::new(81), WishTally::default());
     for sheet in slow_sheets().into_iter().chain(deep_sheets()) {
         let length = 12 * sheet.tasks.len();
+        let sheet = either(random, sheet);
         compare_wish_at(random, &sheet.bytes(), length, &mut tally);
     }
     tally.print();
@@ -146,22 +150,15 @@ fn the_slowest_sheets() {
     assert_eq!(tally.named("accepted"), tally.named("accepted after more than 500 rounds"));
 }
 
-/// Labels from 0 and tasks as (T, C, W).
-fn sheet(cores: u8, tasks: &[(u32, u32, u32)]) -> Vec<u8> {
-    let task = |&(separation, budget, offset): &_| Task { separation, budget, offset };
-    let tasks = tasks.iter().map(task).collect();
-    Table { labels: (0..cores).collect(), tasks, slack: vec![] }.bytes()
-}
-
 #[test]
 fn every_length_of_a_buffer() {
     let random = &mut Random::new(82);
-    let p1 = sheet(2, &[(10, 9, 29), (10, 9, 99), (100, 20, 90)]);
-    let largest = sheet(8, &[(16, 8, 40); 16]);
+    let p1 = Table::of(2, &[(10, 9, 29), (10, 9, 99), (100, 20, 90)]);
+    let largest = with_deadlines(random, Table::of(8, &[(16, 8, 40); 16]));
     for (sheet, needed) in [(p1, 36), (largest, 192)] {
         let mut tally = WishTally::default();
         for length in 0..=needed + 13 {
-            compare_wish_at(random, &sheet, length, &mut tally);
+            compare_wish_at(random, &sheet.bytes(), length, &mut tally);
         }
         assert_eq!(tally.refused(24), needed as u64);
         assert_eq!(tally.named("accepted, buffer exactly long enough"), 1);

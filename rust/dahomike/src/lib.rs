@@ -1,5 +1,12 @@
 //! The safe Rust side of the proved library: each C function that the desktop planner calls, as a
 //! function over slices that answers a `Result`; and the sentence of a refusal as a `String` too.
+//!
+//! The first byte of a show table is its edition. A count m and m core labels of a byte follow; a
+//! count n and n tasks, each with separation T, budget C and priority offset Y and, in edition 2,
+//! the deadline D; a count, n or 0, and as many entries of slack. A number has 4 bytes, low byte
+//! first, so a task has 12 bytes in edition 1 and 16 in edition 2. What the functions answer and
+//! write depends on neither edition nor deadlines, but that 28 refuses a deadline that is not 1 to
+//! 1,600,000.
 
 pub use records::Refusal;
 

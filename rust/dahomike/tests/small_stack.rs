@@ -14,11 +14,11 @@ const LONGEST: &[u8] = b"Refusal 10 for loop 4294967295 onwards: the shares must
     at least 1 and at most the number of cores times the least common multiple of all separations, \
     not 18446744073709551615.";
 
-/// Eight cores and sixteen tasks (16, 8, 16), which fill the cores; no slack.
+/// Eight cores and sixteen tasks (16, 8, 16), which fill the cores, with deadlines; no slack.
 fn table() -> Vec<u8> {
-    let mut table = vec![1, 8, 0, 1, 2, 3, 4, 5, 6, 7, 16];
+    let mut table = vec![2, 8, 0, 1, 2, 3, 4, 5, 6, 7, 16];
     for _ in 0..16 {
-        for field in [16u32, 8, 16] {
+        for field in [16u32, 8, 16, 1_600_000] {
             table.extend(field.to_le_bytes());
         }
     }

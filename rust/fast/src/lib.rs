@@ -53,11 +53,12 @@ struct Judged {
 }
 
 impl Judged {
-    /// 1 to 13.
+    /// 1 to 13, and 28.
     fn of(table: &[u8]) -> Result<Judged, Refusal> {
         let sections = Sections::split(table)?;
         let cores = sections.cores()?;
-        let tasks = read_tasks(sections.tasks, cores)?;
+        let mut tasks = Tasks::zeros(0);
+        read_tasks(sections.tasks, cores, &mut tasks)?;
         let rates = Rates::of(&tasks, cores)?;
         let (slack, names) = slack(&rates, &tasks, sections.slack)?;
         let bound = bounds(&tasks, &slack)?;

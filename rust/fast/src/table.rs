@@ -1,41 +1,55 @@
-//! The table's bytes taken apart and its own fields tested: 1 to 8, or 26 on a wish sheet.
+//! The table's bytes taken apart and its own fields tested: 1 to 8, or 26 on a wish sheet, and 28.
 
 use crate::refuse;
-use records::{Refusal, Tasks};
+use records::{Refusal, Task, Tasks};
 
 pub const TASKS: usize = 16;
 
 const LONGEST_SEPARATION: u32 = 100_000;
 
+const LONGEST_DEADLINE: u32 = 1_600_000;
+
 /// The entries of the three sections, in the lent bytes.
 pub struct Sections<'a> {
     pub labels: &'a [u8],
-    pub tasks: &'a [[u8; 12]],
+    pub tasks: Entries<'a>,
     pub slack: &'a [[u8; 4]],
+}
+
+/// The entries of the tasks: without deadlines in edition 1, with them in edition 2.
+#[derive(Clone, Copy)]
+pub enum Entries<'a> {
+    One(&'a [[u8; 12]]),
+    Two(&'a [[u8; 16]]),
 }
 
 impl<'a> Sections<'a> {
     /// 1 and 2.
     pub fn split(table: &[u8]) -> Result<Sections<'_>, Refusal> {
-        let [1, rest @ ..] = table else {
-            return refuse(1, 0);
+        let sections = match table {
+            [1, rest @ ..] => Sections::after_edition(rest, Entries::One),
+            [2, rest @ ..] => Sections::after_edition(rest, Entries::Two),
+            _ => return refuse(1, 0),
         };
-        match Sections::after_edition(rest) {
+        match sections {
             Some(sections) => Ok(sections),
             None => refuse(2, 0),
         }
     }
 
-    fn after_edition(bytes: &'a [u8]) -> Option<Sections<'a>> {
+    fn after_edition<const SIZE: usize>(
+        bytes: &'a [u8],
+        entries: fn(&'a [[u8; SIZE]]) -> Entries<'a>,
+    ) -> Option<Sections<'a>> {
         let (&cores, rest) = bytes.split_first()?;
         let (labels, rest) = rest.split_at_checked(usize::from(cores))?;
         let (&tasks, rest) = rest.split_first()?;
-        let (tasks, rest) = rest.split_at_checked(12 * usize::from(tasks))?;
-        let (&entries, slack) = rest.split_first()?;
-        if slack.len() != 4 * usize::from(entries) {
+        let (tasks, rest) = rest.split_at_checked(SIZE * usize::from(tasks))?;
+        let (&offers, slack) = rest.split_first()?;
+        if slack.len() != 4 * usize::from(offers) {
             return None;
         }
-        Some(Sections { labels, tasks: tasks.as_chunks().0, slack: slack.as_chunks().0 })
+        Some(Sections { labels, tasks: entries(tasks.as_chunks().0), slack: slack.as_chunks().0 })
     }
 
     /// The number of cores: 3 and 4.
@@ -59,35 +73,51 @@ pub fn cores_of(labels: &[u8]) -> Result<usize, Refusal> {
     Ok(labels.len())
 }
 
-/// 5 to 8.
-pub fn read_tasks(entries: &[[u8; 12]], cores: usize) -> Result<Tasks, Refusal> {
-    read_fields(entries, cores, 8, |separation, _, offset| offset > separation)
+/// 5 to 8, and 28.
+pub fn read_tasks(entries: Entries, cores: usize, tasks: &mut Tasks) -> Result<(), Refusal> {
+    read_either(entries, cores, tasks, 8, |separation, _, offset| offset > separation)
 }
 
-/// 5 to 7 and 26: the offsets are wishes.
-pub fn read_wishes(entries: &[[u8; 12]], cores: usize) -> Result<Tasks, Refusal> {
+/// 5 to 7, 26 and 28: the offsets are wishes.
+pub fn read_wishes(entries: Entries, cores: usize, tasks: &mut Tasks) -> Result<(), Refusal> {
     // Where a separation is so long that 16 × T does not fit, 6 is met before.
-    read_fields(entries, cores, 26, |separation, budget, wish| {
+    read_either(entries, cores, tasks, 26, |separation, budget, wish| {
         wish < budget || wish > separation.saturating_mul(16)
     })
 }
 
-/// One pass reads the fields and keeps a bit for each task that fails 6, 7 or the number `last`,
-/// which the last field fails.
-fn read_fields(
-    entries: &[[u8; 12]],
+fn read_either(
+    entries: Entries,
     cores: usize,
-    last: u32,
+    tasks: &mut Tasks,
+    third: u32,
     fails: impl Fn(u32, u32, u32) -> bool,
-) -> Result<Tasks, Refusal> {
+) -> Result<(), Refusal> {
+    match entries {
+        Entries::One(entries) => read_fields(entries, cores, tasks, third, fails),
+        Entries::Two(entries) => read_fields(entries, cores, tasks, third, fails),
+    }
+}
+
+/// One pass reads the fields and keeps a bit for each task that fails 6, 7, the number `third`,
+/// which the third field fails, or 28, where there is a fourth. The tasks come as zeros: an answer
+/// that carried them would be copied more than once.
+fn read_fields<const SIZE: usize>(
+    entries: &[[u8; SIZE]],
+    cores: usize,
+    tasks: &mut Tasks,
+    third: u32,
+    fails: impl Fn(u32, u32, u32) -> bool,
+) -> Result<(), Refusal> {
     let count = entries.len();
     if count <= cores || count > TASKS {
         return refuse(5, 0);
     }
-    let mut tasks = Tasks { count, separation: [0; TASKS], budget: [0; TASKS], offset: [0; TASKS] };
-    let mut failing = [0u32; 3];
+    tasks.count = count;
+    let mut failing = [0u32; 4];
     for (i, entry) in entries.iter().enumerate() {
-        let [separation, budget, offset] = fields(entry);
+        let fields = entry.as_chunks().0;
+        let [separation, budget, offset] = [0, 1, 2].map(|at| u32::from_le_bytes(fields[at]));
         tasks.separation[i] = separation;
         tasks.budget[i] = budget;
         tasks.offset[i] = offset;
@@ -95,34 +125,38 @@ fn read_fields(
         failing[0] |= u32::from(separation.wrapping_sub(1) >= LONGEST_SEPARATION) << i;
         failing[1] |= u32::from(budget.wrapping_sub(1) >= separation) << i;
         failing[2] |= u32::from(fails(separation, budget, offset)) << i;
+        if let Some(&deadline) = fields.get(3) {
+            tasks.deadline[i] = u32::from_le_bytes(deadline);
+            failing[3] |= u32::from(!deadline_passes(tasks.deadline[i])) << i;
+        }
     }
-    for (number, tasks) in [6, 7, last].into_iter().zip(failing) {
+    for (number, tasks) in [6, 7, third, 28].into_iter().zip(failing) {
         if tasks != 0 {
             return refuse(number, tasks.trailing_zeros() as usize);
         }
     }
-    Ok(tasks)
+    Ok(())
 }
 
-/// Whether tasks that are not read from bytes pass 5 to 8, with zeros past `count`.
-pub fn tasks_pass(tasks: &Tasks, cores: usize) -> bool {
+fn deadline_passes(deadline: u32) -> bool {
+    deadline.wrapping_sub(1) < LONGEST_DEADLINE
+}
+
+/// Whether tasks that are not read from bytes pass 5 to 8, and 28 in edition 2, with zeros past
+/// `count` and for every deadline of edition 1.
+pub fn tasks_pass(tasks: &Tasks, edition: u8, cores: usize) -> bool {
     let count = tasks.count;
     if count <= cores || count > TASKS {
         return false;
     }
-    let fields = tasks.separation.iter().zip(&tasks.budget).zip(&tasks.offset);
-    fields.enumerate().all(|(i, ((&separation, &budget), &offset))| {
+    (0..TASKS).all(|i| {
+        let Task { separation, budget, offset, deadline } = tasks.at(i);
         if i >= count {
-            return separation == 0 && budget == 0 && offset == 0;
+            return separation == 0 && budget == 0 && offset == 0 && deadline == 0;
         }
         separation.wrapping_sub(1) < LONGEST_SEPARATION
             && budget.wrapping_sub(1) < separation
             && offset <= separation
+            && if edition == 1 { deadline == 0 } else { deadline_passes(deadline) }
     })
-}
-
-/// Separation, budget and offset of an entry.
-fn fields(entry: &[u8; 12]) -> [u32; 3] {
-    let [a, b, c, d, e, f, g, h, i, j, k, l] = *entry;
-    [[a, b, c, d], [e, f, g, h], [i, j, k, l]].map(u32::from_le_bytes)
 }

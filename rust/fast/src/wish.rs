@@ -1,4 +1,4 @@
-//! Offsets from wished responses: 1 to 7, 26, 9 to 11, 27 and 24.
+//! Offsets from wished responses: 1 to 7, 26, 28, 9 to 11, 27 and 24.
 //!
 //! The *room* of a task is W − C, for its offset and its slack together. The slack is raised from
 //! zeros, with the smaller of T and room − x as offset, so that x + Y is the smaller of x + T and
@@ -48,11 +48,12 @@ struct Sheet {
 }
 
 impl Sheet {
-    /// 1 to 7 and 26.
+    /// 1 to 7, 26 and 28.
     fn read(bytes: &[u8]) -> Result<Sheet, Refusal> {
         let sections = Sections::split(bytes)?;
         let cores = sections.cores()?;
-        let mut tasks = read_wishes(sections.tasks, cores)?;
+        let mut tasks = Tasks::zeros(0);
+        read_wishes(sections.tasks, cores, &mut tasks)?;
         let mut room = [0; TASKS];
         for (k, room) in room[..tasks.count].iter_mut().enumerate() {
             *room = tasks.offset[k] - tasks.budget[k];

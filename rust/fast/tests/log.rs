@@ -1,16 +1,14 @@
 //! The log run by events, and tick by tick, over a gap that is too long for the reference. On
 //! shorter logs it is compared with the reference, in `comparison`.
 
-use reference::{Entry, Log, Table, Task};
+use reference::{Entry, Log, Table};
 
 /// P3 on the cores 0 and 1, tasks as (T, C, Y).
 const P3: [(u32, u32, u32); 3] = [(2, 1, 2), (2, 1, 2), (3, 3, 0)];
 
 /// Kind and value of each entry of a log with entries as (tick, task, demand), in both forms.
 fn run(tasks: &[(u32, u32, u32)], entries: &[(u32, u8, u32)]) -> Vec<(u32, u32)> {
-    let tasks =
-        tasks.iter().map(|&(separation, budget, offset)| Task { separation, budget, offset });
-    let table = Table { labels: vec![0, 1], tasks: tasks.collect(), slack: vec![] }.bytes();
+    let table = Table::of(2, tasks).bytes();
     let entries = entries.iter().map(|&(tick, task, demand)| Entry { tick, task, demand });
     let log = Log { entries: entries.collect() };
     let mut out = vec![0; 8 * log.entries.len()];

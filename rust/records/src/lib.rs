@@ -41,6 +41,15 @@ pub struct Task {
     pub budget: u32,
     /// Y, the priority offset.
     pub offset: u32,
+    /// D, the deadline of edition 2; an unused place in edition 1.
+    pub deadline: u32,
+}
+
+impl Task {
+    /// A task as edition 1 has it: the place of its deadline is unused.
+    pub const fn new(separation: u32, budget: u32, offset: u32) -> Task {
+        Task { separation, budget, offset, deadline: 0 }
+    }
 }
 
 /// Sixteen places for tasks, field by field, of which the first `count` are used.
@@ -50,17 +59,22 @@ pub struct Tasks {
     pub separation: [u32; 16],
     pub budget: [u32; 16],
     pub offset: [u32; 16],
+    pub deadline: [u32; 16],
 }
 
 impl Tasks {
     /// These tasks, at most sixteen, and zeros in the other places.
     pub fn new(tasks: &[Task]) -> Tasks {
-        let mut places =
-            Tasks { count: tasks.len(), separation: [0; 16], budget: [0; 16], offset: [0; 16] };
+        let mut places = Tasks::zeros(tasks.len());
         for (place, &task) in tasks.iter().enumerate() {
             places.set(place, task);
         }
         places
+    }
+
+    /// So many tasks, and zeros in every place.
+    pub const fn zeros(count: usize) -> Tasks {
+        Tasks { count, separation: [0; 16], budget: [0; 16], offset: [0; 16], deadline: [0; 16] }
     }
 
     /// The task in a place, used or not.
@@ -69,6 +83,7 @@ impl Tasks {
             separation: self.separation[place],
             budget: self.budget[place],
             offset: self.offset[place],
+            deadline: self.deadline[place],
         }
     }
 
@@ -76,6 +91,7 @@ impl Tasks {
         self.separation[place] = task.separation;
         self.budget[place] = task.budget;
         self.offset[place] = task.offset;
+        self.deadline[place] = task.deadline;
     }
 }
 
@@ -83,6 +99,8 @@ impl Tasks {
 /// places 16 × i to 16 × i + 15 are those of task i, oldest job first.
 #[derive(Clone, Debug, PartialEq, Eq)]
 pub struct State {
+    /// The edition of the table part: 1, or 2 with deadlines.
+    pub edition: u8,
     /// Whether slack was offered.
     pub offered: bool,
     /// m.

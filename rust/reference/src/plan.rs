@@ -1,4 +1,4 @@
-//! Refusals 3 to 13 and 24, each tested over all entries before the next, and what an accepted
+//! Refusals 3 to 13, 28 and 24, each tested over all entries before the next, and what an accepted
 //! table gives: a plan, its bytes, the slack and bound that the C judgement writes, and the loops
 //! that were counted.
 
@@ -7,9 +7,11 @@ use crate::{Analysis, Table};
 use records::{Refusal, Task};
 
 /// "The plan keeps the table's entries, the slack, and whether it was offered or found; bounds are
-/// always worked out from these."
+/// always worked out from these." "the plan holds the edition", and "plans are the same only if
+/// editions agree too".
 #[derive(Clone, Debug, PartialEq, Eq)]
 pub struct Plan {
+    pub edition: u8,
     pub labels: Vec<u8>,
     pub tasks: Vec<Task>,
     pub slack: Vec<u32>,
@@ -19,7 +21,8 @@ pub struct Plan {
 impl Plan {
     /// "The *bound* of a loop is Y + x + C, counted from release."
     pub fn bound(&self, k: usize) -> u128 {
-        wide(self.tasks[k].offset) + self.late(k)
+        let task = &self.tasks[k];
+        wide(task.offset) + wide(self.slack[k]) + wide(task.budget)
     }
 
     /// "A judgement hands the names back beside the plan, by the weights at its slack, offered or
@@ -30,18 +33,24 @@ impl Plan {
         analysis.expect("9 is passed").counted(&slack)
     }
 
-    /// "*Late* is x + C, counted from the priority point".
+    /// "*Late* is x + C, counted from the priority point". In edition 2 "late is the larger of 0
+    /// and bound − D".
     pub fn late(&self, k: usize) -> u128 {
-        wide(self.slack[k]) + wide(self.tasks[k].budget)
+        let task = &self.tasks[k];
+        if self.edition == 2 {
+            return self.bound(k).saturating_sub(wide(task.deadline));
+        }
+        wide(self.slack[k]) + wide(task.budget)
     }
 }
 
-/// The plan of a table's bytes, or which of 1 to 13 they meet.
+/// The plan of a table's bytes, or which of 1 to 13 and 28 they meet.
 pub fn judge(bytes: &[u8]) -> Result<Plan, Refusal> {
     let table = Table::read(bytes)?;
     test_entries(&table)?;
     // 8: "An offset is above its separation."
     test_each(8, &table.tasks, |_, task| task.offset <= task.separation)?;
+    test_deadlines(&table)?;
     let plan = with_slack(table)?;
     // 13: "A bound is above 16 × T."
     test_each(13, &plan.tasks, |k, task| plan.bound(k) <= 16 * wide(task.separation))?;
@@ -78,9 +87,11 @@ pub fn counted_into(bytes: &[u8], out: &mut [u8]) -> Result<usize, Refusal> {
     Ok(counted.len())
 }
 
-/// The bytes of a plan: "The writer writes found slack as count 0".
+/// The bytes of a plan: "The writer writes found slack as count 0" and "gives back the edition that
+/// was read".
 pub fn write(plan: &Plan) -> Vec<u8> {
     let table = Table {
+        edition: plan.edition,
         labels: plan.labels.clone(),
         tasks: plan.tasks.clone(),
         slack: if plan.offered { plan.slack.clone() } else { Vec::new() },
@@ -119,6 +130,13 @@ fn test_tasks(table: &Table) -> Result<(), Refusal> {
     test_each(7, tasks, |_, task| (1..=task.separation).contains(&task.budget))
 }
 
+/// 28: "an edition 2 loop's D is not 1 to 1,600,000, tested after 8 (26 on a sheet)".
+pub fn test_deadlines(table: &Table) -> Result<(), Refusal> {
+    test_each(28, &table.tasks, |_, task| {
+        table.edition != 2 || (1..=1_600_000).contains(&task.deadline)
+    })
+}
+
 /// 9 and 10, which do not look at offsets: a wish sheet is tested by them as well.
 pub fn test_shares(table: &Table) -> Result<Analysis<'_>, Refusal> {
     // 9: "H is above 1,000,000."
@@ -143,7 +161,7 @@ fn with_slack(table: Table) -> Result<Plan, Refusal> {
     let offered = !table.slack.is_empty();
     let slack =
         if offered { test_offer(&analysis, &table.slack)? } else { narrow(analysis.found()) };
-    Ok(Plan { labels: table.labels, tasks: table.tasks, slack, offered })
+    Ok(Plan { edition: table.edition, labels: table.labels, tasks: table.tasks, slack, offered })
 }
 
 /// 12: "Offered slack isn't compliant (lowest loop k that fails)."

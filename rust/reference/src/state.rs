@@ -87,7 +87,8 @@ fn every_job(state: &State, holds: impl Fn(usize, Job) -> bool) -> bool {
 }
 
 /// "its table part passes 3 to 13"; "A plan marked as found meets 12 where its slack differs from
-/// the found one […]; a state's table part fails likewise".
+/// the found one […]; a state's table part fails likewise". "a plan of another edition meets 1 too,
+/// a state of one 18", and 28 is tested "in plans and states too".
 fn table_passes(state: &State) -> bool {
     match table_part(state).map(|table| judge(&table.bytes())) {
         Some(Ok(plan)) => plan.slack == state.slack[..state.tasks.count],
@@ -101,16 +102,18 @@ fn table_part(state: &State) -> Option<Table> {
     let offer = state.slack.get(..state.tasks.count)?;
     let tasks = (0..state.tasks.count).map(|i| state.tasks.at(i)).collect();
     let slack = if state.offered { offer.to_vec() } else { Vec::new() };
-    Some(Table { labels, tasks, slack })
+    Some(Table { edition: state.edition, labels, tasks, slack })
 }
 
-/// "every unused place, also in the table part, is zero": those in the table part.
+/// "every unused place, also in the table part, is zero": those in the table part. "The loop record
+/// gains the deadline, an unused place in edition 1".
 fn table_is_tidy(state: &State) -> bool {
-    let zero = Task { separation: 0, budget: 0, offset: 0 };
+    let zero = Task::new(0, 0, 0);
     let labels = state.labels.iter().skip(state.cores).all(|&label| label == 0);
     let unused =
         |i: usize| i < state.tasks.count || state.tasks.at(i) == zero && state.slack[i] == 0;
-    labels && every(unused)
+    let deadlines = state.edition != 1 || every(|i| state.tasks.deadline[i] == 0);
+    labels && every(unused) && deadlines
 }
 
 /// The other unused places: those without a job, and all that a task outside the table has.
@@ -145,6 +148,7 @@ fn last_is_newest(state: &State) -> bool {
 /// "The engine is opened on a plan […] at tick 0 with nothing pending"; unused places are zeros.
 pub fn open(plan: &Plan) -> State {
     let mut state = State {
+        edition: plan.edition,
         offered: plan.offered,
         cores: plan.labels.len(),
         labels: [0; 8],

@@ -1,5 +1,5 @@
 //! What the program `plan` prints for a table's bytes: document 01, the end of "Worked tables",
-//! and document 02, §1.
+//! and document 02, §1; late as §5 counts it in edition 2.
 
 use crate::judge;
 use std::fmt::Write;

@@ -1,13 +1,14 @@
 //! Document 02, §3: offsets from wished responses. A wish sheet is "a table with the wished bound W
-//! in the offset's place and slack count 0"; here the place keeps its name.
+//! in the offset's place and slack count 0"; here the place keeps its name. By §5 it "may be of
+//! either edition".
 
-use crate::plan::{narrow, test_each, test_entries, test_shares};
+use crate::plan::{narrow, test_deadlines, test_each, test_entries, test_shares};
 use crate::slack::wide;
 use crate::{Analysis, Plan, Table};
 use records::{Refusal, Task};
 
-/// The plan of a wish sheet's bytes, its slack marked as found, or which of 1 to 7, 26, 9, 10, 11
-/// and 27, in this order, they meet. "Numbers 8, 12 and 13 don't arise on a sheet".
+/// The plan of a wish sheet's bytes, its slack marked as found, or which of 1 to 7, 26, 28, 9, 10,
+/// 11 and 27, in this order, they meet. "Numbers 8, 12 and 13 don't arise on a sheet".
 pub fn wish(bytes: &[u8]) -> Result<Plan, Refusal> {
     let sheet = passed(bytes)?;
     // 27: "no solution exists, tested last".
@@ -40,6 +41,7 @@ fn passed(bytes: &[u8]) -> Result<Table, Refusal> {
     test_each(26, &sheet.tasks, |_, task| {
         (wide(task.budget)..=16 * wide(task.separation)).contains(&wide(task.offset))
     })?;
+    test_deadlines(&sheet)?;
     test_shares(&sheet)?;
     // 11: "11 meets any slack count but 0."
     if !sheet.slack.is_empty() {
@@ -147,5 +149,6 @@ fn analysis(sheet: &Table) -> Analysis<'_> {
 /// "The plan found, with its slack left out, is accepted by the judge with the same slack": it is a
 /// found one.
 fn plan(sheet: &Table, tasks: Vec<Task>, slack: Vec<u128>) -> Plan {
-    Plan { labels: sheet.labels.clone(), tasks, slack: narrow(slack), offered: false }
+    let (edition, labels) = (sheet.edition, sheet.labels.clone());
+    Plan { edition, labels, tasks, slack: narrow(slack), offered: false }
 }

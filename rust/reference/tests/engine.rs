@@ -1,15 +1,13 @@
 //! P10 and P11 of document 01, and the order of a release's refusals.
 
 use reference::{
-    IDLE, Job, LAST_TICK, Plan, Refusal, State, Table, Task, judge, open, release, set_queue, step,
+    IDLE, Job, LAST_TICK, Plan, Refusal, State, Table, judge, open, release, set_queue, step,
 };
 
 /// The plan of P3 with this offset as its third, on the cores 0 and 1.
 fn p3(third_offset: u32) -> Plan {
-    let tasks = [(2, 1, 2), (2, 1, 2), (3, 3, third_offset)];
-    let tasks =
-        tasks.map(|(separation, budget, offset)| Task { separation, budget, offset }).to_vec();
-    judge(&Table { labels: vec![0, 1], tasks, slack: vec![] }.bytes()).expect("P3 is accepted")
+    let table = Table::of(2, &[(2, 1, 2), (2, 1, 2), (3, 3, third_offset)]);
+    judge(&table.bytes()).expect("P3 is accepted")
 }
 
 fn taken(state: &State, task: usize, demand: u32) -> State {

@@ -12,7 +12,7 @@ fn tasks_up_to(longest: u32) -> Vec<Task> {
     for separation in 1..=longest {
         for budget in 1..=separation {
             for offset in 0..=separation {
-                tasks.push(Task { separation, budget, offset });
+                tasks.push(Task::new(separation, budget, offset));
             }
         }
     }

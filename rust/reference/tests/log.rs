@@ -1,17 +1,13 @@
 //! Log runs: P10 and P11 of document 01, each refusal number at its edge, and the order of the
 //! tests.
 
-use reference::{Entry, Log, Refusal, Table, Task, run_log};
+use reference::{Entry, Log, Refusal, Table, run_log};
 
 /// P3: two cores, labels 0 and 1, tasks as (T, C, Y), no slack. Its bounds are 5, 5 and 4.
 const P3: [(u32, u32, u32); 3] = [(2, 1, 2), (2, 1, 2), (3, 3, 0)];
 
 fn table(tasks: &[(u32, u32, u32)]) -> Vec<u8> {
-    let tasks = tasks
-        .iter()
-        .map(|&(separation, budget, offset)| Task { separation, budget, offset })
-        .collect();
-    Table { labels: vec![0, 1], tasks, slack: vec![] }.bytes()
+    Table::of(2, tasks).bytes()
 }
 
 /// A log of entries as (tick, task, demand).

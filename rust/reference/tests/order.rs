@@ -4,12 +4,7 @@ use reference::{Refusal, Table, Task, judge, judge_into};
 
 /// P1 of document 01 as something to change.
 fn p1() -> Table {
-    let task = |separation, budget, offset| Task { separation, budget, offset };
-    Table {
-        labels: vec![0, 1],
-        tasks: vec![task(10, 9, 10), task(10, 9, 10), task(100, 20, 90)],
-        slack: vec![],
-    }
+    Table::of(2, &[(10, 9, 10), (10, 9, 10), (100, 20, 90)])
 }
 
 /// What P1 meets after a change.
@@ -27,16 +22,19 @@ fn met(bytes: &[u8]) -> (u32, u32) {
 #[test]
 fn edition_before_length() {
     assert_eq!(met(&[]), (1, 0));
-    assert_eq!(met(&[2]), (1, 0));
+    assert_eq!(met(&[3]), (1, 0));
     assert_eq!(met(&[0, 200]), (1, 0));
     assert_eq!(met(&[1]), (2, 0));
+    assert_eq!(met(&[2]), (2, 0));
 }
 
 #[test]
 fn length_before_cores() {
-    assert_eq!(met(&[1, 200]), (2, 0));
-    assert_eq!(met(&[1, 0, 0, 0, 0]), (2, 0));
-    assert_eq!(met(&[1, 0, 0, 0]), (3, 0));
+    for edition in [1, 2] {
+        assert_eq!(met(&[edition, 200]), (2, 0));
+        assert_eq!(met(&[edition, 0, 0, 0, 0]), (2, 0));
+        assert_eq!(met(&[edition, 0, 0, 0]), (3, 0));
+    }
     let whole = p1().bytes();
     for length in 1..whole.len() {
         assert_eq!(met(&whole[..length]), (2, 0), "cut to {length} bytes");
@@ -59,7 +57,7 @@ fn cores_before_labels_before_tasks() {
 
 #[test]
 fn tasks_before_separations() {
-    let zero = Task { separation: 0, budget: 0, offset: 1 };
+    let zero = Task::new(0, 0, 1);
     assert_eq!(changed(|t| t.tasks = vec![zero; 2]), (5, 0));
     assert_eq!(changed(|t| t.tasks = vec![zero; 3]), (6, 0));
 }
@@ -83,8 +81,7 @@ fn each_field_over_all_tasks_before_the_next() {
 
 #[test]
 fn separations_at_their_largest() {
-    let longest = Task { separation: 100_000, budget: 1, offset: 100_000 };
-    let table = Table { labels: vec![0, 1], tasks: vec![longest; 3], slack: vec![] };
+    let table = Table::of(2, &[(100_000, 1, 100_000); 3]);
     assert!(judge(&table.bytes()).is_ok());
 }
 
@@ -92,7 +89,7 @@ fn separations_at_their_largest() {
 fn offsets_before_the_hyperperiod_before_shares() {
     let longest = |t: &mut Table| {
         for (task, separation) in t.tasks.iter_mut().zip([1000, 1001, 1]) {
-            *task = Task { separation, budget: separation, offset: separation };
+            *task = Task::new(separation, separation, separation);
         }
     };
     assert_eq!(changed(longest), (9, 0));

@@ -1,18 +1,12 @@
 //! Wish sheets: document 02's worked one, sheets on both sides of having a solution, the ends of a
 //! wish's range, the order of the numbers, and raising against trying everything on tiny sheets.
 
-use reference::{Refusal, Table, Task, judge, wish, wish_by_trying, wish_into, write};
-
-/// A sheet with labels from 0 and tasks as (T, C, W).
-fn sheet(cores: u8, tasks: &[(u32, u32, u32)]) -> Table {
-    let task = |&(separation, budget, offset): &_| Task { separation, budget, offset };
-    Table { labels: (0..cores).collect(), tasks: tasks.iter().map(task).collect(), slack: vec![] }
-}
+use reference::{Refusal, Table, judge, wish, wish_by_trying, wish_into, write};
 
 /// P1's loops with these wishes.
 fn p1(wishes: [u32; 3]) -> Table {
     let [first, second, third] = wishes;
-    sheet(2, &[(10, 9, first), (10, 9, second), (100, 20, third)])
+    Table::of(2, &[(10, 9, first), (10, 9, second), (100, 20, third)])
 }
 
 /// Offset and slack of each task of a sheet that has a solution. The judge accepts the plan "with
@@ -75,8 +69,8 @@ fn a_wish_at_the_ends_of_its_range() {
 #[test]
 fn the_longest_separations_at_16_times_them() {
     let tasks = [(100_000, 50_000, 1_600_000); 4];
-    assert_eq!(found(&sheet(2, &tasks)), [(100_000, 0); 4]);
-    assert_eq!(met(&sheet(2, &[tasks[0], tasks[0], (100_000, 1, 1_600_001)])), (26, 2));
+    assert_eq!(found(&Table::of(2, &tasks)), [(100_000, 0); 4]);
+    assert_eq!(met(&Table::of(2, &[tasks[0], tasks[0], (100_000, 1, 1_600_001)])), (26, 2));
 }
 
 #[test]
@@ -84,21 +78,23 @@ fn earlier_numbers_as_for_a_table() {
     let bytes = p1([29, 99, 90]).bytes();
     let refused = |number| Err(Refusal::whole(number));
     assert_eq!(wish(&[]), refused(1));
-    assert_eq!(wish(&[&[2], &bytes[1..]].concat()), refused(1));
+    assert_eq!(wish(&[&[3], &bytes[1..]].concat()), refused(1));
+    assert_eq!(wish(&[&[2], &bytes[1..]].concat()), refused(2));
     assert_eq!(wish(&bytes[..bytes.len() - 1]), refused(2));
     assert_eq!(wish(&[&bytes[..], &[0]].concat()), refused(2));
     let tasks = [(10, 9, 8); 3];
-    assert_eq!(met(&sheet(1, &tasks)), (3, 0));
-    assert_eq!(met(&Table { labels: vec![5, 64], ..sheet(2, &tasks) }), (4, 1));
-    assert_eq!(met(&sheet(3, &tasks)), (5, 0));
-    assert_eq!(met(&sheet(2, &[(10, 9, 8), (10, 9, 8), (0, 9, 8)])), (6, 2));
+    assert_eq!(met(&Table::of(1, &tasks)), (3, 0));
+    assert_eq!(met(&Table { labels: vec![5, 64], ..Table::of(2, &tasks) }), (4, 1));
+    assert_eq!(met(&Table::of(3, &tasks)), (5, 0));
+    assert_eq!(met(&Table::of(2, &[(10, 9, 8), (10, 9, 8), (0, 9, 8)])), (6, 2));
 }
 
 #[test]
 fn budgets_before_wishes_before_the_hyperperiod() {
     // The last budget is above its separation, the first wish above 16 × T, H above 1,000,000, the
     // shares above 2 × H, and slack is offered.
-    let mut all = sheet(2, &[(1000, 1000, 16_001), (1001, 1001, 16_000), (99_991, 99_992, 99_992)]);
+    let mut all =
+        Table::of(2, &[(1000, 1000, 16_001), (1001, 1001, 16_000), (99_991, 99_992, 99_992)]);
     all.slack = vec![0; 3];
     assert_eq!(met(&all), (7, 2));
     all.tasks[2].budget = 99_991;
@@ -160,7 +156,7 @@ fn raise_and_try(cores: u8, kinds: &[(u32, u32)], most: u32) -> (usize, usize) {
         for rooms in &rooms {
             let tasks: Vec<_> =
                 kinds.iter().zip(rooms).map(|(&(t, c), room)| (t, c, c + room)).collect();
-            let bytes = sheet(cores, &tasks).bytes();
+            let bytes = Table::of(cores, &tasks).bytes();
             let raised = wish(&bytes);
             match raised {
                 Ok(_) => with += 1,

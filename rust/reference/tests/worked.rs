@@ -1,14 +1,10 @@
 //! The worked tables P1 to P9 of document 01, with the loops that document 02, §1, has them count.
 
-use reference::{Plan, Refusal, Table, Task, counted_into, judge, judge_into, write};
+use reference::{Plan, Refusal, Table, counted_into, judge, judge_into, write};
 
 /// A table of two cores, labels 0 and 1, with tasks as (T, C, Y); an empty offer is count 0.
 fn table(tasks: &[(u32, u32, u32)], slack: &[u32]) -> Vec<u8> {
-    let tasks = tasks
-        .iter()
-        .map(|&(separation, budget, offset)| Task { separation, budget, offset })
-        .collect();
-    Table { labels: vec![0, 1], tasks, slack: slack.to_vec() }.bytes()
+    Table { slack: slack.to_vec(), ..Table::of(2, tasks) }.bytes()
 }
 
 fn bounds(plan: &Plan) -> Vec<u128> {

@@ -1,11 +1,15 @@
 //! Engine states damaged in one clause of soundness, the others kept where that is possible.
 
 use crate::Random;
+use crate::editions::LONGEST_DEADLINE;
 use reference::{LAST_TICK, MOST_JOBS, State, Task};
 
 type Damage = fn(&mut Random, &mut State);
 
-const DAMAGES: [Damage; 20] = [
+const DAMAGES: [Damage; 23] = [
+    edition,
+    deadline_in_table,
+    |random, state| state.tasks.deadline[outside(random, state)] = deadline(random),
     |random, state| state.slack[in_table(random, state)] ^= 1,
     |_, state| state.offered ^= true,
     |random, state| {
@@ -56,10 +60,31 @@ fn with_jobs(random: &mut Random, state: &State, jobs: usize) -> Option<usize> {
     tries.find(|&task| (jobs..=MOST_JOBS).contains(&state.jobs[task]))
 }
 
+/// Editions 1 and 2 exchanged, with the deadlines as they were; or no edition at all.
+fn edition(random: &mut Random, state: &mut State) {
+    let exchanged = 3 - state.edition;
+    state.edition = random.pick(&[exchanged, exchanged, 0, 3, 255]);
+}
+
+/// Of one task of the table or, now and then, of each.
+fn deadline_in_table(random: &mut Random, state: &mut State) {
+    let deadline = deadline(random);
+    if random.once_in(4) {
+        state.tasks.deadline[..state.tasks.count.min(16)].fill(deadline);
+    } else {
+        state.tasks.deadline[in_table(random, state)] = deadline;
+    }
+}
+
+/// A deadline at either end of its range or beside it.
+fn deadline(random: &mut Random) -> u32 {
+    random.pick(&[0, 1, LONGEST_DEADLINE, LONGEST_DEADLINE + 1, u32::MAX])
+}
+
 /// A number of an entry at, just above or far above what it may be.
 fn entry(random: &mut Random, state: &mut State) {
     let place = random.index(16);
-    let Task { separation, budget, offset } = state.tasks.at(place);
+    let Task { separation, budget, offset, .. } = state.tasks.at(place);
     let tasks = &mut state.tasks;
     match random.index(3) {
         0 => {

@@ -2,29 +2,36 @@
 
 use crate::Random;
 
-/// The bytes of a table cut, lengthened, or with some bits, bytes or numbers changed.
+/// The bytes of a table cut, lengthened, of another edition, or with some bits, bytes or numbers
+/// changed.
 pub fn damaged_table(random: &mut Random, mut bytes: Vec<u8>) -> Vec<u8> {
-    match random.index(6) {
+    match random.index(7) {
         0 => bytes.truncate(random.index(bytes.len())),
         1 => lengthen(random, &mut bytes),
-        2 => bytes[0] = random.bits() as u8,
-        3 => change(random, &mut bytes, |random, byte| *byte ^= 1 << random.index(8)),
-        4 => change(random, &mut bytes, |random, byte| *byte = random.bits() as u8),
+        2 | 3 => bytes[0] = other_edition(random, bytes[0]),
+        4 => change(random, &mut bytes, |random, byte| *byte ^= 1 << random.index(8)),
+        5 => change(random, &mut bytes, |random, byte| *byte = random.bits() as u8),
         _ => change_number(random, &mut bytes),
     }
     bytes
 }
 
-/// Random bytes, most of them with edition 1, some with counts that agree with their length.
+/// Random bytes, most of them with edition 1 or 2, some with counts that agree with their length.
 pub fn noise_table(random: &mut Random) -> Vec<u8> {
     let mut bytes = vec![0; random.index(220)];
     random.fill(&mut bytes);
     match random.index(4) {
         0 => {}
-        1 => replace(&mut bytes, 0, 1),
+        1 => replace(&mut bytes, 0, random.pick(&[1, 2])),
         _ => counted(random, &mut bytes),
     }
     bytes
+}
+
+/// Editions 1 and 2 exchanged, the entries as they were; or no edition at all.
+fn other_edition(random: &mut Random, edition: u8) -> u8 {
+    let (exchanged, any) = (3 - edition, random.bits() as u8);
+    random.pick(&[exchanged, exchanged, exchanged, 0, 3, 255, any])
 }
 
 fn lengthen(random: &mut Random, bytes: &mut Vec<u8>) {
@@ -47,7 +54,8 @@ fn change(random: &mut Random, bytes: &mut [u8], change: fn(&mut Random, &mut u8
 fn change_number(random: &mut Random, bytes: &mut [u8]) {
     if bytes.len() >= 4 {
         let at = random.index(bytes.len() - 3);
-        let number: u32 = random.pick(&[0, 1, u32::MAX, 1 << 31, 100_000, 100_001]);
+        let ends = [0, 1, u32::MAX, 1 << 31, 100_000, 100_001, 1_600_000, 1_600_001];
+        let number: u32 = random.pick(&ends);
         bytes[at..at + 4].copy_from_slice(&number.to_le_bytes());
     }
 }
@@ -57,11 +65,12 @@ fn counted(random: &mut Random, bytes: &mut Vec<u8>) {
     let cores = random.index(10);
     let tasks = random.index(18);
     let slack = if random.once_in(2) { tasks } else { random.index(18) };
-    bytes.resize(4 + cores + 12 * tasks + 4 * slack, 0);
-    replace(bytes, 0, 1);
+    let (edition, size) = random.pick(&[(1, 12), (2, 16)]);
+    bytes.resize(4 + cores + size * tasks + 4 * slack, 0);
+    replace(bytes, 0, edition);
     replace(bytes, 1, cores as u8);
     replace(bytes, 2 + cores, tasks as u8);
-    replace(bytes, 3 + cores + 12 * tasks, slack as u8);
+    replace(bytes, 3 + cores + size * tasks, slack as u8);
     let rising = random.once_in(2);
     for (core, label) in bytes[2..2 + cores].iter_mut().enumerate() {
         if rising {

@@ -6,13 +6,15 @@
 //! clause of soundness. Release logs: ones that keep their table, ones that do not, and damaged
 //! bytes. Refusals to be told: of known and of unknown numbers, and pairs that differ in little.
 //! Wish sheets: ones with room, ones at the edge of having a solution, ones with wishes at the ends
-//! of their range, faulty ones, and the slowest that were found.
+//! of their range, faulty ones, and the slowest that were found. Of tables, and of what is made
+//! from them, about half are of edition 1 and half of edition 2; what is timed is of edition 1.
 
 #![forbid(unsafe_code)]
 
 mod damaged_logs;
 mod damaged_states;
 mod damaged_tables;
+mod editions;
 mod faulty_sheets;
 mod faulty_tables;
 mod log_tables;
@@ -29,8 +31,9 @@ mod wish_sheets;
 pub use damaged_logs::{damaged_log, noise_log};
 pub use damaged_states::damaged_state;
 pub use damaged_tables::{damaged_table, noise_table};
-pub use faulty_sheets::{faulty_sheet, offering_sheet};
-pub use faulty_tables::faulty_table;
+pub use editions::{either, with_deadlines};
+pub use faulty_sheets::{faulty_sheet, offering_sheet, sheet_with_bad_deadlines};
+pub use faulty_tables::{faulty_table, table_with_bad_deadlines};
 pub use log_tables::{any_accepted, short_accepted};
 pub use logs::{LogKind, log};
 pub use offering_tables::offered;

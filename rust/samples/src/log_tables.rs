@@ -1,9 +1,9 @@
 //! Tables to run logs on.
 
 use crate::offering_tables::with_offer;
-use crate::plain_tables::{labels, loaded, offset};
+use crate::plain_tables::{loaded, offset, without_slack};
 use crate::tight_tables::tight_with;
-use crate::{Random, Shape, any_tight, long, mixed, offered, steep};
+use crate::{Random, Shape, any_tight, either, long, mixed, offered, steep};
 use reference::{Table, Task};
 
 /// Separations that have a small H among themselves.
@@ -43,7 +43,8 @@ fn accepted(random: &mut Random, make: fn(&mut Random) -> Table) -> Table {
 fn short_tight(random: &mut Random) -> Table {
     let shape = Shape::any(random);
     let separations = random.pick(&SHORT);
-    tight_with(random, shape, &separations)
+    let table = tight_with(random, shape, &separations);
+    either(random, table)
 }
 
 fn short_loaded(random: &mut Random) -> Table {
@@ -70,12 +71,13 @@ fn held_up(random: &mut Random) -> Table {
     let mut tasks = Vec::new();
     for _ in 0..cores {
         let budget = random.between(least, most);
-        tasks.push(Task { separation, budget, offset: random.pick(&[0, 0, 1, 2]) });
+        tasks.push(Task::new(separation, budget, random.pick(&[0, 0, 1, 2])));
     }
     for _ in 0..random.pick(&[1, 1, 2]) {
         let separation = random.pick(&[1, 1, 2, 3]);
-        let offset = offset(random, separation);
-        tasks.insert(random.index(tasks.len() + 1), Task { separation, budget: 1, offset });
+        let task = Task::new(separation, 1, offset(random, separation));
+        tasks.insert(random.index(tasks.len() + 1), task);
     }
-    Table { labels: labels(random, cores), tasks, slack: vec![] }
+    let table = without_slack(random, cores, tasks);
+    either(random, table)
 }

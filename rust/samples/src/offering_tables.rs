@@ -1,7 +1,7 @@
 //! Tables that offer slack: at compliance, one below and one above it, zeros, and 2^32 − 1.
 
-use crate::plain_tables::labels;
-use crate::{Random, Shape, long, mixed, steep, tight};
+use crate::plain_tables::without_slack;
+use crate::{Random, any_tight, either, long, mixed, steep};
 use reference::{Analysis, Table, Task};
 
 /// A table that offers slack on either side of compliance for some task.
@@ -10,10 +10,7 @@ pub fn offered(random: &mut Random) -> Table {
         0 => flat(random),
         1 => steep(random),
         2 => long(random),
-        3 => {
-            let shape = Shape::any(random);
-            tight(random, shape)
-        }
+        3 => any_tight(random),
         _ => mixed(random),
     };
     with_offer(random, table)
@@ -36,7 +33,7 @@ fn flat(random: &mut Random) -> Table {
     let mut tasks = Vec::new();
     for _ in 0..count {
         let separation = budget * random.pick(&[2, 3, 4, 8, 12, 16, 24]);
-        tasks.push(Task { separation, budget, offset: separation });
+        tasks.push(Task::new(separation, budget, separation));
     }
     let task = random.index(count);
     match random.index(4) {
@@ -44,7 +41,8 @@ fn flat(random: &mut Random) -> Table {
         1 if budget > 1 => tasks[task].budget -= 1,
         _ => {}
     }
-    Table { labels: labels(random, 2), tasks, slack: vec![] }
+    let table = without_slack(random, 2, tasks);
+    either(random, table)
 }
 
 /// What each entry is to be at least, before the vector is raised to a compliant one.

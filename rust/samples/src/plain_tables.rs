@@ -1,6 +1,6 @@
 //! Tables of valid shape without slack: they pass 1 to 8, most of them 9 and 10 too.
 
-use crate::Random;
+use crate::{Random, either};
 use reference::{Table, Task};
 
 /// The factors of composite numbers, the small ones more often.
@@ -71,20 +71,22 @@ pub fn steep(random: &mut Random) -> Table {
     for _ in 0..=cores {
         let budget = random.between(budget, budget + spread);
         let early = if random.once_in(3) { random.between(0, spread) } else { 0 };
-        tasks.push(Task { separation: long, budget, offset: long - early });
+        tasks.push(Task::new(long, budget, long - early));
     }
     let short = random.pick(&[1, 1, 2, long / 25, long / 10]).max(1);
     let place = random.index(tasks.len());
-    tasks[place] = Task {
-        separation: short,
-        budget: random.between(1, short),
-        offset: random.between(0, short),
-    };
-    Table { labels: labels(random, cores), tasks, slack: vec![] }
+    tasks[place] = Task::new(short, random.between(1, short), random.between(0, short));
+    let table = without_slack(random, cores, tasks);
+    either(random, table)
+}
+
+/// These tasks on cores with any labels, in edition 1.
+pub fn without_slack(random: &mut Random, cores: usize, tasks: Vec<Task>) -> Table {
+    Table { edition: 1, labels: labels(random, cores), tasks, slack: vec![] }
 }
 
 /// Labels 0 to 63, strictly rising.
-pub fn labels(random: &mut Random, cores: usize) -> Vec<u8> {
+fn labels(random: &mut Random, cores: usize) -> Vec<u8> {
     let mut chosen = 0u64;
     while (chosen.count_ones() as usize) < cores {
         chosen |= 1 << random.index(64);
@@ -137,8 +139,9 @@ pub fn loaded(random: &mut Random, cores: usize, separations: &[u32]) -> Table {
         let most = u64::from(separation);
         let budget = most * cores as u64 * weight * percent / (100 * sum);
         let budget = budget.clamp(1, most) as u32;
-        Task { separation, budget, offset: offset(random, separation) }
+        Task::new(separation, budget, offset(random, separation))
     });
     let tasks = tasks.collect();
-    Table { labels: labels(random, cores), tasks, slack: vec![] }
+    let table = without_slack(random, cores, tasks);
+    either(random, table)
 }

@@ -4,7 +4,7 @@
 //! up to m × H or one less, so that A rises by as much as m × H × x does: each round adds 1 to the
 //! number that all slack depends on, nearly m × T times.
 
-use reference::{Table, Task};
+use reference::Table;
 
 /// Separation, budget and wish.
 type Wish = (u32, u32, u32);
@@ -83,15 +83,16 @@ const THREE_UNSOLVED: [Wish; 3] =
 const THREE_SOLVED: [Wish; 3] =
     [(100_000, 95_699, 1_600_000), (100_000, 52_162, 173_936), (100_000, 52_138, 173_912)];
 
-/// Sheets of 16 and of 9 loops on 8 cores and of 3 on 2, each without a solution and with one.
+/// Sheets of edition 1, of 16 and of 9 loops on 8 cores and of 3 on 2, each without a solution and
+/// with one.
 pub fn slow_sheets() -> Vec<Table> {
     vec![
-        sheet(8, &SIXTEEN_UNSOLVED),
-        sheet(8, &SIXTEEN_SOLVED),
-        sheet(8, &NINE_UNSOLVED),
-        sheet(8, &NINE_SOLVED),
-        sheet(2, &THREE_UNSOLVED),
-        sheet(2, &THREE_SOLVED),
+        Table::of(8, &SIXTEEN_UNSOLVED),
+        Table::of(8, &SIXTEEN_SOLVED),
+        Table::of(8, &NINE_UNSOLVED),
+        Table::of(8, &NINE_SOLVED),
+        Table::of(2, &THREE_UNSOLVED),
+        Table::of(2, &THREE_SOLVED),
     ]
 }
 
@@ -101,12 +102,7 @@ pub fn slow_sheets() -> Vec<Table> {
 pub fn deep_sheets() -> [Table; 2] {
     let mut wishes = [(100_000, 100_000, 799_000); 9];
     wishes[7..].fill((100_000, 49_500, 754_813));
-    let solved = sheet(8, &wishes);
+    let solved = Table::of(8, &wishes);
     wishes[8].2 -= 1;
-    [sheet(8, &wishes), solved]
-}
-
-fn sheet(cores: u8, wishes: &[Wish]) -> Table {
-    let task = |&(separation, budget, offset): &Wish| Task { separation, budget, offset };
-    Table { labels: (0..cores).collect(), tasks: wishes.iter().map(task).collect(), slack: vec![] }
+    [Table::of(8, &wishes), solved]
 }

@@ -1,8 +1,8 @@
 //! Engine states that are sound: busy ones, ones with equal priority points, and ones near the
 //! clock's end. Not all of them can be reached from an opening.
 
-use crate::plain_tables::{labels, offset};
-use crate::{Random, Shape, any_tight, mixed, offered, steep};
+use crate::plain_tables::{offset, without_slack};
+use crate::{Random, Shape, any_tight, either, mixed, offered, steep};
 use reference::{Job, LAST_TICK, MOST_JOBS, Plan, State, Table, Task, judge, open, set_queue};
 
 /// Separations whose least common multiple is 120.
@@ -19,7 +19,8 @@ pub fn accepted_plan(random: &mut Random) -> Plan {
             3 => any_tight(random),
             _ => {
                 let shape = Shape::any(random);
-                brisk(random, shape)
+                let table = brisk(random, shape);
+                either(random, table)
             }
         };
         if let Ok(plan) = judge(&table.bytes()) {
@@ -28,17 +29,17 @@ pub fn accepted_plan(random: &mut Random) -> Plan {
     }
 }
 
-/// A table of short tasks; most are accepted.
+/// A table of short tasks, in edition 1; most are accepted.
 pub fn brisk(random: &mut Random, shape: Shape) -> Table {
     let most = 1 + shape.cores as u32;
     let tasks = (0..shape.tasks).map(|_| {
         let separation = random.pick(&BRISK);
         let share = (separation * most / shape.tasks as u32).clamp(1, separation);
         let budget = random.between(1, share);
-        Task { separation, budget, offset: offset(random, separation) }
+        Task::new(separation, budget, offset(random, separation))
     });
     let tasks = tasks.collect();
-    Table { labels: labels(random, shape.cores), tasks, slack: vec![] }
+    without_slack(random, shape.cores, tasks)
 }
 
 /// A sound state of a plan, at any clock, each task with any number of jobs.

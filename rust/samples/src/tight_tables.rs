@@ -1,16 +1,17 @@
 //! Tables whose shares add up to exactly m × H, and to a little more.
 
-use crate::plain_tables::{composite, divisor, labels, offset};
-use crate::{Random, Shape};
+use crate::plain_tables::{composite, divisor, offset, without_slack};
+use crate::{Random, Shape, either};
 use reference::{Table, Task};
 
 /// A table without slack, of any shape, whose shares add up to exactly m × H.
 pub fn any_tight(random: &mut Random) -> Table {
     let shape = Shape::any(random);
-    tight(random, shape)
+    let table = tight(random, shape);
+    either(random, table)
 }
 
-/// A table without slack of this shape whose shares add up to exactly m × H.
+/// A table without slack of this shape whose shares add up to exactly m × H, in edition 1.
 pub fn tight(random: &mut Random, shape: Shape) -> Table {
     let separations = separations(random);
     tight_with(random, shape, &separations)
@@ -27,7 +28,7 @@ pub fn tight_with(random: &mut Random, shape: Shape, separations: &[u32]) -> Tab
         let (filled, members) = group(random, cores, left);
         let separation = long_enough(*separation, members);
         for budget in parts(random, filled as u32 * separation, members, separation) {
-            tasks.push(Task { separation, budget, offset: offset(random, separation) });
+            tasks.push(Task::new(separation, budget, offset(random, separation)));
         }
         cores -= filled;
         left -= members;
@@ -36,7 +37,7 @@ pub fn tight_with(random: &mut Random, shape: Shape, separations: &[u32]) -> Tab
         }
     }
     shuffle(random, &mut tasks);
-    Table { labels: labels(random, shape.cores), tasks, slack: vec![] }
+    without_slack(random, shape.cores, tasks)
 }
 
 /// Separations for the groups: two with a product just below 1,000,000, or divisors of a number.
@@ -50,8 +51,8 @@ fn separations(random: &mut Random) -> Vec<u32> {
 }
 
 /// A tight table with one budget one higher, so that the shares are more than m × H.
-pub fn overfull(random: &mut Random, shape: Shape) -> Table {
-    let mut table = tight(random, shape);
+pub fn overfull(random: &mut Random) -> Table {
+    let mut table = any_tight(random);
     let raisable: Vec<usize> = (0..table.tasks.len())
         .filter(|&i| table.tasks[i].budget < table.tasks[i].separation)
         .collect();

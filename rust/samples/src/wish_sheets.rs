@@ -1,8 +1,8 @@
 //! Wish sheets: tables with the wished bound W in the offset's place and slack count 0.
 
-use crate::plain_tables::labels;
+use crate::plain_tables::without_slack;
 use crate::tight_tables::tight_with;
-use crate::{Random, Shape, any_tight, long, mixed, steep, tight};
+use crate::{Random, Shape, any_tight, either, long, mixed, steep, tight};
 use reference::{Table, Task, judge};
 
 /// Separations of sheets that may take as many rounds as m × T.
@@ -28,7 +28,8 @@ pub fn tight_sheet(random: &mut Random) -> Table {
     sheet(random, table)
 }
 
-/// A sheet of this shape with wishes that leave room, and with shares that add up to exactly m × H.
+/// A sheet of edition 1 and of this shape with wishes that leave room, and with shares that add up
+/// to exactly m × H.
 pub fn wishing(random: &mut Random, shape: Shape) -> Table {
     let table = tight(random, shape);
     with_room(random, table)
@@ -59,12 +60,13 @@ pub fn tiny_sheet(random: &mut Random) -> Table {
         let task = |random: &mut Random| {
             let separation = random.between(1, 3);
             let budget = random.between(1, separation);
-            Task { separation, budget, offset: budget + random.between(0, 6) }
+            Task::new(separation, budget, budget + random.between(0, 6))
         };
         let tasks: Vec<Task> = (0..3).map(|_| task(random)).collect();
         let share = |task: &Task| 6 / task.separation * task.budget;
         if tasks.iter().map(share).sum::<u32>() <= 2 * 6 {
-            return Table { labels: labels(random, 2), tasks, slack: vec![] };
+            let sheet = without_slack(random, 2, tasks);
+            return either(random, sheet);
         }
     }
 }
@@ -101,7 +103,7 @@ fn lingering(random: &mut Random) -> Table {
         let multiple = if k < shape.cores - 1 { 16 } else { 8 };
         task.offset = multiple * task.separation;
     }
-    sheet
+    either(random, sheet)
 }
 
 /// A table of any of the kinds whose loops wishes are made for.
@@ -113,7 +115,8 @@ fn any_loops(random: &mut Random) -> Table {
 fn brisk_tight(random: &mut Random) -> Table {
     let shape = Shape::any(random);
     let separations = random.pick(&BRISK);
-    tight_with(random, shape, &separations)
+    let table = tight_with(random, shape, &separations);
+    either(random, table)
 }
 
 /// The table with the bounds of its own plan as wishes, or some ticks more, where it has one.

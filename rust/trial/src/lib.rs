@@ -9,6 +9,7 @@ mod ffi {
     // behind the references, and the functions keep none of them, so a call is safe.
     unsafe extern "C" {
         pub safe fn trial_release(
+            edition: &mut u8,
             offered: &mut bool,
             cores: &mut usize,
             tasks: &mut usize,
@@ -16,6 +17,7 @@ mod ffi {
             separation: &mut [u32; 16],
             budget: &mut [u32; 16],
             offset: &mut [u32; 16],
+            deadline: &mut [u32; 16],
             slack: &mut [u32; 16],
             clock: &mut u32,
             jobs: &mut [usize; 16],
@@ -28,6 +30,7 @@ mod ffi {
         ) -> u64;
 
         pub safe fn trial_steps(
+            edition: &mut u8,
             offered: &mut bool,
             cores: &mut usize,
             tasks: &mut usize,
@@ -35,6 +38,7 @@ mod ffi {
             separation: &mut [u32; 16],
             budget: &mut [u32; 16],
             offset: &mut [u32; 16],
+            deadline: &mut [u32; 16],
             slack: &mut [u32; 16],
             clock: &mut u32,
             jobs: &mut [usize; 16],
@@ -53,6 +57,7 @@ mod ffi {
 macro_rules! on_fields {
     ($function:path, $state:ident, $($other:expr),+) => {
         $function(
+            &mut $state.edition,
             &mut $state.offered,
             &mut $state.cores,
             &mut $state.tasks.count,
@@ -60,6 +65,7 @@ macro_rules! on_fields {
             &mut $state.tasks.separation,
             &mut $state.tasks.budget,
             &mut $state.tasks.offset,
+            &mut $state.tasks.deadline,
             &mut $state.slack,
             &mut $state.clock,
             &mut $state.jobs,
