@@ -20,6 +20,15 @@ fn judge(table: Draft, words: &[u8]) {
     judged::bytes(words, front(&bytes, table.length));
 }
 
+// `text NAME`: what the program `plan` prints for the table in the making.
+fn printed(table: Draft, words: &[u8]) {
+    let bytes = table.bytes;
+    let mut out = [0u8; text::LONGEST];
+    say::case(b"text ", words);
+    let length = text::text(front(&bytes, table.length), &mut out);
+    say::text(front(&out, length));
+}
+
 // `wish NAME`: the table in the making is the sheet.
 fn wish(table: Draft, words: &[u8]) {
     let bytes = table.bytes;
@@ -78,6 +87,10 @@ fn release(state: State, words: &[u8]) -> State {
 fn of_table(table: Draft, what: &[u8], words: &[u8]) -> bool {
     if check::same(what, b"judge") {
         judge(table, words);
+        return true;
+    }
+    if check::same(what, b"text") {
+        printed(table, words);
         return true;
     }
     if check::same(what, b"wish") {
