@@ -4,6 +4,8 @@ use tasks::Plan;
 use test_engine::calls;
 use test_engine::lent::lent;
 use test_logs::run;
+use test_script::buffer::FILL;
+use test_script::buffer::untouched;
 use test_script::line::front;
 use test_script::line::number;
 use test_script::line::rest;
@@ -20,13 +22,18 @@ fn judge(table: Draft, words: &[u8]) {
     judged::bytes(words, front(&bytes, table.length));
 }
 
+fn say_printed(buffer: &[u8; text::LONGEST], length: usize) {
+    say::text(front(buffer, length));
+    say::fact(b"later bytes stay", untouched(buffer, length));
+}
+
 // `text NAME`: what the program `plan` prints for the table in the making.
 fn printed(table: Draft, words: &[u8]) {
     let bytes = table.bytes;
-    let mut out = [0u8; text::LONGEST];
+    let mut buffer = [FILL; text::LONGEST];
     say::case(b"text ", words);
-    let length = text::text(front(&bytes, table.length), &mut out);
-    say::text(front(&out, length));
+    let length = text::text(front(&bytes, table.length), &mut buffer);
+    say_printed(&buffer, length);
 }
 
 // `wish NAME`: the table in the making is the sheet.
