@@ -4,6 +4,8 @@ use tasks::Plan;
 use test_engine::calls;
 use test_engine::lent::lent;
 use test_logs::run;
+use test_script::buffer::FILL;
+use test_script::buffer::untouched;
 use test_script::line::front;
 use test_script::line::number;
 use test_script::line::rest;
@@ -18,6 +20,20 @@ use test_world::world::World;
 fn judge(table: Draft, words: &[u8]) {
     let bytes = table.bytes;
     judged::bytes(words, front(&bytes, table.length));
+}
+
+fn say_printed(buffer: &[u8; text::LONGEST], length: usize) {
+    say::text(front(buffer, length));
+    say::fact(b"later bytes stay", untouched(buffer, length));
+}
+
+// `text NAME`: what the program `plan` prints for the table in the making.
+fn printed(table: Draft, words: &[u8]) {
+    let bytes = table.bytes;
+    let mut buffer = [FILL; text::LONGEST];
+    say::case(b"text ", words);
+    let length = text::text(front(&bytes, table.length), &mut buffer);
+    say_printed(&buffer, length);
 }
 
 // `wish NAME`: the table in the making is the sheet.
@@ -78,6 +94,10 @@ fn release(state: State, words: &[u8]) -> State {
 fn of_table(table: Draft, what: &[u8], words: &[u8]) -> bool {
     if check::same(what, b"judge") {
         judge(table, words);
+        return true;
+    }
+    if check::same(what, b"text") {
+        printed(table, words);
         return true;
     }
     if check::same(what, b"wish") {

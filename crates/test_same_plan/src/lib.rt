@@ -15,15 +15,24 @@ fn same_labels(a: Plan, b: Plan) -> bool {
     true
 }
 
-fn same_task(a: Task, b: Task) -> bool {
-    a.separation == b.separation && a.budget == b.budget && a.offset == b.offset
+// A deadline is an entry in edition 2 alone.
+fn same_deadline(edition: u8, a: Task, b: Task) -> bool {
+    edition != 2 || a.deadline == b.deadline
+}
+
+fn same_task(edition: u8, a: Task, b: Task) -> bool {
+    a.separation == b.separation
+        && a.budget == b.budget
+        && a.offset == b.offset
+        && same_deadline(edition, a, b)
 }
 
 fn same_tasks(a: Plan, b: Plan) -> bool {
+    let edition = a.edition;
     let tasks = a.tasks;
     let mut i = 0;
     while i < 16 {
-        if i < tasks && !same_task(a.task[i], b.task[i]) {
+        if i < tasks && !same_task(edition, a.task[i], b.task[i]) {
             return false;
         }
         if i < tasks && a.slack[i] != b.slack[i] {
@@ -34,9 +43,10 @@ fn same_tasks(a: Plan, b: Plan) -> bool {
     true
 }
 
-// "two plans are the same if their used entries and that mark agree".
+// "two plans are the same if their used entries and that mark agree", and "only if editions agree too".
 pub fn same_plan(a: Plan, b: Plan) -> bool {
-    a.offered == b.offered
+    a.edition == b.edition
+        && a.offered == b.offered
         && a.cores == b.cores
         && a.tasks == b.tasks
         && same_labels(a, b)
@@ -67,12 +77,27 @@ fn clear_tasks(plan: Plan, from: usize) -> bool {
     true
 }
 
-// "Core and loop places that a plan doesn't use are handed back as zeros".
+// Whether every deadline is 0.
+fn clear_deadlines(plan: Plan) -> bool {
+    let mut i = 0;
+    while i < 16 {
+        let task = plan.task[i];
+        if task.deadline != 0 {
+            return false;
+        }
+        i += 1;
+    }
+    true
+}
+
+// "Core and loop places that a plan doesn't use are handed back as zeros"; the deadline is "an unused place in edition 1".
 pub fn unused_zero(plan: Plan) -> bool {
-    clear_labels(plan, plan.cores) && clear_tasks(plan, plan.tasks)
+    clear_labels(plan, plan.cores)
+        && clear_tasks(plan, plan.tasks)
+        && (plan.edition == 2 || clear_deadlines(plan))
 }
 
 // "A refused judgement … hands back a plan … of zeros".
 pub fn all_zero(plan: Plan) -> bool {
-    !plan.offered && plan.cores == 0 && plan.tasks == 0 && unused_zero(plan)
+    plan.edition == 0 && !plan.offered && plan.cores == 0 && plan.tasks == 0 && unused_zero(plan)
 }

@@ -61,7 +61,10 @@ fn same_places(a: &[u32; 256], b: &[u32; 256]) -> bool {
 }
 
 fn same_task(a: Task, b: Task) -> bool {
-    a.separation == b.separation && a.budget == b.budget && a.offset == b.offset
+    a.separation == b.separation
+        && a.budget == b.budget
+        && a.offset == b.offset
+        && a.deadline == b.deadline
 }
 
 fn same_tasks(a: [Task; 16], b: [Task; 16]) -> bool {
@@ -77,7 +80,10 @@ fn same_tasks(a: [Task; 16], b: [Task; 16]) -> bool {
 
 // Two table parts, their unused places too.
 pub fn same_table(a: Plan, b: Plan) -> bool {
-    if a.offered != b.offered || a.cores != b.cores || a.tasks != b.tasks {
+    if a.edition != b.edition || a.offered != b.offered {
+        return false;
+    }
+    if a.cores != b.cores || a.tasks != b.tasks {
         return false;
     }
     let labels = a.labels;

@@ -53,3 +53,26 @@ pub fn bytes(words: &[u8], part: &[u8]) {
     }
     text(b"\n");
 }
+
+// The edition, where it is not 1.
+pub fn edition(edition: u8) {
+    if edition != 1 {
+        number(b" edition ", edition as u64);
+    }
+}
+
+// "the larger of 0 and bound − D".
+fn late(bound: u64, deadline: u64) -> u64 {
+    if bound < deadline {
+        return 0;
+    }
+    bound - deadline
+}
+
+// A loop's deadline and its late, which edition 2 has.
+pub fn deadline(edition: u8, deadline: u32, bound: u64) {
+    if edition == 2 {
+        number(b" deadline ", deadline as u64);
+        number(b" late ", late(bound, deadline as u64));
+    }
+}

@@ -1,23 +1,23 @@
 // Bytes in the making, of a table or a log: they are added in the order that document 01 gives them, right or wrong.
 use test_script::line;
 
-// The first `length` of the bytes count. The longest table has 4,339.
+// The first `length` of the bytes count. The longest table has 5,359.
 pub struct Draft {
-    pub bytes: [u8; 4400],
+    pub bytes: [u8; 5400],
     pub length: usize,
 }
 
 pub fn empty() -> Draft {
     Draft {
-        bytes: [0; 4400],
+        bytes: [0; 5400],
         length: 0,
     }
 }
 
-// Beyond 4,400 bytes nothing is added.
+// Beyond 5,400 bytes nothing is added.
 pub fn byte(mut draft: Draft, value: u64) -> Draft {
     let at = draft.length;
-    if at >= 4400 {
+    if at >= 5400 {
         return draft;
     }
     draft.bytes[at] = (value % 256) as u8;
@@ -44,17 +44,6 @@ pub fn fill(draft: Draft, count: u64, value: u64) -> Draft {
     next
 }
 
-// A loop (T, C, Y) `count` times.
-pub fn loops(draft: Draft, count: u64, separation: u64, budget: u64, offset: u64) -> Draft {
-    let mut next = draft;
-    let mut i = 0;
-    while i < count {
-        next = number(number(number(next, separation), budget), offset);
-        i += 1;
-    }
-    next
-}
-
 // The numbers of a line from `from` on, one byte each.
 pub fn bytes(draft: Draft, words: &[u8], from: usize) -> Draft {
     let mut next = draft;
@@ -75,6 +64,17 @@ pub fn numbers(draft: Draft, words: &[u8], from: usize) -> Draft {
         let token = line::number(words, at);
         next = number(next, token.value);
         at = line::onward(words, at, token.next);
+    }
+    next
+}
+
+// The same numbers `count` times: as many loops, (T, C, Y) in edition 1 and (T, C, Y, D) in edition 2.
+pub fn loops(draft: Draft, count: u64, words: &[u8], from: usize) -> Draft {
+    let mut next = draft;
+    let mut i = 0;
+    while i < count {
+        next = numbers(next, words, from);
+        i += 1;
     }
     next
 }

@@ -2,36 +2,40 @@
 use crate::written;
 use tasks::Answer;
 use tasks::Plan;
+use tasks::Task;
 use test_same_plan::all_zero;
 use test_same_plan::unused_zero;
 use test_script::say;
 
 // 64 bits hold the bound of any offered slack.
-fn bound(offset: u32, slack: u32, budget: u32) -> u64 {
-    offset as u64 + slack as u64 + budget as u64
+fn bound(task: Task, slack: u32) -> u64 {
+    task.offset as u64 + slack as u64 + task.budget as u64
 }
 
-fn say_task(i: usize, offset: u32, slack: u32, budget: u32) {
+fn say_task(i: usize, edition: u8, task: Task, slack: u32) {
     say::number(b"loop ", i as u64);
     say::number(b" slack ", slack as u64);
-    say::number(b" bound ", bound(offset, slack, budget));
+    say::number(b" bound ", bound(task, slack));
+    say::deadline(edition, task.deadline, bound(task, slack));
     say::text(b"\n");
 }
 
 fn say_tasks(plan: Plan) {
+    let edition = plan.edition;
     let tasks = plan.tasks;
     let mut i = 0;
     while i < 16 {
         if i < tasks {
-            let task = plan.task[i];
-            say_task(i, task.offset, plan.slack[i], task.budget);
+            say_task(i, edition, plan.task[i], plan.slack[i]);
         }
         i += 1;
     }
 }
 
 fn say_plan(plan: Plan) {
-    say::number(b"judge accepted cores ", plan.cores as u64);
+    say::text(b"judge accepted");
+    say::edition(plan.edition);
+    say::number(b" cores ", plan.cores as u64);
     say::number(b" loops ", plan.tasks as u64);
     if plan.offered {
         say::text(b" slack offered\n");

@@ -1,6 +1,7 @@
 // A wish sheet's case: what `wish` answers to it, and what the judge says of the plan that it found.
 use tasks::Answer;
 use tasks::Plan;
+use tasks::Task;
 use test_same_plan::all_zero;
 use test_same_plan::same_plan;
 use test_same_plan::unused_zero;
@@ -9,21 +10,23 @@ use test_script::line::front;
 use test_script::say;
 use writer::Written;
 
-fn say_task(i: usize, offset: u32, slack: u32, budget: u32) {
+fn say_task(i: usize, edition: u8, task: Task, slack: u32) {
+    let bound = task.offset as u64 + slack as u64 + task.budget as u64;
     say::number(b"loop ", i as u64);
-    say::number(b" offset ", offset as u64);
+    say::number(b" offset ", task.offset as u64);
     say::number(b" slack ", slack as u64);
-    say::number(b" bound ", offset as u64 + slack as u64 + budget as u64);
+    say::number(b" bound ", bound);
+    say::deadline(edition, task.deadline, bound);
     say::text(b"\n");
 }
 
 fn say_tasks(plan: Plan) {
+    let edition = plan.edition;
     let tasks = plan.tasks;
     let mut i = 0;
     while i < 16 {
         if i < tasks {
-            let task = plan.task[i];
-            say_task(i, task.offset, plan.slack[i], task.budget);
+            say_task(i, edition, plan.task[i], plan.slack[i]);
         }
         i += 1;
     }
@@ -47,7 +50,9 @@ fn say_written(plan: Plan) {
 }
 
 fn say_plan(plan: Plan) {
-    say::number(b"wish accepted cores ", plan.cores as u64);
+    say::text(b"wish accepted");
+    say::edition(plan.edition);
+    say::number(b" cores ", plan.cores as u64);
     say::number(b" loops ", plan.tasks as u64);
     if plan.offered {
         say::text(b" slack offered\n");

@@ -5,19 +5,10 @@ use test_script::say;
 use test_tables::draft;
 use test_tables::draft::Draft;
 
-// `loops N T C Y`: N loops.
+// `loops N T C Y` or `loops N T C Y D`: N loops.
 fn loops(draft: Draft, words: &[u8]) -> Draft {
     let count = number(words, 0);
-    let separation = number(words, count.next);
-    let budget = number(words, separation.next);
-    let offset = number(words, budget.next);
-    draft::loops(
-        draft,
-        count.value,
-        separation.value,
-        budget.value,
-        offset.value,
-    )
+    draft::loops(draft, count.value, words, count.next)
 }
 
 // `entry TICK LOOP DEMAND`.

@@ -29,7 +29,7 @@ fn label(mut plan: Plan, words: &[u8]) -> Plan {
     plan
 }
 
-// `loop I T C Y`.
+// `loop I T C Y`: the deadline stays.
 fn task(mut plan: Plan, words: &[u8]) -> Plan {
     let place = number(words, 0);
     let separation = number(words, place.next);
@@ -39,10 +39,30 @@ fn task(mut plan: Plan, words: &[u8]) -> Plan {
     if i >= 16 {
         return plan;
     }
+    let before = plan.task[i];
     plan.task[i] = Task {
         separation: narrow(separation.value),
         budget: narrow(budget.value),
         offset: narrow(offset.value),
+        deadline: before.deadline,
+    };
+    plan
+}
+
+// `deadline I D`.
+fn deadline(mut plan: Plan, words: &[u8]) -> Plan {
+    let place = number(words, 0);
+    let value = number(words, place.next);
+    let i = place.value as usize;
+    if i >= 16 {
+        return plan;
+    }
+    let before = plan.task[i];
+    plan.task[i] = Task {
+        separation: before.separation,
+        budget: before.budget,
+        offset: before.offset,
+        deadline: narrow(value.value),
     };
     plan
 }
@@ -59,9 +79,13 @@ fn slack(mut plan: Plan, words: &[u8]) -> Plan {
     plan
 }
 
-// `offered 1` or `offered 0`, `cores N`, `loops N`.
+// `edition E`, `offered 1` or `offered 0`, `cores N`, `loops N`.
 fn counts(mut plan: Plan, what: &[u8], words: &[u8]) -> Plan {
     let value = number(words, 0);
+    if check::same(what, b"edition") {
+        plan.edition = (value.value % 256) as u8;
+        return plan;
+    }
     if check::same(what, b"offered") {
         plan.offered = value.value == 1;
         return plan;
@@ -84,6 +108,9 @@ fn changed(plan: Plan, what: &[u8], words: &[u8]) -> Plan {
     }
     if check::same(what, b"loop") {
         return task(plan, words);
+    }
+    if check::same(what, b"deadline") {
+        return deadline(plan, words);
     }
     if check::same(what, b"slack") {
         return slack(plan, words);

@@ -5,10 +5,10 @@ use Rattle.test_same_plan.proofs.same_tasks.Statement.{statement}
 use Rattle.test_same_plan.proofs.same_tasks.Tie as tie
 
 abbrev Inv-loop : tie.InvT-loop
-Inv-loop a b tasks i₀ i = i ≤ 16
+Inv-loop a b edition tasks i₀ i = i ≤ 16
 
 abbrev μ-loop : tie.MeasureT-loop
-μ-loop a b tasks i₀ i = 16 - i
+μ-loop a b edition tasks i₀ i = 16 - i
 
 loop-holds : tie.Need-loop-holds Inv-loop μ-loop
 loop-holds c = search needs

@@ -5,25 +5,25 @@ use Rattle.test_wishes.proofs.say_tasks.Statement.{statement}
 use Rattle.test_wishes.proofs.say_tasks.Tie as tie
 
 abbrev Inv-loop : tie.InvT-loop
-Inv-loop plan tasks i₀ i = i ≤ 16
+Inv-loop plan edition tasks i₀ i = i ≤ 16
 
 abbrev μ-loop : tie.MeasureT-loop
-μ-loop plan tasks i₀ i = 16 - i
+μ-loop plan edition tasks i₀ i = 16 - i
 
 loop-holds : tie.Need-loop-holds Inv-loop μ-loop
 loop-holds c = search needs
-
-mul-task : tie.Need-mul-task Inv-loop μ-loop
-mul-task c = search needs
-
-element-copy-out-task : tie.Need-element-copy-out-task Inv-loop μ-loop
-element-copy-out-task c = search needs
 
 mul-say-task : tie.Need-mul-say-task Inv-loop μ-loop
 mul-say-task c = search needs
 
 element-copy-out-say-task : tie.Need-element-copy-out-say-task Inv-loop μ-loop
 element-copy-out-say-task c = search needs
+
+mul-say-task-2 : tie.Need-mul-say-task-2 Inv-loop μ-loop
+mul-say-task-2 c = search needs
+
+element-copy-out-say-task-2 : tie.Need-element-copy-out-say-task-2 Inv-loop μ-loop
+element-copy-out-say-task-2 c = search needs
 
 say-task-requires : tie.Need-say-task-requires Inv-loop μ-loop
 say-task-requires c κs = search needs
@@ -47,10 +47,10 @@ say-tasks-spec =
     Inv-loop
     μ-loop
     loop-holds
-    mul-task
-    element-copy-out-task
     mul-say-task
     element-copy-out-say-task
+    mul-say-task-2
+    element-copy-out-say-task-2
     say-task-requires
     add-i
     loop-less

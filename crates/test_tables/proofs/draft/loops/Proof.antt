@@ -5,22 +5,16 @@ use Rattle.test_tables.proofs.draft.loops.Statement.{statement}
 use Rattle.test_tables.proofs.draft.loops.Tie as tie
 
 abbrev Inv-loop : tie.InvT-loop
-Inv-loop count separation budget offset next₀ i₀ next i = 0 ≤ i
+Inv-loop count words from next₀ i₀ next i = 0 ≤ i
 
 abbrev μ-loop : tie.MeasureT-loop
-μ-loop count separation budget offset next₀ i₀ next i = count - i
+μ-loop count words from next₀ i₀ next i = count - i
 
 loop-holds : tie.Need-loop-holds Inv-loop μ-loop
 loop-holds c = search needs
 
-number-requires : tie.Need-number-requires Inv-loop μ-loop
-number-requires c κs = search needs
-
-number-requires-2 : tie.Need-number-requires-2 Inv-loop μ-loop
-number-requires-2 c κs = search needs
-
-number-requires-3 : tie.Need-number-requires-3 Inv-loop μ-loop
-number-requires-3 c κs = search needs
+numbers-requires : tie.Need-numbers-requires Inv-loop μ-loop
+numbers-requires c κs = search needs
 
 add-i : tie.Need-add-i Inv-loop μ-loop
 add-i c = search needs
@@ -37,14 +31,4 @@ returns c = search needs
 pub loops-spec : {M : Type 1} → statement M
 loops-spec =
     tie.close
-    (tie.spec
-    Inv-loop
-    μ-loop
-    loop-holds
-    number-requires
-    number-requires-2
-    number-requires-3
-    add-i
-    loop-less
-    loop-again
-    returns)
+    (tie.spec Inv-loop μ-loop loop-holds numbers-requires add-i loop-less loop-again returns)
