@@ -24,6 +24,7 @@ use Rattle.table.specs.Judged.{judged}
 use Rattle.roundtrip.specs.RoundTrip.{judged-fits}
 use Rattle.logs.specs.LogBytes.{entryCount, entriesIn, logTest, reportsTo}
 use Rattle.history.specs.Engine.{Engine}
+use Rattle.history.specs.Log.{Entry}
 use Rattle.history.specs.Report.{Report, report, takenCount, refusedCount}
 use Rattle.history.specs.OnMachine.{machineEngine}
 use Rattle.history.specs.PlainEngine.{plain-engine}
@@ -94,6 +95,7 @@ module _ (t u : List ℕ) (a : verdict t ≡ Accepted) (d : verdict u ≡ Accept
   passed room e = firstMet-passed _ _ (firstMet-passed _ _ e .1) .0
 
   module _ (b : logTest l ≡ Accepted) where
+    abbrev L : List Entry
     L = entriesIn l
 
     same-taken : takenCount (runOn t) L ≡ takenCount (runOn u) L
@@ -138,4 +140,4 @@ module _ (t u : List ℕ) (a : verdict t ≡ Accepted) (d : verdict u ≡ Accept
 
   pub same-number : (room : ℕ) → runNumber t l room ≡ runNumber u l room
   unfolding runNumber
-  same-number room = rw (same-run room)
+  same-number room = rw (same-test room, same-run room)

@@ -6,10 +6,10 @@
 --                  found slack than at zeros, and at an offered one than at the found
 --     rows         these are its 19 rows
 --     agrees       whether the definitions say the same of a case
---     Shown, texts, prints    a table's loops and the text that `plan` prints for them
+--     Shown, texts, prints    a table's edition and loops and the text that `plan` prints for them
 --     worked       the definitions agree in every case, with the log run on the abstract machine, and in every text
 --     worked-runs  and so does the delivered engine's run
---     SheetCase, sheets, meets    a wish sheet's loops and what document 02, §3, says of them: P1's, and sheets of ours beside the limits
+--     SheetCase, sheets, meets    a wish sheet's edition and loops and what document 02, §3, says of them: P1's, and sheets of ours beside the limits
 --     worked-sheets               the definitions say the same of every sheet
 use Prim.Native.Nat.{ℕ, suc}
 use Prim.Native.String.{String}
@@ -28,9 +28,9 @@ use Rattle.laws.specs.Multiple.{lcm, lcmBelow}
 use Rattle.tasks.specs.declared.Task.{Task}
 use Rattle.tasks.specs.declared.Answer.{Answer}
 use Rattle.tasks.specs.declared.Answer.the-variants.{Accepted, Refused}
-use Rattle.tasks.specs.TaskSet.{plainTask as loop, hyperperiod, share, weight, surplus, counted, amount, cover, covers, needed, row, raise, found, bound, late}
-use Rattle.tasks.specs.Content.{noTask, taskOf, planOf, zeroPlan, countedOf}
-use Rattle.tasks.specs.Tests.{lowest, firstMet, outside, badLabel, test3, test4, test5, test6, test7, test8, test9, test10, test11, test12, test13, tests, unlessRefused}
+use Rattle.tasks.specs.TaskSet.{plainTask as loop, hyperperiod, share, weight, surplus, counted, amount, cover, covers, needed, row, raise, found, bound}
+use Rattle.tasks.specs.Content.{noTask, taskOf, planOf, zeroPlan, countedOf, lateOf, late}
+use Rattle.tasks.specs.Tests.{lowest, firstMet, outside, badLabel, test3, test4, test5, test6, test7, test8, test28, test9, test10, test11, test12, test13, tests, unlessRefused}
 use Rattle.machine.specs.Machine.{opened, joined, admitted, waiting, point, before, chosen, runs, served, advanced, tick}
 use Rattle.machine.specs.Admission.{joinTests, admitTests}
 use Rattle.history.specs.Engine.{Engine, verdict as asked, demanded, namedTicks}
@@ -43,7 +43,7 @@ use Rattle.laws.specs.Member.{member}
 use Rattle.numbers.specs.Bytes.{byte, number, digits, entries}
 use Rattle.decimal.specs.Decimal.{words, digitsIn, decimal, said}
 use Rattle.text.specs.Printed.{pairLine, countsLine, taskLine, refusalLine, lineOf, countedLine, planLines, planText, printed}
-use Rattle.codec.specs.Table.{coreCount, taskCount, tasksAt, slackCount, slackAt, taskIn, taskSetIn, contentIn, test1, test2, verdict, taskBytes}
+use Rattle.codec.specs.Table.{coreCount, taskCount, tasksAt, slackCount, slackAt, taskIn, taskSetIn, contentIn, test1, test2, verdict, taskSize, plainBytes, taskBytes}
 use Rattle.table.specs.Judged.{countedIn}
 use Rattle.wishes.specs.Wish.{withOffsets, largestOffset, atSlack, wished, passes, noSolution, test26, sheet11, test27, wishTests, solved}
 use Rattle.sheet.specs.Wished.{wishVerdict, wishOf}
@@ -163,15 +163,15 @@ pub concat : List (List ℕ) → List ℕ
 concat [] = []
 concat (a ∷ l) = a ++ concat l
 
--- a table on so many cores, labelled from 0 on
-pub tableWith : ℕ → List Task → List ℕ → List ℕ
-tableWith m loops offered =
-    (1 ∷ m ∷ tab (λ i. i) m)
-    ++ (length loops ∷ concat (map taskBytes loops))
+-- a table of an edition on so many cores, labelled from 0 on
+pub tableWith : ℕ → ℕ → List Task → List ℕ → List ℕ
+tableWith e m loops offered =
+    (e ∷ m ∷ tab (λ i. i) m)
+    ++ (length loops ∷ concat (map (taskBytes e) loops))
     ++ (length offered ∷ concat (map (digits 4) offered))
 
 abbrev tableOf : Case → List ℕ
-tableOf c = tableWith (c .cores) (c .loops) (c .offered)
+tableOf c = tableWith 1 (c .cores) (c .loops) (c .offered)
 
 abbrev entryBytes : Entry → List ℕ
 entryBytes e = digits 4 (e .tick) ++ e .loop ∷ digits 4 (e .demand)
@@ -213,6 +213,7 @@ agreeAll [] = true
 agreeAll (c ∷ l) = agrees c && agreeAll l
 
 pub record Shown : Type 0 where
+  pub edition : ℕ
   pub loops : List Task
   pub text : String
 
@@ -220,21 +221,22 @@ pub record Shown : Type 0 where
 pub texts : List Shown
 texts =
     record {
+      edition = 1;
       loops = p1;
       text = "cores 2 loops 3\nloop 0 slack 6 bound 25 late 15\nloop 1 slack 6 bound 25 late 15\nloop 2 slack 0 bound 110 late 20\ncounted 2\n";
     }
-    ∷ record { loops = loop 10 9 10 ∷ loop 10 11 10 ∷ loop 100 20 90 ∷ []; text = "refused 7 at 1\n" }
+    ∷ record { edition = 1; loops = loop 10 9 10 ∷ loop 10 11 10 ∷ loop 100 20 90 ∷ []; text = "refused 7 at 1\n" }
     ∷ []
 
 pub prints : Shown → Bool
-prints s = sameList (printed (tableWith 2 (s .loops) [])) (words (s .text))
+prints s = sameList (printed (tableWith (s .edition) 2 (s .loops) [])) (words (s .text))
 
 pub printAll : List Shown → Bool
 printAll [] = true
 printAll (s ∷ l) = prints s && printAll l
 
 pub worked : T (agreeAll cases && printAll texts)
-unfolding cases concat tableWith sameAnswer sameList agrees agreeAll first sum sumOver tab cut place ranked largest lcm lcmBelow hyperperiod share weight surplus counted amount cover covers needed row raise same settle found bound noTask lowest firstMet outside badLabel test3 test4 test5 test6 test7 test8 test9 test10 test11 test12 test13 tests byte number digits coreCount taskCount tasksAt slackCount slackAt taskIn taskSetIn contentIn test1 test2 verdict taskBytes logOf sameReport sameBy entryCount entryIn entriesIn test14 test15 logTest opened joinTests admitTests joined admitted waiting point before chosen runs served advanced tick asked demanded namedTicks largestTick back until calls outcome owed allOwed rest whole answerOf handedOf quietOf finishTick report member texts prints printAll late countedOf countedIn printed planText planLines countedLine countsLine taskLine refusalLine pairLine lineOf words said decimal digitsIn entries
+unfolding cases concat tableWith sameAnswer sameList agrees agreeAll first sum sumOver tab cut place ranked largest lcm lcmBelow hyperperiod share weight surplus counted amount cover covers needed row raise same settle found bound noTask lowest firstMet outside badLabel test3 test4 test5 test6 test7 test8 test28 test9 test10 test11 test12 test13 tests byte number digits coreCount taskCount tasksAt slackCount slackAt taskIn taskSetIn contentIn test1 test2 verdict taskSize plainBytes taskBytes logOf sameReport sameBy entryCount entryIn entriesIn test14 test15 logTest opened joinTests admitTests joined admitted waiting point before chosen runs served advanced tick asked demanded namedTicks largestTick back until calls outcome owed allOwed rest whole answerOf handedOf quietOf finishTick report member texts prints printAll lateOf late countedOf countedIn printed planText planLines countedLine countsLine taskLine refusalLine pairLine lineOf words said decimal digitsIn entries
 worked = tt
 
 -- ---- the same of the delivered engine
@@ -307,18 +309,19 @@ worked-runs = all-delivered cases (parts (agreeAll cases) (printAll texts) worke
 -- ---- wish sheets
 
 pub record SheetCase : Type 0 where
+  pub edition : ℕ
   -- each with its wish in the offset's place
   pub loops : List Task
   pub answer : Answer
   pub offsets : List ℕ
   pub slack : List ℕ
 
-abbrev solvedBy : List Task → List ℕ → List ℕ → SheetCase
-solvedBy loops offsets slack = record { loops = loops; answer = Accepted; offsets = offsets; slack = slack }
+abbrev pub solvedBy : ℕ → List Task → List ℕ → List ℕ → SheetCase
+solvedBy e loops offsets slack = record { edition = e; loops = loops; answer = Accepted; offsets = offsets; slack = slack }
 
 -- "A refused judgement … hands back a plan … of zeros", and so does a refused sheet
-abbrev turnedAway : List Task → ℕ → ℕ → SheetCase
-turnedAway loops k i = record { loops = loops; answer = Refused k i; offsets = 0 ∷ 0 ∷ 0 ∷ []; slack = 0 ∷ 0 ∷ 0 ∷ [] }
+abbrev pub turnedAway : ℕ → List Task → ℕ → ℕ → SheetCase
+turnedAway e loops k i = record { edition = e; loops = loops; answer = Refused k i; offsets = 0 ∷ 0 ∷ 0 ∷ []; slack = 0 ∷ 0 ∷ 0 ∷ [] }
 
 -- P1's loops with these wishes
 abbrev p1Wishing : ℕ → ℕ → ℕ → List Task
@@ -328,27 +331,27 @@ p1Wishing u v w = loop 10 9 u ∷ loop 10 9 v ∷ loop 100 20 w ∷ []
 -- one keeps; W = 16 × T, and one tick beyond each limit of 26; P1's third wish where a solution just exists, and one tick less
 pub sheets : List SheetCase
 sheets =
-    solvedBy (p1Wishing 29 99 90) (10 ∷ 10 ∷ 69 ∷ []) (6 ∷ 6 ∷ 1 ∷ [])
-    ∷ turnedAway (loop 2 1 1 ∷ loop 2 1 32 ∷ loop 2 1 32 ∷ []) 27 0
-    ∷ solvedBy (loop 2 1 2 ∷ loop 2 1 32 ∷ loop 2 1 32 ∷ []) (0 ∷ 2 ∷ 2 ∷ []) (1 ∷ 1 ∷ 1 ∷ [])
-    ∷ solvedBy (p1Wishing 160 160 1600) (10 ∷ 10 ∷ 100 ∷ []) (6 ∷ 6 ∷ 0 ∷ [])
-    ∷ turnedAway (p1Wishing 29 99 19) 26 2
-    ∷ turnedAway (p1Wishing 29 161 90) 26 1
-    ∷ solvedBy (p1Wishing 29 99 70) (10 ∷ 10 ∷ 45 ∷ []) (10 ∷ 10 ∷ 5 ∷ [])
-    ∷ turnedAway (p1Wishing 29 99 69) 27 0
+    solvedBy 1 (p1Wishing 29 99 90) (10 ∷ 10 ∷ 69 ∷ []) (6 ∷ 6 ∷ 1 ∷ [])
+    ∷ turnedAway 1 (loop 2 1 1 ∷ loop 2 1 32 ∷ loop 2 1 32 ∷ []) 27 0
+    ∷ solvedBy 1 (loop 2 1 2 ∷ loop 2 1 32 ∷ loop 2 1 32 ∷ []) (0 ∷ 2 ∷ 2 ∷ []) (1 ∷ 1 ∷ 1 ∷ [])
+    ∷ solvedBy 1 (p1Wishing 160 160 1600) (10 ∷ 10 ∷ 100 ∷ []) (6 ∷ 6 ∷ 0 ∷ [])
+    ∷ turnedAway 1 (p1Wishing 29 99 19) 26 2
+    ∷ turnedAway 1 (p1Wishing 29 161 90) 26 1
+    ∷ solvedBy 1 (p1Wishing 29 99 70) (10 ∷ 10 ∷ 45 ∷ []) (10 ∷ 10 ∷ 5 ∷ [])
+    ∷ turnedAway 1 (p1Wishing 29 99 69) 27 0
     ∷ []
 
 -- the first entries of the plan that is handed back, as many as the case has
 pub meets : SheetCase → Bool
 meets c =
-    sameAnswer (wishOf (tableWith 2 (c .loops) []) .answer) (c .answer)
-    && sameList (tab (λ i. taskOf (wishOf (tableWith 2 (c .loops) []) .plan .task) i .offset) (length (c .offsets))) (c .offsets)
-    && sameList (tab (row (wishOf (tableWith 2 (c .loops) []) .plan .slack)) (length (c .slack))) (c .slack)
+    sameAnswer (wishOf (tableWith (c .edition) 2 (c .loops) []) .answer) (c .answer)
+    && sameList (tab (λ i. taskOf (wishOf (tableWith (c .edition) 2 (c .loops) []) .plan .task) i .offset) (length (c .offsets))) (c .offsets)
+    && sameList (tab (row (wishOf (tableWith (c .edition) 2 (c .loops) []) .plan .slack)) (length (c .slack))) (c .slack)
 
 pub meetAll : List SheetCase → Bool
 meetAll [] = true
 meetAll (c ∷ l) = meets c && meetAll l
 
 pub worked-sheets : T (meetAll sheets)
-unfolding sheets meets meetAll concat tableWith sameAnswer sameList first sum sumOver tab cut place ranked largest lcm lcmBelow hyperperiod share weight surplus counted amount cover covers needed row raise same settle noTask taskOf planOf zeroPlan lowest firstMet outside badLabel test3 test4 test5 test6 test7 test9 test10 byte number digits coreCount taskCount tasksAt slackCount slackAt taskIn taskSetIn contentIn test1 test2 taskBytes withOffsets largestOffset atSlack wished passes noSolution test26 sheet11 test27 wishTests solved wishVerdict wishOf
+unfolding sheets meets meetAll concat tableWith sameAnswer sameList first sum sumOver tab cut place ranked largest lcm lcmBelow hyperperiod share weight surplus counted amount cover covers needed row raise same settle noTask taskOf planOf zeroPlan lowest firstMet outside badLabel test3 test4 test5 test6 test7 test28 test9 test10 byte number digits coreCount taskCount tasksAt slackCount slackAt taskIn taskSetIn contentIn test1 test2 taskSize plainBytes taskBytes withOffsets largestOffset atSlack wished passes noSolution test26 sheet11 test27 wishTests solved wishVerdict wishOf
 worked-sheets = tt
