@@ -159,12 +159,12 @@ pub rows : map (λ (c : Case). c .p) cases ≡ 1 ∷ 2 ∷ 3 ∷ 4 ∷ 5 ∷ 6 �
 unfolding cases
 rows = refl
 
-pub concat : List (List ℕ) → List ℕ
+unfoldable pub concat : List (List ℕ) → List ℕ
 concat [] = []
 concat (a ∷ l) = a ++ concat l
 
 -- a table of an edition on so many cores, labelled from 0 on
-pub tableWith : ℕ → ℕ → List Task → List ℕ → List ℕ
+unfoldable pub tableWith : ℕ → ℕ → List Task → List ℕ → List ℕ
 tableWith e m loops offered =
     (e ∷ m ∷ tab (λ i. i) m)
     ++ (length loops ∷ concat (map (taskBytes e) loops))
@@ -193,7 +193,7 @@ sameBy f n e (r ∷ rs) = sameReport (f e) r && sameBy f n (suc e) rs
 abbrev sameReports : Engine → List Entry → ℕ → List Report → Bool
 sameReports E l e rs = sameBy (report E l) (length l) e rs
 
-pub sameAnswer : Answer → Answer → Bool
+unfoldable pub sameAnswer : Answer → Answer → Bool
 sameAnswer Accepted Accepted = true
 sameAnswer Accepted (Refused k i) = false
 sameAnswer (Refused k i) Accepted = false
@@ -228,10 +228,10 @@ texts =
     ∷ record { edition = 1; loops = loop 10 9 10 ∷ loop 10 11 10 ∷ loop 100 20 90 ∷ []; text = "refused 7 at 1\n" }
     ∷ []
 
-pub prints : Shown → Bool
+unfoldable pub prints : Shown → Bool
 prints s = sameList (printed (tableWith (s .edition) 2 (s .loops) [])) (words (s .text))
 
-pub printAll : List Shown → Bool
+unfoldable pub printAll : List Shown → Bool
 printAll [] = true
 printAll (s ∷ l) = prints s && printAll l
 
@@ -342,13 +342,13 @@ sheets =
     ∷ []
 
 -- the first entries of the plan that is handed back, as many as the case has
-pub meets : SheetCase → Bool
+unfoldable pub meets : SheetCase → Bool
 meets c =
     sameAnswer (wishOf (tableWith (c .edition) 2 (c .loops) []) .answer) (c .answer)
     && sameList (tab (λ i. taskOf (wishOf (tableWith (c .edition) 2 (c .loops) []) .plan .task) i .offset) (length (c .offsets))) (c .offsets)
     && sameList (tab (row (wishOf (tableWith (c .edition) 2 (c .loops) []) .plan .slack)) (length (c .slack))) (c .slack)
 
-pub meetAll : List SheetCase → Bool
+unfoldable pub meetAll : List SheetCase → Bool
 meetAll [] = true
 meetAll (c ∷ l) = meets c && meetAll l
 
