@@ -1,5 +1,5 @@
 -- Laws of a task's entry: the only ones that look at a task's fields.
---     size-low, size-high    it has 12 bytes or more, and 16 or fewer; size-dated: with a deadline 16
+--     size-low          it has 12 bytes or more; size-dated: with a deadline 16
 --     length-plain      its first three numbers have 12
 --     size-times        entries of n tasks have 16 × n bytes or fewer; entry-inside: one that is among them ends within them
 --     edition-in        a table's tasks are as its edition has them
@@ -12,7 +12,7 @@
 use Prim.Native.Nat.{ℕ, _+_, _*_, _^_, _≤_, _<_}
 use native.Mathlib.Nat.{add-assoc}
 use native.Mathlib.Omega.{arith}
-use mathlib.Core.Path.{_≡_, refl, sym, _∙_}
+use mathlib.Core.Path.{_≡_, refl, sym}
 use mathlib.Core.Bool.{Bool, true, false, cond}
 use mathlib.Core.List.{List, [], _++_, append-assoc, append-nil}
 use lib.ListN.{length, take, drop, length-append}
@@ -35,14 +35,6 @@ module _ (e : ℕ) where
   size-low = go (dated e)
     where
       go : (b : Bool) → 12 ≤ cond b 16 12
-      go true = omega arith
-      go false = omega arith
-
-  pub size-high : taskSize e ≤ 16
-  unfolding taskSize
-  size-high = go (dated e)
-    where
-      go : (b : Bool) → cond b 16 12 ≤ 16
       go true = omega arith
       go false = omega arith
 

@@ -4,7 +4,6 @@ use mathlib.Core.Path.{_≡_, refl}
 use Rattle.tasks.specs.TaskSet.{TaskSet, plain}
 use Rattle.machine.specs.Machine.{point, before, chosen, runs, tick}
 use Rattle.machine.specs.Admission.{admitTests}
-use Rattle.history.specs.Engine.{Engine}
 use Rattle.history.specs.OnMachine.{answerOf, handedOf, quietOf, machineEngine}
 
 pub plain-engine : (s : TaskSet) → machineEngine (plain s) ≡ machineEngine s

@@ -15,9 +15,9 @@ use Rattle.laws.specs.TabLaws.{cut-above}
 use Rattle.tasks.specs.declared.Task.{Task}
 use Rattle.tasks.specs.declared.Answer.{Answer}
 use Rattle.tasks.specs.declared.Answer.the-variants.{Accepted, Refused}
-use Rattle.tasks.specs.TaskSet.{TaskSet, plainTask, plain}
+use Rattle.tasks.specs.TaskSet.{plainTask, plain}
 use Rattle.tasks.specs.Content.{Content, noTask}
-use Rattle.tasks.specs.Tests.{firstMet, unlessRefused}
+use Rattle.tasks.specs.Tests.{unlessRefused}
 use Rattle.tasks.specs.AnswerLaws.{firstMet-passed}
 use Rattle.codec.specs.Table.{coreCount, taskCount, taskSetIn, contentIn, verdict}
 use Rattle.table.specs.Judged.{judged}
@@ -34,7 +34,7 @@ use Rattle.replay.specs.declared.run.Ran.{Ran}
 use Rattle.replay.specs.Ran.{runTest, ranOf, runLeaves}
 use Rattle.dahomike.specs.Answers.{runNumber}
 use Rattle.outcome.specs.Outcome.{coresOf, loopsOf, separationOf, budgetOf, offsetOf}
-use Rattle.outcome.specs.ReadLaws.{same-loops, separation-at, budget-at, offset-at}
+use Rattle.outcome.specs.ReadLaws.{separation-at, budget-at, offset-at}
 
 pub record Alike (t u : List ℕ) : Type 0 where
   pub cores : coresOf t ≡ coresOf u

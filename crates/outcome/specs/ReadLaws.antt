@@ -18,7 +18,7 @@ use Rattle.tasks.specs.Limits.{Bounded}
 use Rattle.tasks.specs.Content.{noTask}
 use Rattle.tasks.specs.Tests.{tests}
 use Rattle.tasks.specs.TestsLaws.{tests-limits, tests-bounded}
-use Rattle.numbers.specs.Bytes.{byte, number, digits, entries}
+use Rattle.numbers.specs.Bytes.{number, digits, entries}
 use Rattle.numbers.specs.ByteLaws.{length-digits, number-digits-at, number-entries}
 use Rattle.codec.specs.Table.{taskSize, editionIn, coreCount, taskCount, tasksAt, taskIn, taskSetIn, contentIn, verdict}
 use Rattle.roundtrip.specs.SectionLaws.{verdict-parts}

@@ -18,7 +18,6 @@ use Rattle.laws.specs.TabLaws.{tab-replicate}
 use Rattle.tasks.specs.declared.Plan.{Plan}
 use Rattle.tasks.specs.TaskSet.{TaskSet}
 use Rattle.tasks.specs.Content.{contentOf}
-use Rattle.tasks.specs.Tests.{testPlan}
 use Rattle.machine.specs.Machine.{Job, opened, pending, waiting}
 use Rattle.state.specs.declared.State.{State}
 use Rattle.state.specs.State.{stateOf}

@@ -7,7 +7,6 @@
 use Prim.Native.Nat.{ℕ}
 use Prim.Native.String.{String}
 use mathlib.Core.Bool.{Bool, _&&_}
-use mathlib.Core.Path.{_≡_, refl}
 use mathlib.Core.List.{List, [], _∷_}
 use lib.Dec.{T, eqb}
 use Rattle.laws.specs.First.{first}
@@ -18,7 +17,6 @@ use Rattle.laws.specs.Tab.{tab, cut}
 use Rattle.laws.specs.Rank.{place, ranked, largest}
 use Rattle.laws.specs.Multiple.{lcm, lcmBelow}
 use Rattle.tasks.specs.declared.Task.{Task}
-use Rattle.tasks.specs.declared.Answer.the-variants.{Accepted, Refused}
 use Rattle.tasks.specs.TaskSet.{hyperperiod, share, weight, surplus, counted, amount, cover, covers, needed, row, raise, found, bound}
 use Rattle.tasks.specs.Content.{noTask, taskOf, planOf, zeroPlan, countedOf, lateOf, late}
 use Rattle.tasks.specs.Tests.{lowest, firstMet, outside, badLabel, test3, test4, test5, test6, test7, test8, test28, test9, test10, test11, test12, test13, tests}
