@@ -5,7 +5,7 @@
 --     plan-short        an accepted plan's text but for its last line is at most 801 bytes long
 --     text-short        an accepted plan's text fits the buffer
 --     text-whole        text stored from the buffer's beginning on
---     long-text         bytes past 4,340 change nothing
+--     long-text         bytes past 5,360 change nothing
 use Prim.Native.Nat.{ℕ, _+_, _*_, _≤_, _<_}
 use mathlib.Core.Path.{_≡_, refl, sym, ap, ap₂, _∙_}
 use mathlib.Core.Bool.{Bool, true, false, not}
