@@ -1,14 +1,15 @@
 -- The analysis reads T, C and Y of a task and nothing else.
 --     plain-multiple, plain-shares      9 and 10 of a task set,
 --     plain-counted                     the tasks counted at a slack, and
---     plain-compliant, plain-found      12 of offered slack and the found slack, are those of its plain tasks
+--     plain-compliant, plain-found      12 of offered slack and the found slack, and
+--     plain-bounds                      13 at a slack, are those of its plain tasks
 use Prim.Native.Nat.{ℕ, suc, _*_}
 use mathlib.Core.Path.{_≡_, refl, ap, fun-ext}
 use mathlib.Core.List.{List}
 use lib.ListN.{replicate}
 use Rattle.laws.specs.Settle.{settle}
-use Rattle.tasks.specs.TaskSet.{TaskSet, plain, hyperperiod, share, weight, surplus, counted, amount, cover, covers, needed, raise, ceiling, found}
-use Rattle.tasks.specs.Tests.{badMultiple, badShares, compliantTest}
+use Rattle.tasks.specs.TaskSet.{TaskSet, plain, hyperperiod, share, weight, surplus, counted, amount, cover, covers, needed, raise, ceiling, found, bound}
+use Rattle.tasks.specs.Tests.{badMultiple, badShares, compliantTest, boundsTest}
 
 module _ (s : TaskSet) where
   pub plain-multiple : badMultiple (plain s) ≡ badMultiple s
@@ -34,3 +35,7 @@ module _ (s : TaskSet) where
   pub plain-found : found (plain s) ≡ found s
   unfolding plain found
   plain-found = ap (λ (g : List ℕ → List ℕ). settle g (s .count) (suc (s .count * ceiling)) (replicate (s .count) 0)) (fun-ext raise-plain)
+
+  pub plain-bounds : (x : ℕ → ℕ) → boundsTest (plain s) x ≡ boundsTest s x
+  unfolding plain bound
+  plain-bounds x = refl
