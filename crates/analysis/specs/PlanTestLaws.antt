@@ -1,4 +1,4 @@
--- How the test of a plan by 3 to 13 is put together from its tested-slack and its bounds.
+-- How the test of a plan by 3 to 13 and 28 is put together from its tested-slack and its bounds.
 --     test-refused     a refusal of the tested-slack is the plan's
 --     tested-limits    what 3 to 12 leave; few-tasks: at most sixteen tasks
 --     test-found       a plan marked as found: 12 and 13 against the found slack

@@ -1,4 +1,4 @@
-// The analysis of a plan: its test by document 01's refusals 3 to 13, and the slack that it has.
+// The analysis of a plan: its test by the refusals 1, 3 to 13 and 28, and the slack that it has.
 mod plan_test;
 pub mod slack_test;
 

@@ -1,10 +1,10 @@
 -- What the C functions answer and leave behind, for every input.
 --     answerNumber    the 64-bit number of an answer
---     judgeTest       1 to 13, and then 24
+--     judgeTest       1 to 13 and 28, and then 24
 --     judgeNumber     the judgement's answer
 --     reportBytes     slack and bound for each loop
 --     judgeLeaves     the lent buffer afterwards
---     countedTest     1 to 13, and then 24 of the names
+--     countedTest     1 to 13 and 28, and then 24 of the names
 --     countedNumber, countedLeaves    how many names, and the lent buffer afterwards
 --     wishTest        what a wish sheet meets, and then 24
 --     wishNumber      the answer to a sheet

@@ -1,5 +1,5 @@
 -- What document 02, §3, says of the plan that `wish` finds, of bytes.
---     wish-accepted    what is found meets none of 3 to 13
+--     wish-accepted    what is found meets none of 3 to 13 and 28
 --     wish-says        the plan says the offsets and the slack found
 --     wish-best        they are a solution, the slack the least and each offset the largest of all solutions
 --     wish-passes      nor does the plan

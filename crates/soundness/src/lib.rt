@@ -1,4 +1,4 @@
-// Whether a state is sound, clause by clause; its table part's test by 3 to 13 is the analysis's.
+// Whether a state is sound, clause by clause; its table part's test by 1, 3 to 13 and 28 is the analysis's.
 use analysis::test;
 use clauses::labels_zero;
 use clauses::loops;

@@ -1,4 +1,4 @@
--- What holds of a table or a plan that meets none of 3 to 13.
+-- What holds of a table or a plan that meets none of 3 to 13 and 28.
 --     Passed                                           that, part by part
 --     tests-passed                                     it holds
 --     tests-limits, tests-compliant, tests-bounded     three of its parts
@@ -20,7 +20,7 @@ use Rattle.tasks.specs.LimitsLaws.{limitTests, slackTests, tests-split, 
 use Rattle.tasks.specs.SlackLaws.{covers-compliant, compliant-ext}
 use Rattle.tasks.specs.FoundLaws.{found-compliant}
 
--- what holds where none of 3 to 13 is met
+-- what holds where none of 3 to 13 and 28 is met
 pub record Passed (c : Content) : Type 0 where
   pub limits : Limits (c .tasks)
   pub labelled : Labelled c

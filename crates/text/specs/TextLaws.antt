@@ -1,5 +1,5 @@
 -- The text as a whole: which text the answer of a judgement calls for, and the input that is cut off.
---     judged-passed     an accepted judgement's plan passes 3 to 13
+--     judged-passed     an accepted judgement's plan meets none of a plan's numbers
 --     printed-plan, printed-refusal    the text by the judgement's answer
 --     count-few         at most eight loops are named
 --     plan-short        an accepted plan's text but for its last line is at most 801 bytes long
