@@ -1,4 +1,4 @@
-// A plan's tests 3 to 12 and the slack that it has: offered slack is tested, and slack that is not offered is found.
+// A plan's tests 3 to 12 and 28 and the slack that it has: offered slack is tested, and slack that is not offered is found.
 use fields::columns::split;
 use fields::frame::frame;
 use fields::ranges::task_ranges;
@@ -68,7 +68,7 @@ fn offered(
     }
 }
 
-// Tests 9 to 12, of a task set that meets none of 3 to 8.
+// Tests 9 to 12, of a task set that meets none of 3 to 8 and 28.
 fn test_rated(
     separation: &[u32; 16],
     budget: &[u32; 16],
@@ -123,7 +123,7 @@ fn test_rated(
     )
 }
 
-// Tests 6 to 12.
+// Tests 6 to 12, and 28.
 fn test_tasks(plan: Plan, offers: usize) -> Tested
     requires { ⌜ Framed (plan .cores) (plan .tasks) ⌝ }
     ensures { λ r. ⌜ TasksTested plan offers r ⌝ }
@@ -150,7 +150,7 @@ fn test_tasks(plan: Plan, offers: usize) -> Tested
     )
 }
 
-// Tests 3 to 12, with a slack count of `offers`: a table's count may be wrong, a plan's mark can't.
+// Tests 3 to 12, and 28, with a slack count of `offers`: a table's count may be wrong, a plan's mark can't.
 pub fn test_slack(plan: Plan, offers: usize) -> Tested
     ensures { λ r. ⌜ PlanTested plan offers r ⌝ }
 {
