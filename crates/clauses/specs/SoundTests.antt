@@ -10,7 +10,7 @@ use lib.ListN.{getD}
 use lib.Dec.{ltb, leb, eqb}
 use Rattle.tasks.specs.declared.Task.{Task}
 use Rattle.tasks.specs.TaskSet.{row}
-use Rattle.tasks.specs.Content.{dated, zeroTask, taskOf}
+use Rattle.tasks.specs.Content.{hasDeadlines, zeroTask, taskOf}
 use Rattle.tasks.specs.Tests.{testPlan}
 use Rattle.state.specs.declared.State.{State}
 use Rattle.state.specs.State.{flagAt}
@@ -22,7 +22,7 @@ labelZero cores labels i = ltb i cores || eqb (row labels i) 0
 
 unfoldable pub taskZero : ℕ → ℕ → List Task → List ℕ → ℕ → Bool
 taskZero edition tasks task slack i =
-    (ltb i tasks || (zeroTask (taskOf task i) && eqb (row slack i) 0)) && (dated edition || eqb (taskOf task i .deadline) 0)
+    (ltb i tasks || (zeroTask (taskOf task i) && eqb (row slack i) 0)) && (hasDeadlines edition || eqb (taskOf task i .deadline) 0)
 
 unfoldable pub loopHolds : ℕ → ℕ → List ℕ → List Bool → List ℕ → List ℕ → ℕ → Bool
 loopHolds tasks clock jobs released last release i =

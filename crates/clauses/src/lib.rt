@@ -7,7 +7,7 @@ ghost use mathlib.Core.Path.{_≡_};
 ghost use mathlib.Core.Bool.{not, _&&_, _||_};
 ghost use Prim.Native.Nat.{_+_, _-_, _/_, _%_, _<_};
 ghost use Rattle.tasks.specs.TaskSet.{row};
-ghost use Rattle.tasks.specs.Content.{dated, zeroTask};
+ghost use Rattle.tasks.specs.Content.{hasDeadlines, zeroTask};
 ghost use lib.Dec.{ltb, leb, eqb};
 ghost use Rattle.state.specs.SoundState.{allOf, loopTest, placeTest};
 ghost use Rattle.clauses.specs.SoundTests.{labelZero, taskZero, loopHolds, placeHolds};
@@ -44,7 +44,7 @@ fn task_zero(i: usize, tasks: usize, task: Task, slack: u32) -> bool
 
 // "the deadline, an unused place in edition 1"
 fn deadline_zero(edition: u8, deadline: u32) -> bool
-    ensures { λ r. ⌜ r ≡ dated edition || eqb deadline 0 ⌝ }
+    ensures { λ r. ⌜ r ≡ hasDeadlines edition || eqb deadline 0 ⌝ }
 {
     if has_deadlines(edition) {
         return true;

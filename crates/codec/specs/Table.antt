@@ -19,13 +19,13 @@ use Rattle.laws.specs.Tab.{cut}
 use Rattle.tasks.specs.declared.Task.{Task}
 use Rattle.tasks.specs.declared.Answer.{Answer}
 use Rattle.tasks.specs.TaskSet.{TaskSet, found, row}
-use Rattle.tasks.specs.Content.{dated, inEdition, Content, noTask}
+use Rattle.tasks.specs.Content.{hasDeadlines, inEdition, Content, noTask}
 use Rattle.tasks.specs.Tests.{refuse, firstMet, badEdition, tests}
 use Rattle.numbers.specs.Bytes.{byte, number, digits, entries}
 
 -- "Loops: n entries of 12 bytes"; "In edition 2 a loop has 16 bytes"
 unfoldable pub taskSize : ℕ → ℕ
-taskSize e = cond (dated e) 16 12
+taskSize e = cond (hasDeadlines e) 16 12
 
 -- "The first byte is the edition". "Three sections follow in this order, each after a one-byte count, and nothing follows them."
 -- A table of m cores, n tasks and x slack entries, "Cores: m entries, one byte each" and slack entries of 4 bytes each:
@@ -74,7 +74,7 @@ unfoldable pub plainBytes : Task → List ℕ
 plainBytes k = digits 4 (k .separation) ++ digits 4 (k .budget) ++ digits 4 (k .offset)
 
 unfoldable pub taskBytes : ℕ → Task → List ℕ
-taskBytes e k = plainBytes k ++ cond (dated e) (digits 4 (k .deadline)) []
+taskBytes e k = plainBytes k ++ cond (hasDeadlines e) (digits 4 (k .deadline)) []
 
 unfoldable pub taskSetIn : List ℕ → TaskSet
 taskSetIn t =

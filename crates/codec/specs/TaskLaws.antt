@@ -1,5 +1,5 @@
 -- Laws of a task's entry: the only ones that look at a task's fields.
---     size-low          it has 12 bytes or more; size-dated: with a deadline 16
+--     size-low          it has 12 bytes or more; size-deadline: with a deadline 16
 --     length-plain      its first three numbers have 12
 --     size-times        entries of n tasks have 16 × n bytes or fewer; entry-inside: one that is among them ends within them
 --     edition-in        a table's tasks are as its edition has them
@@ -18,7 +18,7 @@ use mathlib.Core.List.{List, [], _++_, append-assoc, append-nil}
 use lib.ListN.{length, take, drop, length-append}
 use lib.Seq.{take-add, drop-drop}
 use Rattle.tasks.specs.declared.Task.{Task}
-use Rattle.tasks.specs.Content.{dated, inEdition, Content}
+use Rattle.tasks.specs.Content.{hasDeadlines, inEdition, Content}
 use Rattle.tasks.specs.ContentLaws.{cut-edition}
 use Rattle.tasks.specs.TestsLaws.{Passed}
 use Rattle.numbers.specs.Bytes.{byte, number, digits}
@@ -32,19 +32,19 @@ length-plain k = refl
 module _ (e : ℕ) where
   pub size-low : 12 ≤ taskSize e
   unfolding taskSize
-  size-low = go (dated e)
+  size-low = go (hasDeadlines e)
     where
       go : (b : Bool) → 12 ≤ cond b 16 12
       go true = omega arith
       go false = omega arith
 
-  pub size-dated : dated e ≡ true → taskSize e ≡ 16
+  pub size-deadline : hasDeadlines e ≡ true → taskSize e ≡ 16
   unfolding taskSize
-  size-dated q = rw q
+  size-deadline q = rw q
 
   pub size-times : (n : ℕ) → taskSize e * n ≤ 16 * n
   unfolding taskSize
-  size-times n = go (dated e)
+  size-times n = go (hasDeadlines e)
     where
       go : (b : Bool) → cond b 16 12 * n ≤ 16 * n
       go true = omega arith
@@ -52,7 +52,7 @@ module _ (e : ℕ) where
 
   pub entry-inside : (i n : ℕ) → i < n → taskSize e * i + taskSize e ≤ taskSize e * n
   unfolding taskSize
-  entry-inside i n h = go (dated e)
+  entry-inside i n h = go (hasDeadlines e)
     where
       go : (b : Bool) → cond b 16 12 * i + cond b 16 12 ≤ cond b 16 12 * n
       go true = omega arith
@@ -60,7 +60,7 @@ module _ (e : ℕ) where
 
   pub length-task : (k : Task) → length (taskBytes e k) ≡ taskSize e
   unfolding taskBytes plainBytes digits taskSize
-  length-task k = go (dated e)
+  length-task k = go (hasDeadlines e)
     where
       go : (b : Bool) → length ((digits 4 (k .separation) ++ digits 4 (k .budget) ++ digits 4 (k .offset)) ++ cond b (digits 4 (k .deadline)) []) ≡ cond b 16 12
       go true = refl
@@ -68,7 +68,7 @@ module _ (e : ℕ) where
 
   pub bytes-edition : (k : Task) → taskBytes e (inEdition e k) ≡ taskBytes e k
   unfolding taskBytes plainBytes
-  bytes-edition k = go (dated e)
+  bytes-edition k = go (hasDeadlines e)
     where
       go : (b : Bool) → plainBytes k ++ cond b (digits 4 (cond b (k .deadline) 0)) [] ≡ plainBytes k ++ cond b (digits 4 (k .deadline)) []
       go true = refl
@@ -86,18 +86,18 @@ task-same e t u i j h =
     (number-same 4 t u i j (λ d l. h d (omega (arith, size-low e))))
     (number-same 4 t u (i + 4) (j + 4) (λ d l. rw (add-assoc, add-assoc) (h (4 + d) (omega (arith, size-low e)))))
     (number-same 4 t u (i + 8) (j + 8) (λ d l. rw (add-assoc, add-assoc) (h (8 + d) (omega (arith, size-low e)))))
-    (go (dated e) refl)
+    (go (hasDeadlines e) refl)
   where
-    go : (b : Bool) → dated e ≡ b → cond b (number 4 t (i + 12)) 0 ≡ cond b (number 4 u (j + 12)) 0
+    go : (b : Bool) → hasDeadlines e ≡ b → cond b (number 4 t (i + 12)) 0 ≡ cond b (number 4 u (j + 12)) 0
     go true q =
-        number-same 4 t u (i + 12) (j + 12) (λ d l. rw (add-assoc, add-assoc) (h (12 + d) (omega (arith, size-dated e q))))
+        number-same 4 t u (i + 12) (j + 12) (λ d l. rw (add-assoc, add-assoc) (h (12 + d) (omega (arith, size-deadline e q))))
     go false q = refl
 
 pub record NarrowTask (e : ℕ) (k : Task) : Type 0 where
   pub separation : k .separation < 256 ^ 4
   pub budget : k .budget < 256 ^ 4
   pub offset : k .offset < 256 ^ 4
-  pub deadline : dated e ≡ true → k .deadline < 256 ^ 4
+  pub deadline : hasDeadlines e ≡ true → k .deadline < 256 ^ 4
 
 pub limits-narrow : (c : Content) → Passed c → (i : ℕ) → i < c .tasks .count → NarrowTask (c .edition) (c .tasks .task i)
 limits-narrow c P i h =
@@ -116,12 +116,12 @@ task-back e k n =
     (rw (append-assoc, append-assoc) (number-digits 4 (k .separation) [] _ (n .separation)))
     (rw (append-assoc, append-assoc) (number-digits-at 4 (k .budget) (digits 4 (k .separation)) _ 4 (length-digits 4 _) (n .budget)))
     (rw append-assoc (number-digits-at 4 (k .offset) (digits 4 (k .separation) ++ digits 4 (k .budget)) _ 8 eight (n .offset)))
-    (go (dated e) refl)
+    (go (hasDeadlines e) refl)
   where
     eight : length (digits 4 (k .separation) ++ digits 4 (k .budget)) ≡ 8
     eight = omega (arith, length-append (digits 4 (k .separation)) (digits 4 (k .budget)), length-digits 4 (k .separation), length-digits 4 (k .budget))
 
-    go : (b : Bool) → dated e ≡ b → cond b (number 4 (plainBytes k ++ cond b (digits 4 (k .deadline)) []) 12) 0 ≡ cond b (k .deadline) 0
+    go : (b : Bool) → hasDeadlines e ≡ b → cond b (number 4 (plainBytes k ++ cond b (digits 4 (k .deadline)) []) 12) 0 ≡ cond b (k .deadline) 0
     go true q =
         rw (← (append-nil (digits 4 (k .deadline))))
         (number-digits-at 4 (k .deadline) (plainBytes k) [] 12 (length-plain k) (n .deadline q))
@@ -130,7 +130,7 @@ task-back e k n =
 pub task-again :
     (e : ℕ) (t : List ℕ) (at : ℕ) → Bytes t → at + taskSize e ≤ length t → taskBytes e (taskIn e t at) ≡ take (taskSize e) (drop at t)
 unfolding taskBytes taskIn taskSize plainBytes
-task-again e t at b h = go (dated e) refl
+task-again e t at b h = go (hasDeadlines e) refl
   where
     plain : at + 12 ≤ length t → digits 4 (number 4 t at) ++ digits 4 (number 4 t (at + 4)) ++ digits 4 (number 4 t (at + 8)) ≡ take 12 (drop at t)
     plain l =
@@ -145,12 +145,12 @@ task-again e t at b h = go (dated e) refl
         (sym (take-add 8 4 (drop at t)))
 
     go :
-        (d : Bool) → dated e ≡ d
+        (d : Bool) → hasDeadlines e ≡ d
         → (digits 4 (number 4 t at) ++ digits 4 (number 4 t (at + 4)) ++ digits 4 (number 4 t (at + 8)))
         ++ cond d (digits 4 (cond d (number 4 t (at + 12)) 0)) []
         ≡ take (cond d 16 12) (drop at t)
     go true q =
-        rw (plain (omega (arith, size-low e)), digits-number 4 t (at + 12) b (omega (arith, size-dated e q)), ← (drop-drop 12 at t))
+        rw (plain (omega (arith, size-low e)), digits-number 4 t (at + 12) b (omega (arith, size-deadline e q)), ← (drop-drop 12 at t))
         (sym (take-add 12 4 (drop at t)))
     go false q = rw (append-nil _) (plain (omega (arith, size-low e)))
 

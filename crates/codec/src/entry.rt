@@ -9,7 +9,7 @@ ghost use mathlib.Core.Path.{_≡_};
 ghost use Prim.Native.Nat.{_+_, _≤_};
 ghost use lib.ListN.{length};
 ghost use lib.Seq.{sets};
-ghost use Rattle.tasks.specs.Content.{dated};
+ghost use Rattle.tasks.specs.Content.{hasDeadlines};
 ghost use Rattle.numbers.specs.Bytes.{number};
 ghost use Rattle.codec.specs.Table.{taskSize, taskIn, plainBytes, taskBytes};
 
@@ -25,7 +25,7 @@ pub fn task_size(edition: u8) -> usize
 
 fn deadline_at(t: &[u8], at: usize, edition: u8) -> u32
     requires { ⌜ at + taskSize edition ≤ length (now t) ⌝ }
-    ensures { λ r. ⌜ r ≡ cond (dated edition) (number 4 (now (t .entry)) (at + 12)) 0 ⌝ }
+    ensures { λ r. ⌜ r ≡ cond (hasDeadlines edition) (number 4 (now (t .entry)) (at + 12)) 0 ⌝ }
 {
     if has_deadlines(edition) {
         return number4(t, at + 12);

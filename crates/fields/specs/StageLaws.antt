@@ -21,7 +21,7 @@ use Rattle.tasks.specs.declared.Answer.{Answer}
 use Rattle.tasks.specs.declared.Answer.the-variants.{Accepted, Refused}
 use Rattle.tasks.specs.TaskSet.{boundOf, bound}
 use Rattle.tasks.specs.Numbers.{deadlineHigh}
-use Rattle.tasks.specs.Content.{dated, inEdition, taskOf, contentOf}
+use Rattle.tasks.specs.Content.{hasDeadlines, inEdition, taskOf, contentOf}
 use Rattle.tasks.specs.ContentLaws.{used-task}
 use Rattle.tasks.specs.Tests.{lowest, outside, badSeparation, badBudget, badOffset, badWish, badDeadline, overBound, boundsTest}
 use Rattle.tasks.specs.AnswerLaws.{lowest-found, lowest-none, lowest-ext}
@@ -50,8 +50,8 @@ column-more column f i h e = ap (λ (l : List ℕ). set l i (f i)) e ∙ filled-
 
 module _ (p : Plan) where
   -- 28 looks at a deadline that the edition has
-  dated-same : (t : Task) → badDeadline (p .edition) t ≡ badDeadline (p .edition) (inEdition (p .edition) t)
-  dated-same t = go (dated (p .edition))
+  deadline-same : (t : Task) → badDeadline (p .edition) t ≡ badDeadline (p .edition) (inEdition (p .edition) t)
+  deadline-same t = go (hasDeadlines (p .edition))
     where
       go : (b : Bool) → b && outside 1 deadlineHigh (t .deadline) ≡ b && outside 1 deadlineHigh (cond b (t .deadline) 0)
       go true = refl
@@ -62,7 +62,7 @@ module _ (p : Plan) where
       ≡ lowest 28 (λ i. badDeadline (p .edition) (contentOf p .tasks .task i)) (p .tasks)
   deadline-scan =
       lowest-ext 28 _ _ (p .tasks)
-      (λ i h. dated-same (taskOf (p .task) i) ∙ ap (badDeadline (p .edition)) (sym (used-task p i h)))
+      (λ i h. deadline-same (taskOf (p .task) i) ∙ ap (badDeadline (p .edition)) (sym (used-task p i h)))
 
   pub fields-scan : fieldsTest (p .edition) (taskOf (p .task)) (p .tasks) ≡ fieldsTest (p .edition) (contentOf p .tasks .task) (p .tasks)
   unfolding fieldsTest

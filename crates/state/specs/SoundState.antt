@@ -13,7 +13,7 @@ use Rattle.tasks.specs.declared.Answer.{Answer}
 use Rattle.tasks.specs.declared.Answer.the-variants.{Accepted, Refused}
 use Rattle.tasks.specs.Numbers.{clockEnd}
 use Rattle.tasks.specs.TaskSet.{row}
-use Rattle.tasks.specs.Content.{dated, zeroTask, taskOf}
+use Rattle.tasks.specs.Content.{hasDeadlines, zeroTask, taskOf}
 use Rattle.tasks.specs.Tests.{testPlan}
 use Rattle.state.specs.declared.State.{State}
 use Rattle.state.specs.State.{flagAt}
@@ -34,7 +34,7 @@ unfoldable pub tidyTask : Plan → ℕ → Bool
 tidyTask p i =
     (ltb i (p .tasks) || (zeroTask (taskOf (p .task) i) && eqb (row (p .slack) i) 0))
     -- "the deadline, an unused place in edition 1"
-    && (dated (p .edition) || eqb (taskOf (p .task) i .deadline) 0)
+    && (hasDeadlines (p .edition) || eqb (taskOf (p .task) i .deadline) 0)
 
 unfoldable pub tidyTest : Plan → Bool
 tidyTest p = allOf (tidyLabel p) 8 && allOf (tidyTask p) 16

@@ -3,19 +3,20 @@
 --     tidied-shaped     such a plan has its arrays' lengths
 --     tidy-accepted     a tidied plan passes what the plan passes
 use Prim.Native.Nat.{ℕ, _≤_, _<_}
-use mathlib.Core.Bool.{Bool, true, false, _&&_, _||_}
+use mathlib.Core.Bool.{Bool, true, false, cond, _&&_, _||_}
 use mathlib.Core.Path.{_≡_, refl, sym, ap, _∙_}
 use mathlib.Core.List.{List}
 use lib.ListN.{length, getD}
 use lib.Dec.{ltb, eqb}
 use borrow.Author.Tests.{ltb-true, ltb-false, le-ltb, eqb-true, eq-eqb}
 use Rattle.laws.specs.Tab.{tab, cut}
-use Rattle.laws.specs.TabLaws.{length-tab, getD-tab, ext-tab, tab-ext, cut-below, cut-above, cut-map}
+use Rattle.laws.specs.TabLaws.{length-tab, getD-tab, ext-tab, tab-ext, cut-below, cut-above}
+use Rattle.tasks.specs.declared.Task.{Task}
 use Rattle.tasks.specs.declared.Plan.{Plan}
 use Rattle.tasks.specs.declared.Answer.the-variants.{Accepted}
 use Rattle.tasks.specs.TaskSet.{row}
-use Rattle.tasks.specs.Content.{dated, inEdition, noTask, zeroTask, taskOf, contentOf, planOf, tidy}
-use Rattle.tasks.specs.ContentLaws.{edition-zero, cut-edition, kept-in, in-kept, mark-back, zero-task, no-task, content-tidy}
+use Rattle.tasks.specs.Content.{hasDeadlines, inEdition, noTask, zeroTask, taskOf, contentOf, planOf, tidy}
+use Rattle.tasks.specs.ContentLaws.{cut-edition, kept-in, in-kept, mark-back, zero-task, no-task, content-tidy}
 use Rattle.tasks.specs.Tests.{badEdition, tests, testPlan}
 use Rattle.tasks.specs.TestsLaws.{plan-passed, plan-accepted}
 use Rattle.state.specs.SoundState.{tidyLabel, tidyTask, tidyTest}
@@ -34,7 +35,7 @@ uncut l z n N e past = sym (ext-tab (cut n (λ i. getD l i z) z) l N z e (λ i h
 
 module _ (p : Plan) where
   pub tidy-from : ShapedPlan p → 1 ≤ p .tasks → tidyTest p ≡ true → tidy p ≡ p
-  unfolding tidy planOf contentOf tidyTest tidyLabel tidyTask row taskOf
+  unfolding tidy planOf contentOf tidyTest tidyLabel tidyTask row taskOf cut
   tidy-from S n e =
       λ i.
       record {
@@ -53,7 +54,7 @@ module _ (p : Plan) where
       task-parts :
           (i : ℕ) → i < 16
           → (ltb i (p .tasks) || (zeroTask (getD (p .task) i noTask) && eqb (getD (p .slack) i 0) 0) ≡ true)
-          × (dated (p .edition) || eqb (getD (p .task) i noTask .deadline) 0 ≡ true)
+          × (hasDeadlines (p .edition) || eqb (getD (p .task) i noTask .deadline) 0 ≡ true)
       task-parts i h = both _ _ (parts e .1 i h)
 
       past : (i : ℕ) → i < 16 → p .tasks ≤ i → (zeroTask (getD (p .task) i noTask) ≡ true) × (eqb (getD (p .slack) i 0) 0 ≡ true)
@@ -64,22 +65,12 @@ module _ (p : Plan) where
           uncut (p .labels) 0 (p .cores) 8 (S .labels)
           (λ i h l. eqb-true _ _ (either (ltb i (p .cores)) _ (parts e .0 i h) (le-ltb i (p .cores) l)))
 
-      undated : (i : ℕ) → i < 16 → inEdition (p .edition) (getD (p .task) i noTask) ≡ getD (p .task) i noTask
-      undated i h = kept-in (p .edition) (getD (p .task) i noTask) (task-parts i h .1)
-
-      dated-cut : (i : ℕ) → i < 16 → inEdition (p .edition) (cut (p .tasks) (λ j. getD (p .task) j noTask) noTask i) ≡ cut (p .tasks) (λ j. getD (p .task) j noTask) noTask i
-      dated-cut i h = go (ltb i (p .tasks)) refl
-        where
-          go : (b : Bool) → ltb i (p .tasks) ≡ b → inEdition (p .edition) (cut (p .tasks) (λ j. getD (p .task) j noTask) noTask i) ≡ cut (p .tasks) (λ j. getD (p .task) j noTask) noTask i
-          go true q = rw (cut-below (p .tasks) (λ j. getD (p .task) j noTask) noTask i (ltb-true _ _ q)) (undated i h)
-          go false q = rw (cut-above (p .tasks) (λ j. getD (p .task) j noTask) noTask i (ltb-false _ _ q)) (edition-zero (p .edition))
+      kept : (i : ℕ) → i < 16 → inEdition (p .edition) (getD (p .task) i noTask) ≡ getD (p .task) i noTask
+      kept i h = kept-in (p .edition) (getD (p .task) i noTask) (task-parts i h .1)
 
       task : tab (cut (p .tasks) (λ i. inEdition (p .edition) (getD (p .task) i noTask)) noTask) 16 ≡ p .task
       task =
-          tab-ext _ _ 16
-          (λ i h.
-          cut-map (inEdition (p .edition)) (p .tasks) (λ j. getD (p .task) j noTask) noTask noTask (edition-zero (p .edition)) i
-          ∙ dated-cut i h)
+          tab-ext _ _ 16 (λ i h. ap (λ (k : Task). cond (ltb i (p .tasks)) k noTask) (kept i h))
           ∙ uncut (p .task) noTask (p .tasks) 16 (S .task) (λ i h l. zero-task (getD (p .task) i noTask) (past i h l .0))
 
       slack : tab (cut (p .tasks) (λ i. getD (p .slack) i 0) 0) 16 ≡ p .slack
@@ -108,9 +99,9 @@ module _ (p : Plan) where
   slack-past i h l = getD-tab _ 16 i 0 h ∙ cut-above (p .tasks) _ 0 i l
 
   -- a tidied plan's tasks are as its edition has them
-  task-dated : (i : ℕ) → i < 16 → inEdition (p .edition) (taskOf (tidy p .task) i) ≡ taskOf (tidy p .task) i
+  task-edition : (i : ℕ) → i < 16 → inEdition (p .edition) (taskOf (tidy p .task) i) ≡ taskOf (tidy p .task) i
   unfolding tidy planOf contentOf taskOf
-  task-dated i h = rw (getD-tab (cut (p .tasks) (λ j. inEdition (p .edition) (getD (p .task) j noTask)) noTask) 16 i noTask h) (cut-edition (p .edition) (p .tasks) _ i)
+  task-edition i h = rw (getD-tab (cut (p .tasks) (λ j. inEdition (p .edition) (getD (p .task) j noTask)) noTask) 16 i noTask h) (cut-edition (p .edition) (p .tasks) _ i)
 
   pub tidy-to : tidy p ≡ p → tidyTest p ≡ true
   unfolding tidyTest tidyLabel tidyTask
@@ -127,7 +118,7 @@ module _ (p : Plan) where
       (eq-eqb _ _ (ap (λ (q : Plan). row (q .slack) i) (sym e) ∙ slack-past i h (ltb-false _ _ f)))))
       (in-kept (p .edition) (taskOf (p .task) i)
       (ap (λ (q : Plan). inEdition (p .edition) (taskOf (q .task) i)) (sym e)
-      ∙ task-dated i h
+      ∙ task-edition i h
       ∙ ap (λ (q : Plan). taskOf (q .task) i) e))))
 
 tidy-edition : (p : Plan) → tidy p .edition ≡ p .edition

@@ -1,14 +1,14 @@
 -- What a table or a plan says, with its unused places left out, and the plan that keeps it.
---     dated        whether an edition's tables have deadlines
---     inEdition    a task as an edition has it: without deadlines its deadline is an unused place
---     Content      the edition, cores' labels, tasks, the slack count and the slack
---     countedOf    the loops counted at its slack
---     lateOf, late    counted from the priority point or from the deadline
---     contentOf    what a plan says
---     planOf       the plan that keeps a content, zeros in its unused places
---     tidy         a plan with zeros in its unused places
+--     hasDeadlines        whether an edition's tables have deadlines
+--     inEdition           a task as an edition has it: without deadlines its deadline is an unused place
+--     Content             the edition, cores' labels, tasks, the slack count and the slack
+--     countedOf           the loops counted at its slack
+--     lateOf, late        counted from the priority point or from the deadline
+--     contentOf           what a plan says
+--     planOf              the plan that keeps a content, zeros in its unused places
+--     tidy                a plan with zeros in its unused places
 --     noTask, zeroPlan    a task and a plan of zeros; zeroTask: whether a task is one
---     Same         "two plans are the same if their used entries and that mark agree", and "only if editions agree too"
+--     Same                "two plans are the same if their used entries and that mark agree", and "only if editions agree too"
 use Prim.Native.Nat.{ℕ, _+_, _-_}
 use mathlib.Core.Path.{_≡_}
 use mathlib.Core.Bool.{Bool, false, cond, not, _&&_}
@@ -21,13 +21,13 @@ use Rattle.tasks.specs.declared.Plan.{Plan}
 use Rattle.tasks.specs.TaskSet.{TaskSet, counted, boundOf, row}
 
 -- "Edition 2 carries deadlines."
-abbrev pub dated : ℕ → Bool
-dated e = eqb e 2
+abbrev pub hasDeadlines : ℕ → Bool
+hasDeadlines e = eqb e 2
 
 -- "The loop record gains the deadline, an unused place in edition 1"
 abbrev pub inEdition : ℕ → Task → Task
 inEdition e t =
-    record { separation = t .separation; budget = t .budget; offset = t .offset; deadline = cond (dated e) (t .deadline) 0 }
+    record { separation = t .separation; budget = t .budget; offset = t .offset; deadline = cond (hasDeadlines e) (t .deadline) 0 }
 
 pub record Content : Type 0 where
   pub edition : ℕ
@@ -44,7 +44,7 @@ countedOf c = counted (c .tasks) (c .slack)
 -- of a task with slack x: in edition 2 "late is the larger of 0 and bound − D", a difference of natural numbers; in edition 1 "x + C, counted from
 -- the priority point"
 unfoldable pub lateOf : ℕ → Task → ℕ → ℕ
-lateOf e t x = cond (dated e) (boundOf t x - t .deadline) (x + t .budget)
+lateOf e t x = cond (hasDeadlines e) (boundOf t x - t .deadline) (x + t .budget)
 
 unfoldable pub late : Content → ℕ → ℕ
 late c i = lateOf (c .edition) (c .tasks .task i) (c .slack i)

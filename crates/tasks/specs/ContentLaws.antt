@@ -30,7 +30,7 @@ use Rattle.laws.specs.EveryLaws.{both}
 use Rattle.tasks.specs.declared.Task.{Task}
 use Rattle.tasks.specs.declared.Plan.{Plan}
 use Rattle.tasks.specs.TaskSet.{TaskSet, boundOf, row}
-use Rattle.tasks.specs.Content.{dated, inEdition, Content, lateOf, noTask, zeroTask, taskOf, contentOf, planOf, tidy}
+use Rattle.tasks.specs.Content.{hasDeadlines, inEdition, Content, lateOf, noTask, zeroTask, taskOf, contentOf, planOf, tidy}
 
 pub plan-ext :
     (p q : Plan) → p .edition ≡ q .edition → p .offered ≡ q .offered → p .cores ≡ q .cores → p .tasks ≡ q .tasks
@@ -59,14 +59,14 @@ withSlack p x =
 
 pub edition-zero : (e : ℕ) → inEdition e noTask ≡ noTask
 unfolding noTask
-edition-zero e = go (dated e)
+edition-zero e = go (hasDeadlines e)
   where
     go : (b : Bool) → _≡_ {A = Task} (record { separation = 0; budget = 0; offset = 0; deadline = cond b 0 0 }) (record { separation = 0; budget = 0; offset = 0; deadline = 0 })
     go true = refl
     go false = refl
 
 pub edition-again : (e : ℕ) (t : Task) → inEdition e (inEdition e t) ≡ inEdition e t
-edition-again e t = go (dated e)
+edition-again e t = go (hasDeadlines e)
   where
     go :
         (b : Bool)
@@ -75,20 +75,20 @@ edition-again e t = go (dated e)
     go true = refl
     go false = refl
 
-pub kept-in : (e : ℕ) (t : Task) → dated e || eqb (t .deadline) 0 ≡ true → inEdition e t ≡ t
-kept-in e t h = go (dated e) refl h
+pub kept-in : (e : ℕ) (t : Task) → hasDeadlines e || eqb (t .deadline) 0 ≡ true → inEdition e t ≡ t
+kept-in e t h = go (hasDeadlines e) refl h
   where
     same : (d : ℕ) → d ≡ t .deadline → record { separation = t .separation; budget = t .budget; offset = t .offset; deadline = d } ≡ t
     same d q = λ i. record { separation = t .separation; budget = t .budget; offset = t .offset; deadline = q i }
 
-    go : (b : Bool) → dated e ≡ b → b || eqb (t .deadline) 0 ≡ true → inEdition e t ≡ t
+    go : (b : Bool) → hasDeadlines e ≡ b → b || eqb (t .deadline) 0 ≡ true → inEdition e t ≡ t
     go true q h = same _ (rw q)
     go false q h = same _ (rw q (sym (eqb-true (t .deadline) 0 h)))
 
-pub in-kept : (e : ℕ) (t : Task) → inEdition e t ≡ t → dated e || eqb (t .deadline) 0 ≡ true
-in-kept e t h = go (dated e) refl
+pub in-kept : (e : ℕ) (t : Task) → inEdition e t ≡ t → hasDeadlines e || eqb (t .deadline) 0 ≡ true
+in-kept e t h = go (hasDeadlines e) refl
   where
-    go : (b : Bool) → dated e ≡ b → b || eqb (t .deadline) 0 ≡ true
+    go : (b : Bool) → hasDeadlines e ≡ b → b || eqb (t .deadline) 0 ≡ true
     go true q = refl
     go false q = eq-eqb (t .deadline) 0 (sym (ap (λ (k : Task). k .deadline) h) ∙ rw q)
 
@@ -100,7 +100,7 @@ cut-edition e n f i =
 
 pub late-edition : (e : ℕ) (t : Task) (x : ℕ) → lateOf e (inEdition e t) x ≡ lateOf e t x
 unfolding lateOf
-late-edition e t x = go (dated e)
+late-edition e t x = go (hasDeadlines e)
   where
     go : (b : Bool) → cond b (boundOf t x - cond b (t .deadline) 0) (x + t .budget) ≡ cond b (boundOf t x - t .deadline) (x + t .budget)
     go true = refl
@@ -108,7 +108,7 @@ late-edition e t x = go (dated e)
 
 pub late-high : (e : ℕ) (t : Task) (x : ℕ) → lateOf e t x ≤ boundOf t x
 unfolding lateOf
-late-high e t x = go (dated e)
+late-high e t x = go (hasDeadlines e)
   where
     go : (b : Bool) → cond b (boundOf t x - t .deadline) (x + t .budget) ≤ boundOf t x
     go true = omega arith

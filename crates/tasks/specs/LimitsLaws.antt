@@ -14,7 +14,7 @@ use borrow.Author.Tests.{ltb-false, leb-false, lt-ltb}
 use Rattle.tasks.specs.declared.Answer.{Answer}
 use Rattle.tasks.specs.declared.Answer.the-variants.{Accepted}
 use Rattle.tasks.specs.Numbers.{deadlineHigh}
-use Rattle.tasks.specs.Content.{dated, Content}
+use Rattle.tasks.specs.Content.{hasDeadlines, Content}
 use Rattle.tasks.specs.Limits.{Limits}
 use Rattle.tasks.specs.Tests.{orNext, firstMet, badLabel, test3, test4, test5, test6, test7, test8, test28, test9, test10, test11, test12, test13, tests}
 use Rattle.tasks.specs.AnswerLaws.{refuse-passed, lowest-passed, firstMet-passed, firstMet-append, neither, outside-passed}
@@ -90,7 +90,7 @@ module _ (c : Content) where
       let r10 = firstMet-passed _ _ (r9 .1) in
       (fields-passed (r3 .0) (r5 .0) (r6 .0) (r7 .0) (r8 .0) (r9 .0) (r10 .0), labels-passed (r4 .0))
 
-  pub deadlines-passed : limitTests c ≡ Accepted → dated (c .edition) ≡ true → (i : ℕ) → i < c .tasks .count → c .tasks .task i .deadline ≤ 1600000
+  pub deadlines-passed : limitTests c ≡ Accepted → hasDeadlines (c .edition) ≡ true → (i : ℕ) → i < c .tasks .count → c .tasks .task i .deadline ≤ 1600000
   unfolding limitTests test28
   deadlines-passed a d i h =
       let r3 = firstMet-passed _ _ a in

@@ -27,7 +27,7 @@ use Rattle.laws.specs.SumLaws.{sumOver-members, count-members}
 use Rattle.laws.specs.Member.{member, Distinct}
 use Rattle.tasks.specs.declared.Answer.the-variants.{Accepted}
 use Rattle.tasks.specs.TaskSet.{TaskSet, hyperperiod, weight, counted, Compliant, covers, found, bound, row}
-use Rattle.tasks.specs.Content.{dated, Content, lateOf, late, countedOf}
+use Rattle.tasks.specs.Content.{hasDeadlines, Content, lateOf, late, countedOf}
 use Rattle.tasks.specs.Limits.{Bounded}
 use Rattle.tasks.specs.Tests.{firstMet, test11, test12, test13, tests}
 use Rattle.tasks.specs.AnswerLaws.{pass-lowest, pass-firstMet}
@@ -143,12 +143,12 @@ module _ (c : Content) (passed : limitTests c ≡ Accepted) where
 
 -- The bound is "counted from release", late "from the priority point", which is Y ticks after the release.
 module _ (c : Content) (i : ℕ) where
-  pub late-from-point : dated (c .edition) ≡ false → bound (c .tasks) (c .slack) i ≡ c .tasks .task i .offset + late c i
+  pub late-from-point : hasDeadlines (c .edition) ≡ false → bound (c .tasks) (c .slack) i ≡ c .tasks .task i .offset + late c i
   unfolding bound late lateOf
   late-from-point e = rw e (omega arith)
 
   -- "late is the larger of 0 and bound − D"
-  module _ (e : dated (c .edition) ≡ true) where
+  module _ (e : hasDeadlines (c .edition) ≡ true) where
     pub late-none : bound (c .tasks) (c .slack) i ≤ c .tasks .task i .deadline → late c i ≡ 0
     unfolding bound late lateOf
     late-none h = rw e (omega arith)

@@ -19,7 +19,7 @@ use Rattle.tasks.specs.declared.Answer.{Answer}
 use Rattle.tasks.specs.declared.Answer.the-variants.{Accepted, Refused}
 use Rattle.tasks.specs.Numbers.{separationHigh, deadlineHigh, multipleHigh}
 use Rattle.tasks.specs.TaskSet.{TaskSet, hyperperiod, share, covers, found, bound, row}
-use Rattle.tasks.specs.Content.{dated, Content, contentOf}
+use Rattle.tasks.specs.Content.{hasDeadlines, Content, contentOf}
 
 abbrev pub refuse : ℕ → Bool → Answer
 refuse k true = Refused k 0
@@ -95,7 +95,7 @@ badWish t = outside (t .budget) (16 * t .separation) (t .offset)
 
 -- 28: "an edition 2 loop's D is not 1 to 1,600,000", of a task in a table of edition e
 abbrev pub badDeadline : ℕ → Task → Bool
-badDeadline e t = dated e && outside 1 deadlineHigh (t .deadline)
+badDeadline e t = hasDeadlines e && outside 1 deadlineHigh (t .deadline)
 
 -- 9: "H is above 1,000,000."
 abbrev pub badMultiple : TaskSet → Bool

@@ -12,7 +12,7 @@ use borrow.Author.Tests.{ltb-false, eqb-true, eq-eqb, not-false}
 use Rattle.tasks.specs.declared.Plan.{Plan}
 use Rattle.tasks.specs.declared.Answer.the-variants.{Accepted}
 use Rattle.tasks.specs.TaskSet.{Compliant, found, row}
-use Rattle.tasks.specs.Content.{dated, Content, contentOf}
+use Rattle.tasks.specs.Content.{hasDeadlines, Content, contentOf}
 use Rattle.tasks.specs.Limits.{Limits, Bounded}
 use Rattle.tasks.specs.Tests.{refuse, badEdition, test11, test12, test13, tests, testPlan}
 use Rattle.tasks.specs.AnswerLaws.{orNext-passed, refuse-passed, lowest-passed, firstMet-passed}
@@ -24,7 +24,7 @@ use Rattle.tasks.specs.FoundLaws.{found-compliant}
 pub record Passed (c : Content) : Type 0 where
   pub limits : Limits (c .tasks)
   pub labelled : Labelled c
-  pub deadline-high : dated (c .edition) ≡ true → (i : ℕ) → i < c .tasks .count → c .tasks .task i .deadline ≤ 1600000
+  pub deadline-high : hasDeadlines (c .edition) ≡ true → (i : ℕ) → i < c .tasks .count → c .tasks .task i .deadline ≤ 1600000
   pub offers : (c .offers ≡ 0) ⊎ (c .offers ≡ c .tasks .count)
   -- "A plan marked as found" has the found slack
   pub as-found : c .offers ≡ 0 → (k : ℕ) → k < c .tasks .count → c .slack k ≡ row (found (c .tasks)) k

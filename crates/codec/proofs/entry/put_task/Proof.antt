@@ -6,7 +6,7 @@ use mathlib.Core.List.{append-nil}
 use borrow.Author.Needs.{needs}
 use Rattle.laws.specs.SetsLaws.{sets-next}
 use Rattle.codec.specs.Table.{plainBytes, taskBytes}
-use Rattle.codec.specs.TaskLaws.{size-low, size-dated, length-plain}
+use Rattle.codec.specs.TaskLaws.{size-low, size-deadline, length-plain}
 use Rattle.codec.proofs.entry.put_task.Statement.{statement}
 use Rattle.codec.proofs.entry.put_task.Tie as tie
 
@@ -21,7 +21,7 @@ add-put4 c =
 put4-requires : tie.Need-put4-requires
 put4-requires c κs =
     let a = c .before .before .before .before .before .before .before .before .args in
-    omega (arith, size-dated (a .edition) (sym (c .before .before .has-deadlines .ensures) ∙ c .before .if1 .taken))
+    omega (arith, size-deadline (a .edition) (sym (c .before .before .has-deadlines .ensures) ∙ c .before .if1 .taken))
 
 returns : tie.Need-returns
 unfolding taskBytes
