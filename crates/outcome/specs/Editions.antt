@@ -4,22 +4,27 @@
 --     same-run      a log run answers the same under two accepted tables that are alike
 --     same-left     and leaves the same in a lent answer
 --     same-number   and so does its C function
+--     same-found    slack that is not offered is the same for both
+--     same-judged   where slack agrees, the C judgement answers and leaves the same
 use Prim.Native.Nat.{ℕ, _≤_, _<_}
-use mathlib.Core.Path.{_≡_, refl, sym, ap, _∙_}
+use mathlib.Core.Path.{_≡_, refl, sym, ap, ap₂, _∙_}
 use mathlib.Core.Logic.{⊎-elim}
-use mathlib.Core.List.{List}
+use mathlib.Core.List.{List, _++_}
 use native.Mathlib.Omega.{arith}
 use lib.ListN.{length}
+use borrow.Author.Tests.{eq-eqb}
 use Rattle.laws.specs.EveryLaws.{below-or-not}
 use Rattle.laws.specs.TabLaws.{cut-above}
 use Rattle.tasks.specs.declared.Task.{Task}
 use Rattle.tasks.specs.declared.Answer.{Answer}
 use Rattle.tasks.specs.declared.Answer.the-variants.{Accepted, Refused}
-use Rattle.tasks.specs.TaskSet.{plainTask, plain}
+use Rattle.tasks.specs.TaskSet.{TaskSet, plainTask, plain, found, bound, row}
+use Rattle.tasks.specs.PlainLaws.{plain-found}
 use Rattle.tasks.specs.Content.{Content, noTask}
 use Rattle.tasks.specs.Tests.{unlessRefused}
 use Rattle.tasks.specs.AnswerLaws.{firstMet-passed}
-use Rattle.codec.specs.Table.{coreCount, taskCount, taskSetIn, contentIn, verdict}
+use Rattle.numbers.specs.Bytes.{digits, entries}
+use Rattle.codec.specs.Table.{coreCount, taskCount, slackCount, taskSetIn, contentIn, verdict}
 use Rattle.table.specs.Judged.{judged}
 use Rattle.roundtrip.specs.RoundTrip.{judged-fits}
 use Rattle.logs.specs.LogBytes.{entryCount, entriesIn, logTest, reportsTo}
@@ -32,7 +37,7 @@ use Rattle.delivered.specs.DeliveredLaws.{plan-counts}
 use Rattle.delivered.specs.Demand3.{runOn, plan-passes, log-early, demand-machine}
 use Rattle.replay.specs.declared.run.Ran.{Ran}
 use Rattle.replay.specs.Ran.{runTest, ranOf, runLeaves}
-use Rattle.dahomike.specs.Answers.{runNumber}
+use Rattle.dahomike.specs.Answers.{judgeTest, judgeNumber, reportBytes, judgeLeaves, runNumber}
 use Rattle.outcome.specs.Outcome.{coresOf, loopsOf, separationOf, budgetOf, offsetOf}
 use Rattle.outcome.specs.ReadLaws.{separation-at, budget-at, offset-at}
 
@@ -71,6 +76,27 @@ module _ (t u : List ℕ) (A : Alike t u) where
 
   same-engine : machineEngine (contentIn t .tasks) ≡ machineEngine (contentIn u .tasks)
   same-engine = sym (plain-engine (contentIn t .tasks)) ∙ ap machineEngine same-tasks ∙ plain-engine (contentIn u .tasks)
+
+  pub same-found : slackCount t ≡ 0 → slackCount u ≡ 0 → contentIn t .slack ≡ contentIn u .slack
+  unfolding contentIn
+  same-found z w =
+      rw (eq-eqb (slackCount t) 0 z, eq-eqb (slackCount u) 0 w)
+      (ap row (sym (plain-found (taskSetIn t)) ∙ ap found same-tasks ∙ plain-found (taskSetIn u)))
+
+  same-count : taskCount t ≡ taskCount u
+  unfolding taskCount coreCount
+  same-count = A .loops
+
+  same-entries : contentIn t .slack ≡ contentIn u .slack → reportBytes (contentIn t) ≡ reportBytes (contentIn u)
+  unfolding reportBytes bound plain
+  same-entries x =
+      ap₂ (λ (s : TaskSet) (x : ℕ → ℕ). entries (λ i. digits 4 (x i) ++ digits 4 (bound s x i)) (s .count)) same-tasks x
+
+  pub same-judged :
+      verdict t ≡ Accepted → verdict u ≡ Accepted → contentIn t .slack ≡ contentIn u .slack → (out : List ℕ)
+      → (judgeNumber t (length out) ≡ judgeNumber u (length out)) × (judgeLeaves t out ≡ judgeLeaves u out)
+  unfolding judgeNumber judgeLeaves judgeTest
+  same-judged a d x out = (rw (a, d, same-count), rw (a, d, same-count, same-entries x))
 
 -- what a run under an accepted table counts and writes is what its machine's does
 module _ (t : List ℕ) (a : verdict t ≡ Accepted) (l : List ℕ) (b : logTest l ≡ Accepted) where
