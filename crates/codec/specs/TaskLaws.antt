@@ -19,7 +19,7 @@ use lib.ListN.{length, take, drop, length-append}
 use lib.Seq.{take-add, drop-drop}
 use Rattle.tasks.specs.declared.Task.{Task}
 use Rattle.tasks.specs.Content.{hasDeadlines, inEdition, Content}
-use Rattle.tasks.specs.ContentLaws.{cut-edition}
+use Rattle.tasks.specs.ContentLaws.{by-edition, cut-edition}
 use Rattle.tasks.specs.TestsLaws.{Passed}
 use Rattle.numbers.specs.Bytes.{byte, number, digits}
 use Rattle.codec.specs.Table.{taskSize, editionIn, taskCount, taskIn, plainBytes, taskBytes, taskSetIn, contentIn}
@@ -32,11 +32,7 @@ length-plain k = refl
 module _ (e : ℕ) where
   pub size-low : 12 ≤ taskSize e
   unfolding taskSize
-  size-low = go (hasDeadlines e)
-    where
-      go : (b : Bool) → 12 ≤ cond b 16 12
-      go true = omega arith
-      go false = omega arith
+  size-low = by-edition (λ b. 12 ≤ cond b 16 12) e (omega arith) (omega arith)
 
   pub size-deadline : hasDeadlines e ≡ true → taskSize e ≡ 16
   unfolding taskSize
@@ -44,35 +40,20 @@ module _ (e : ℕ) where
 
   pub size-times : (n : ℕ) → taskSize e * n ≤ 16 * n
   unfolding taskSize
-  size-times n = go (hasDeadlines e)
-    where
-      go : (b : Bool) → cond b 16 12 * n ≤ 16 * n
-      go true = omega arith
-      go false = omega arith
+  size-times n = by-edition (λ b. cond b 16 12 * n ≤ 16 * n) e (omega arith) (omega arith)
 
   pub entry-inside : (i n : ℕ) → i < n → taskSize e * i + taskSize e ≤ taskSize e * n
   unfolding taskSize
-  entry-inside i n h = go (hasDeadlines e)
-    where
-      go : (b : Bool) → cond b 16 12 * i + cond b 16 12 ≤ cond b 16 12 * n
-      go true = omega arith
-      go false = omega arith
+  entry-inside i n h = by-edition (λ b. cond b 16 12 * i + cond b 16 12 ≤ cond b 16 12 * n) e (omega arith) (omega arith)
 
   pub length-task : (k : Task) → length (taskBytes e k) ≡ taskSize e
   unfolding taskBytes plainBytes digits taskSize
-  length-task k = go (hasDeadlines e)
-    where
-      go : (b : Bool) → length ((digits 4 (k .separation) ++ digits 4 (k .budget) ++ digits 4 (k .offset)) ++ cond b (digits 4 (k .deadline)) []) ≡ cond b 16 12
-      go true = refl
-      go false = refl
+  length-task k = by-edition (λ b. length (plainBytes k ++ cond b (digits 4 (k .deadline)) []) ≡ cond b 16 12) e refl refl
 
   pub bytes-edition : (k : Task) → taskBytes e (inEdition e k) ≡ taskBytes e k
   unfolding taskBytes plainBytes
-  bytes-edition k = go (hasDeadlines e)
-    where
-      go : (b : Bool) → plainBytes k ++ cond b (digits 4 (cond b (k .deadline) 0)) [] ≡ plainBytes k ++ cond b (digits 4 (k .deadline)) []
-      go true = refl
-      go false = refl
+  bytes-edition k =
+      by-edition (λ b. plainBytes k ++ cond b (digits 4 (cond b (k .deadline) 0)) [] ≡ plainBytes k ++ cond b (digits 4 (k .deadline)) []) e refl refl
 
 -- tasks with equal fields are the same
 task-ext : (k l : Task) → k .separation ≡ l .separation → k .budget ≡ l .budget → k .offset ≡ l .offset → k .deadline ≡ l .deadline → k ≡ l

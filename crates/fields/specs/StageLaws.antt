@@ -6,7 +6,7 @@
 --     fields-scan, wishes-scan, bounds-scan     6 to 8, or 26, 28, and 13, of a plan's content look at the tasks that the plan's array has in use
 use Prim.Native.Nat.{ℕ, _+_, _<_, _≤_}
 use mathlib.Core.Path.{_≡_, refl, sym, _∙_, ap}
-use mathlib.Core.Bool.{Bool, true, false, cond, _&&_}
+use mathlib.Core.Bool.{Bool, true, cond, _&&_}
 use mathlib.Core.List.{List}
 use lib.ListN.{set}
 use borrow.Author.Tests.{lt-ltb, le-ltb}
@@ -21,8 +21,8 @@ use Rattle.tasks.specs.declared.Answer.{Answer}
 use Rattle.tasks.specs.declared.Answer.the-variants.{Accepted, Refused}
 use Rattle.tasks.specs.TaskSet.{boundOf, bound}
 use Rattle.tasks.specs.Numbers.{deadlineHigh}
-use Rattle.tasks.specs.Content.{hasDeadlines, inEdition, taskOf, contentOf}
-use Rattle.tasks.specs.ContentLaws.{used-task}
+use Rattle.tasks.specs.Content.{inEdition, taskOf, contentOf}
+use Rattle.tasks.specs.ContentLaws.{by-edition, used-task}
 use Rattle.tasks.specs.Tests.{lowest, outside, badSeparation, badBudget, badOffset, badWish, badDeadline, overBound, boundsTest}
 use Rattle.tasks.specs.AnswerLaws.{lowest-found, lowest-none, lowest-ext}
 use Rattle.fields.specs.Stages.{fieldsTest, wishesTest}
@@ -51,11 +51,8 @@ column-more column f i h e = ap (λ (l : List ℕ). set l i (f i)) e ∙ filled-
 module _ (p : Plan) where
   -- 28 looks at a deadline that the edition has
   deadline-same : (t : Task) → badDeadline (p .edition) t ≡ badDeadline (p .edition) (inEdition (p .edition) t)
-  deadline-same t = go (hasDeadlines (p .edition))
-    where
-      go : (b : Bool) → b && outside 1 deadlineHigh (t .deadline) ≡ b && outside 1 deadlineHigh (cond b (t .deadline) 0)
-      go true = refl
-      go false = refl
+  deadline-same t =
+      by-edition (λ b. b && outside 1 deadlineHigh (t .deadline) ≡ b && outside 1 deadlineHigh (cond b (t .deadline) 0)) (p .edition) refl refl
 
   deadline-scan :
       lowest 28 (λ i. badDeadline (p .edition) (taskOf (p .task) i)) (p .tasks)

@@ -1,6 +1,7 @@
 -- A plan cut at its used places, and the contents that fit a plan: the plan of such a content says that content again.
 --     plan-ext        plans with equal fields are the same
 --     content-ext     contents with the same edition, tasks, labels, slack count and slack are the same
+--     by-edition      what holds with deadlines and without them holds in every edition
 --     edition-zero    a task of zeros is one in every edition; edition-again: what an edition leaves of a task, it leaves whole
 --     kept-in         a task whose deadline the edition has, or is 0, is as the edition has it; in-kept: and back
 --     cut-edition     a row of tasks as an edition has them, cut off, is one
@@ -57,29 +58,29 @@ withSlack p x =
       slack = x;
     }
 
+pub by-edition : (P : Bool → Type 0) (e : ℕ) → P true → P false → P (hasDeadlines e)
+by-edition P e with-deadlines without = go (hasDeadlines e)
+  where
+    go : (b : Bool) → P b
+    go true = with-deadlines
+    go false = without
+
+-- a task with another deadline
+abbrev taskBy : Task → ℕ → Task
+taskBy t d = record { separation = t .separation; budget = t .budget; offset = t .offset; deadline = d }
+
 pub edition-zero : (e : ℕ) → inEdition e noTask ≡ noTask
 unfolding noTask
-edition-zero e = go (hasDeadlines e)
-  where
-    go : (b : Bool) → _≡_ {A = Task} (record { separation = 0; budget = 0; offset = 0; deadline = cond b 0 0 }) (record { separation = 0; budget = 0; offset = 0; deadline = 0 })
-    go true = refl
-    go false = refl
+edition-zero e = by-edition (λ b. taskBy noTask (cond b 0 0) ≡ noTask) e refl refl
 
 pub edition-again : (e : ℕ) (t : Task) → inEdition e (inEdition e t) ≡ inEdition e t
-edition-again e t = go (hasDeadlines e)
-  where
-    go :
-        (b : Bool)
-        → _≡_ {A = Task} (record { separation = t .separation; budget = t .budget; offset = t .offset; deadline = cond b (cond b (t .deadline) 0) 0 })
-        (record { separation = t .separation; budget = t .budget; offset = t .offset; deadline = cond b (t .deadline) 0 })
-    go true = refl
-    go false = refl
+edition-again e t = by-edition (λ b. taskBy t (cond b (cond b (t .deadline) 0) 0) ≡ taskBy t (cond b (t .deadline) 0)) e refl refl
 
 pub kept-in : (e : ℕ) (t : Task) → hasDeadlines e || eqb (t .deadline) 0 ≡ true → inEdition e t ≡ t
 kept-in e t h = go (hasDeadlines e) refl h
   where
-    same : (d : ℕ) → d ≡ t .deadline → record { separation = t .separation; budget = t .budget; offset = t .offset; deadline = d } ≡ t
-    same d q = λ i. record { separation = t .separation; budget = t .budget; offset = t .offset; deadline = q i }
+    same : (d : ℕ) → d ≡ t .deadline → taskBy t d ≡ t
+    same d q = λ i. taskBy t (q i)
 
     go : (b : Bool) → hasDeadlines e ≡ b → b || eqb (t .deadline) 0 ≡ true → inEdition e t ≡ t
     go true q h = same _ (rw q)
@@ -100,19 +101,12 @@ cut-edition e n f i =
 
 pub late-edition : (e : ℕ) (t : Task) (x : ℕ) → lateOf e (inEdition e t) x ≡ lateOf e t x
 unfolding lateOf
-late-edition e t x = go (hasDeadlines e)
-  where
-    go : (b : Bool) → cond b (boundOf t x - cond b (t .deadline) 0) (x + t .budget) ≡ cond b (boundOf t x - t .deadline) (x + t .budget)
-    go true = refl
-    go false = refl
+late-edition e t x =
+    by-edition (λ b. cond b (boundOf t x - cond b (t .deadline) 0) (x + t .budget) ≡ cond b (boundOf t x - t .deadline) (x + t .budget)) e refl refl
 
 pub late-high : (e : ℕ) (t : Task) (x : ℕ) → lateOf e t x ≤ boundOf t x
 unfolding lateOf
-late-high e t x = go (hasDeadlines e)
-  where
-    go : (b : Bool) → cond b (boundOf t x - t .deadline) (x + t .budget) ≤ boundOf t x
-    go true = omega arith
-    go false = omega arith
+late-high e t x = by-edition (λ b. cond b (boundOf t x - t .deadline) (x + t .budget) ≤ boundOf t x) e (omega arith) (omega arith)
 
 pub used-task : (p : Plan) (i : ℕ) → i < p .tasks → contentOf p .tasks .task i ≡ inEdition (p .edition) (taskOf (p .task) i)
 unfolding contentOf
