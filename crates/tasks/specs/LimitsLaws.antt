@@ -76,9 +76,9 @@ module _ (c : Content) where
         shares-high = ltb-false _ _ (refuse-passed _ _ a10);
       }
 
-  pub limits-passed : limitTests c ≡ Accepted → Limits (c .tasks) × Labelled c
+  taken-apart : limitTests c ≡ Accepted → Limits (c .tasks) × Labelled c × (test28 c ≡ Accepted)
   unfolding limitTests
-  limits-passed a =
+  taken-apart a =
       let r3 = firstMet-passed _ _ a in
       let r4 = firstMet-passed _ _ (r3 .1) in
       let r5 = firstMet-passed _ _ (r4 .1) in
@@ -88,16 +88,11 @@ module _ (c : Content) where
       let r28 = firstMet-passed _ _ (r8 .1) in
       let r9 = firstMet-passed _ _ (r28 .1) in
       let r10 = firstMet-passed _ _ (r9 .1) in
-      (fields-passed (r3 .0) (r5 .0) (r6 .0) (r7 .0) (r8 .0) (r9 .0) (r10 .0), labels-passed (r4 .0))
+      (fields-passed (r3 .0) (r5 .0) (r6 .0) (r7 .0) (r8 .0) (r9 .0) (r10 .0), labels-passed (r4 .0), r28 .0)
+
+  pub limits-passed : limitTests c ≡ Accepted → Limits (c .tasks) × Labelled c
+  limits-passed a = let r = taken-apart a in (r .0, r .1)
 
   pub deadlines-passed : limitTests c ≡ Accepted → hasDeadlines (c .edition) ≡ true → (i : ℕ) → i < c .tasks .count → c .tasks .task i .deadline ≤ 1600000
-  unfolding limitTests test28
-  deadlines-passed a d i h =
-      let r3 = firstMet-passed _ _ a in
-      let r4 = firstMet-passed _ _ (r3 .1) in
-      let r5 = firstMet-passed _ _ (r4 .1) in
-      let r6 = firstMet-passed _ _ (r5 .1) in
-      let r7 = firstMet-passed _ _ (r6 .1) in
-      let r8 = firstMet-passed _ _ (r7 .1) in
-      let r28 = firstMet-passed _ _ (r8 .1) in
-      outside-passed 1 deadlineHigh _ (rw d at (lowest-passed _ _ _ (r28 .0) i h)) .1
+  unfolding test28
+  deadlines-passed a d i h = outside-passed 1 deadlineHigh _ (rw d at (lowest-passed _ _ _ (taken-apart a .2) i h)) .1
