@@ -11,6 +11,7 @@
 --     foundBytes      offset, slack and bound for each loop; wishLeaves: the lent buffer afterwards
 --     runNumber       the log run's answer; what it leaves behind is replay's `runLeaves`
 --     sentenceNumber  the answer of the sentence; what it leaves behind is wording's `sentenceLeaves`
+--     convertNumber   the answer of the conversion; what it leaves behind is converter's `convertedTo`
 --     roomTest        a plan's answer, and then 24
 --     entrySize, entryBytes, entryOf, Reportable    one task's bytes from a plan, with its offset first where it was found, and what the plan keeps to so
 --                                       that they fit
@@ -27,6 +28,7 @@ use Rattle.tasks.specs.Tests.{refuse, firstMet, numberOf, indexOf, unlessRefuse
 use Rattle.numbers.specs.Bytes.{digits, entries}
 use Rattle.codec.specs.Table.{taskCount, contentIn, verdict}
 use Rattle.table.specs.Judged.{countedIn}
+use Rattle.converter.specs.Converted.{convertedBytes, convertTest}
 use Rattle.replay.specs.Ran.{runTest, ranOf}
 use Rattle.wishes.specs.Wish.{solved}
 use Rattle.sheet.specs.Wished.{wishVerdict}
@@ -113,3 +115,7 @@ runNumber t l room = answerNumber (runTest t l room) (ranOf t l room .taken + 65
 -- the sentence's length, or 25
 unfoldable pub sentenceNumber : ℕ → ℕ → ℕ → ℕ → ℕ
 sentenceNumber k i v room = answerNumber (sentenceTest k i v room) (length (sentenceOf k i v))
+
+-- "The count of bytes written comes back", or the refusal
+unfoldable pub convertNumber : ℕ → List ℕ → ℕ → ℕ
+convertNumber e t room = answerNumber (convertTest e t room) (length (convertedBytes e t))

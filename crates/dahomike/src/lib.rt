@@ -1,4 +1,5 @@
 // The functions that the desktop planner calls as C functions, over byte slices: a pointer and a length each.
+use converter::convert;
 use decimal::put_words;
 use numbers::put4;
 use replay::run_log;
@@ -9,14 +10,16 @@ use tasks::Answer;
 use tasks::Plan;
 use tasks::refusal;
 use wording::Composed;
+use writer::Written;
 ghost use mathlib.Core.Path.{_≡_};
 ghost use mathlib.Core.List.{_++_};
 ghost use Prim.Native.Nat.{_+_, _*_, _≤_, _<_};
 ghost use lib.ListN.{length};
 ghost use lib.Seq.{sets};
 ghost use Rattle.numbers.specs.Bytes.{digits, entries};
+ghost use Rattle.converter.specs.Converted.{convertedTo};
 ghost use Rattle.replay.specs.Ran.{runLeaves};
-ghost use Rattle.dahomike.specs.Answers.{answerNumber, judgeNumber, judgeLeaves, countedNumber, countedLeaves, wishNumber, wishLeaves, runNumber, sentenceNumber, entrySize, entryBytes, entryOf, roomTest, Reportable};
+ghost use Rattle.dahomike.specs.Answers.{answerNumber, judgeNumber, judgeLeaves, countedNumber, countedLeaves, wishNumber, wishLeaves, runNumber, sentenceNumber, convertNumber, entrySize, entryBytes, entryOf, roomTest, Reportable};
 ghost use Rattle.dahomike.specs.ReportLaws.{Reported};
 ghost use Rattle.tasks.specs.Content.{Content};
 ghost use Rattle.tasks.specs.Tests.{unlessRefused};
@@ -181,6 +184,27 @@ pub extern "C" fn dahomike_sentence(number: u32, index: u32, value: u64, out: &m
     match told {
         Composed::Length(length) => length as u64,
         Composed::Refused {
+            number: met,
+            index: at,
+        } => refused(Answer::Refused {
+            number: met,
+            index: at,
+        }),
+    }
+}
+
+// A table in the other edition: how many bytes it has, and the bytes; or the refusal.
+#[no_mangle]
+pub extern "C" fn dahomike_convert(table: &[u8], edition: u32, out: &mut [u8]) -> u64
+    ensures { λ r. ⌜
+        (r ≡ convertNumber edition (now (table .entry)) (length (now (out .entry))))
+        × (now (out .exit) ≡ convertedTo edition (now (table .entry)) (now (out .entry)))
+        ⌝ }
+{
+    let written = convert(table, edition, out);
+    match written {
+        Written::Length(length) => length as u64,
+        Written::Refused {
             number: met,
             index: at,
         } => refused(Answer::Refused {

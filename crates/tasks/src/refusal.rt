@@ -54,3 +54,7 @@ pub const WISH_OUTSIDE: u8 = 26;
 pub const NO_SOLUTION: u8 = 27;
 
 pub const DEADLINE_OUTSIDE: u8 = 28;
+
+pub const OFFSET_ZERO: u8 = 29;
+
+pub const DEADLINE_NOT_OFFSET: u8 = 30;
