@@ -1,3 +1,4 @@
 pub mod Converted
 pub mod ConvertLaws
+pub mod ConverterLaws
 pub mod ConvertTheorems

@@ -21,6 +21,7 @@ use Rattle.tasks.specs.declared.Answer.{Answer}
 use Rattle.tasks.specs.declared.Answer.the-variants.{Accepted, Refused}
 use Rattle.tasks.specs.Tests.{refuseAt, lowest, orNext, firstMet, numberOf, indexOf, badSeparation, badBudget, badOffset, badWish, badDeadline}
 use Rattle.tasks.specs.declared.Task.{Task}
+use Rattle.tasks.specs.NumberLaws.{lowest-met}
 use Rattle.tasks.specs.AnswerLaws.{lowest-found, lowest-none}
 use Rattle.fields.specs.Stages.{nothing, metBy, fieldsTest, wishesTest}
 
@@ -76,13 +77,6 @@ lowest-more k p n = ⊎-elim (λ (e : first p n ≡ n). none e (p n) refl) (λ (
     none e true t = rw (lowest-none k p n e, t) (lowest-found k p (n + 1) n (found-at p n (n + 1) e t (omega arith)) (omega arith))
     none e false t = rw (lowest-none k p n e, t) (lowest-none k p (n + 1) (none-more p n e t))
 
--- a refusal by one test has its number
-lowest-number : (k : ℕ) (p : ℕ → Bool) (n m j : ℕ) → lowest k p n ≡ Refused m j → m ≡ k
-lowest-number k p n m j e =
-    ⊎-elim (λ (q : first p n ≡ n). let w = lowest-none k p n q in cc)
-    (λ (h : first p n < n). sym (ap numberOf e) ∙ ap numberOf (lowest-found k p n (first p n) refl h))
-    (first-or-none p n)
-
 below-nothing : (h : ℕ) (l : List (ℕ × (ℕ → Bool))) → Rising h l → h < nothing
 unfolding Rising
 below-nothing h [] r = r
@@ -105,7 +99,7 @@ module _ (n k i : ℕ) where
     where
       go : (scan l n ≡ seen k i → t .0 < k) → (a : Answer) → lowest (t .0) (t .1) n ≡ a → h < k
       go above Accepted q = omega (arith, r .0, above (rw q at e))
-      go above (Refused m j) q = omega (arith, r .0, lowest-number (t .0) (t .1) n m j q, seen-refused k i m j (rw q at e) .0)
+      go above (Refused m j) q = omega (arith, r .0, lowest-met (t .0) (t .1) n m j q .0, seen-refused k i m j (rw q at e) .0)
 
   pub scan-more :
       (h : ℕ) (l : List (ℕ × (ℕ → Bool))) → Rising h l → scan l n ≡ seen k i
@@ -120,7 +114,7 @@ module _ (n k i : ℕ) where
           → scan (t ∷ l) (n + 1) ≡ cond (ltb (metAt (t ∷ l) n) k) (seen (metAt (t ∷ l) n) n) (seen k i)
       go rest (Refused m j) q b p =
           let w : Refused m j ≡ seen k i = rw q at e in
-          let late : k ≤ metAt (t ∷ l) n = omega (arith, seen-refused k i m j w .0, lowest-number (t .0) (t .1) n m j q, from b p) in
+          let late : k ≤ metAt (t ∷ l) n = omega (arith, seen-refused k i m j w .0, lowest-met (t .0) (t .1) n m j q .0, from b p) in
           rw (lowest-more (t .0) (t .1) n, q, le-ltb (metAt (t ∷ l) n) k late) w
         where
           from : (b : Bool) → t .1 n ≡ b → t .0 ≤ metAt (t ∷ l) n

@@ -6,6 +6,7 @@ pub mod Tests
 pub mod PlainLaws
 pub mod Limits
 pub mod AnswerLaws
+pub mod NumberLaws
 pub mod LimitsLaws
 pub mod ShareLaws
 pub mod AmountLaws

@@ -1,0 +1,298 @@
+-- Document 02, §6, of bytes: what the two sides of a conversion share, there and back, and when 29 and 30 are met.
+--     leftBy            the bytes that a conversion leaves in a buffer, as many as it answers
+--     Twins             an accepted table that says the same cores, T, C, Y and slack, with the same bounds and late
+--     convert-twins     what a conversion leaves is that of the table; convert-edition: in the wanted edition
+--     there-and-back    converted to the first edition, it is the first bytes
+--     convert-short     a buffer of 332 bytes is never too short
+--     verdict-number    a table is refused by numbers up to 28
+--     refused-29, refused-30    29 and 30 are met exactly in their cases
+use Prim.Native.Nat.{ℕ, _≤_, _<_}
+use native.Mathlib.Omega.{arith}
+use mathlib.Core.Path.{_≡_, refl, sym, ap, fun-ext, _∙_}
+use mathlib.Core.Bool.{Bool, true, false, not, _||_, true≢false}
+use mathlib.Core.List.{List, [], _∷_, _++_}
+use mathlib.Core.Logic.{_↔_, _⊎_, _≢_, ⊎-elim}
+use lib.ListN.{length, take, drop}
+use lib.Seq.{take-at}
+use lib.Dec.{ltb, eqb}
+use borrow.Author.Tests.{ltb-false, le-ltb, eqb-true, eqb-false, eq-eqb, ne-eqb}
+use Rattle.laws.specs.EveryLaws.{below-or-not}
+use Rattle.tasks.specs.declared.Task.{Task}
+use Rattle.tasks.specs.declared.Plan.{Plan}
+use Rattle.tasks.specs.declared.Answer.{Answer}
+use Rattle.tasks.specs.declared.Answer.the-variants.{Accepted, Refused}
+use Rattle.tasks.specs.TaskSet.{bound}
+use Rattle.tasks.specs.Content.{hasDeadlines, Content, late, noTask, contentOf, planOf}
+use Rattle.tasks.specs.ContentLaws.{content-ext, Fits}
+use Rattle.tasks.specs.Tests.{refuse, lowest, firstMet, numberOf, badEdition, badDeadline, test28, tests, testPlan}
+use Rattle.tasks.specs.AnswerLaws.{refuse-passed, pass-lowest, lowest-passed, neither, outside-passed, firstMet-passed}
+use Rattle.tasks.specs.NumberLaws.{Lowest, lowest-met, met-lowest, refuse-number, next-number, tests-number, met-next, met-first}
+use Rattle.numbers.specs.ByteLaws.{Bytes}
+use Rattle.codec.specs.Table.{editionIn, taskCount, taskSetIn, contentIn, test1, test2, verdict, bytesOf}
+use Rattle.codec.specs.TaskLaws.{size-times}
+use Rattle.sections.specs.WriteLaws.{length-bytes}
+use Rattle.roundtrip.specs.SectionLaws.{Parts, verdict-parts, table-fits}
+use Rattle.roundtrip.specs.BackLaws.{back-edition}
+use Rattle.roundtrip.specs.RoundTrip.{rewritten, plan-back, verdict-back}
+use Rattle.converter.specs.Converted.{convertedTask, converted, convertedBytes, wantedTest, noOffset, otherDeadline, wayTest, convertTest, convertedLength, convertedTo}
+use Rattle.converter.specs.ConvertLaws.{converted-fits, way-offsets, way-deadlines, tests-28, converted-late, converted-kept, plan-says, plan-accepts, ways, other-edition}
+
+unfoldable pub leftBy : ℕ → List ℕ → List ℕ → List ℕ
+leftBy e t out = take (convertedLength e t (length out)) (convertedTo e t out)
+
+-- "Both sides have the same slack, bounds and late"
+pub record Twins (t u : List ℕ) : Type 0 where
+  pub accepted : verdict u ≡ Accepted
+  pub cores : contentIn u .tasks .cores ≡ contentIn t .tasks .cores
+  pub labels : contentIn u .label ≡ contentIn t .label
+  pub loops : contentIn u .tasks .count ≡ contentIn t .tasks .count
+  pub separations : (i : ℕ) → contentIn u .tasks .task i .separation ≡ contentIn t .tasks .task i .separation
+  pub budgets : (i : ℕ) → contentIn u .tasks .task i .budget ≡ contentIn t .tasks .task i .budget
+  pub offsets : (i : ℕ) → contentIn u .tasks .task i .offset ≡ contentIn t .tasks .task i .offset
+  -- offered slack stays offered, and slack to be found stays count 0
+  pub offers : contentIn u .offers ≡ contentIn t .offers
+  pub slack : contentIn u .slack ≡ contentIn t .slack
+  pub bounds : (i : ℕ) → bound (contentIn u .tasks) (contentIn u .slack) i ≡ bound (contentIn t .tasks) (contentIn t .slack) i
+  pub lates : (i : ℕ) → i < contentIn t .tasks .count → late (contentIn u) i ≡ late (contentIn t) i
+
+-- a table that is not refused before 24
+module _ (e : ℕ) (t : List ℕ) (wanted : badEdition e || eqb (editionIn t) e ≡ false) (v : verdict t ≡ Accepted)
+    (w : wayTest e (contentIn t .tasks .task) (taskCount t) ≡ Accepted) where
+  passes : tests (contentIn t) ≡ Accepted
+  passes = verdict-parts t v .content
+
+  fits : Fits (contentIn t)
+  fits = table-fits t passes
+
+  known : badEdition e ≡ false
+  known = neither (badEdition e) _ wanted .0
+
+  from-known : badEdition (editionIn t) ≡ false
+  from-known = verdict-parts t v .edition
+
+  other : hasDeadlines (editionIn t) ≡ not (hasDeadlines e)
+  other = other-edition e (editionIn t) known from-known (neither (badEdition e) _ wanted .1)
+
+  abbrev P : Plan
+  P = planOf (converted e (contentIn t))
+
+  says : contentOf P ≡ converted e (contentIn t)
+  unfolding contentIn taskSetIn
+  says = plan-says e (contentIn t) passes w fits
+
+  accepts : testPlan P ≡ Accepted
+  unfolding contentIn taskSetIn
+  accepts = plan-accepts e (contentIn t) passes w fits known
+
+  there : contentIn (convertedBytes e t) ≡ converted e (contentIn t)
+  there = ap (λ (c : Content). contentIn (bytesOf c)) (sym says) ∙ plan-back P accepts ∙ says
+
+  there-accepted : verdict (convertedBytes e t) ≡ Accepted
+  there-accepted = ap (λ (c : Content). verdict (bytesOf c)) (sym says) ∙ verdict-back P accepts
+
+  same-deadline : hasDeadlines e ≡ false → (i : ℕ) → i < contentIn t .tasks .count → contentIn t .tasks .task i .deadline ≡ contentIn t .tasks .task i .offset
+  unfolding contentIn taskSetIn
+  same-deadline d = way-deadlines e (contentIn t .tasks .task) (taskCount t) w d
+
+  twins : Twins t (convertedBytes e t)
+  unfolding converted convertedTask bound late
+  twins =
+      record {
+        accepted = there-accepted;
+        cores = rw there;
+        labels = rw there;
+        loops = rw there;
+        separations = λ i. rw there;
+        budgets = λ i. rw there;
+        offsets = λ i. rw there;
+        offers = rw there;
+        slack = rw there;
+        bounds = λ i. rw there;
+        lates =
+            λ i h.
+            ap (λ (c : Content). late c i) there
+            ∙ converted-late e (contentIn t .edition) (contentIn t .tasks .task i) (contentIn t .slack i) other (λ d. same-deadline d i h);
+      }
+
+  -- ---- and back
+
+  any-deadline : hasDeadlines (editionIn t) ≡ true → (i : ℕ) → contentIn t .tasks .task i .deadline ≡ contentIn t .tasks .task i .offset
+  unfolding noTask
+  any-deadline d i =
+      ⊎-elim (λ (h : i < contentIn t .tasks .count). same-deadline (plain (hasDeadlines e) refl) i h)
+      (λ (h : contentIn t .tasks .count ≤ i). rw (fits .task-past i h))
+      (below-or-not i (contentIn t .tasks .count))
+    where
+      plain : (b : Bool) → hasDeadlines e ≡ b → hasDeadlines e ≡ false
+      plain true q = absurd (true≢false (sym d ∙ other ∙ ap not q))
+      plain false q = q
+
+  back : converted (editionIn t) (converted e (contentIn t)) ≡ contentIn t
+  unfolding converted convertedTask
+  back =
+      let each : (i : ℕ) → convertedTask (editionIn t) (contentIn t .tasks .task i) ≡ contentIn t .tasks .task i =
+      λ i. converted-kept (editionIn t) (contentIn t .tasks .task i) (fits .deadlines i) (λ d. any-deadline d i) in
+      content-ext (converted (editionIn t) (converted e (contentIn t))) (contentIn t) refl
+      (λ j. record { cores = contentIn t .tasks .cores; count = contentIn t .tasks .count; task = λ i. each i j })
+      refl refl refl
+
+  -- neither 29 nor 30 is met on the way back
+  back-way : wayTest (editionIn t) (converted e (contentIn t) .tasks .task) (taskCount t) ≡ Accepted
+  unfolding wayTest converted convertedTask contentIn taskSetIn
+  back-way = go (hasDeadlines e) refl other
+    where
+      go :
+          (b : Bool) → hasDeadlines e ≡ b → hasDeadlines (editionIn t) ≡ not b
+          → wayTest (editionIn t) (converted e (contentIn t) .tasks .task) (taskCount t) ≡ Accepted
+      go true p q = rw q (pass-lowest 30 _ (taskCount t) (λ i h. rw (p, eq-eqb (contentIn t .tasks .task i .offset) _ refl)))
+      go false p q = rw q (pass-lowest 29 _ (taskCount t) (λ i h. ne-eqb _ 0 (λ z. positive q i h z)))
+        where
+          -- 28 leaves a deadline of 1 or more, and it is the offset
+          positive : hasDeadlines (editionIn t) ≡ true → (i : ℕ) → i < taskCount t → contentIn t .tasks .task i .offset ≢ 0
+          positive d i h z =
+              let low = outside-passed 1 _ _ (rw d at (lowest-passed 28 _ (taskCount t) (deadlines-tested) i h)) .0 in
+              omega (arith, low, any-deadline d i, z)
+
+          deadlines-tested : lowest 28 (λ i. badDeadline (editionIn t) (contentIn t .tasks .task i)) (taskCount t) ≡ Accepted
+          unfolding test28
+          deadlines-tested = tests-28 (contentIn t) passes
+
+-- ---- the calls: what `convert` answers and leaves behind
+
+module _ (e : ℕ) (t out : List ℕ) (a : convertTest e t (length out) ≡ Accepted) where
+  wanted-passed : badEdition e || eqb (editionIn t) e ≡ false
+  unfolding convertTest wantedTest
+  wanted-passed = refuse-passed 1 _ (firstMet-passed _ _ a .0)
+
+  table-passed : verdict t ≡ Accepted
+  unfolding convertTest
+  table-passed = firstMet-passed _ _ (firstMet-passed _ _ a .1) .0
+
+  way-passed : wayTest e (contentIn t .tasks .task) (taskCount t) ≡ Accepted
+  unfolding convertTest
+  way-passed = firstMet-passed _ _ (firstMet-passed _ _ (firstMet-passed _ _ a .1) .1) .0
+
+  left-are : leftBy e t out ≡ convertedBytes e t
+  unfolding leftBy convertedLength convertedTo
+  left-are = rw a (take-at (convertedBytes e t) _ _ refl)
+
+  pub convert-twins : Twins t (leftBy e t out)
+  convert-twins = rw left-are (twins e t wanted-passed table-passed way-passed)
+
+  pub convert-edition : editionIn (leftBy e t out) ≡ e
+  unfolding converted
+  convert-edition = rw left-are (back-edition (converted e (contentIn t)))
+
+  -- "there and back gives the first bytes", from either side, in any buffer that is long enough
+  module _ (b : Bytes t) (again : List ℕ) (room : length t ≤ length again) where
+    pub there-and-back :
+        (convertTest (editionIn t) (leftBy e t out) (length again) ≡ Accepted)
+        × (convertedLength (editionIn t) (leftBy e t out) (length again) ≡ length t)
+        × (convertedTo (editionIn t) (leftBy e t out) again ≡ t ++ drop (length t) again)
+    unfolding convertedLength convertedTo
+    there-and-back = rw left-are (q, rw (q, bytes), rw (q, bytes))
+      where
+        bytes : convertedBytes (editionIn t) (convertedBytes e t) ≡ t
+        bytes =
+            ap (λ (c : Content). bytesOf (converted (editionIn t) c)) (there e t wanted-passed table-passed way-passed)
+            ∙ ap bytesOf (back e t wanted-passed table-passed way-passed)
+            ∙ rewritten t table-passed b
+
+        wants : wantedTest (editionIn t) (convertedBytes e t) ≡ Accepted
+        unfolding wantedTest converted
+        wants =
+            rw (
+              back-edition (converted e (contentIn t)),
+              from-known e t wanted-passed table-passed way-passed,
+              ne-eqb e (editionIn t) (λ s. eqb-false (editionIn t) e (neither (badEdition e) _ wanted-passed .1) (sym s)),
+            )
+
+        q : convertTest (editionIn t) (convertedBytes e t) (length again) ≡ Accepted
+        unfolding convertTest firstMet
+        q =
+            rw (
+              wants,
+              there-accepted e t wanted-passed table-passed way-passed,
+              way-there,
+              bytes,
+              le-ltb (length again) (length t) room,
+            )
+
+-- ---- 332 bytes
+
+pub convert-short : (e : ℕ) (t : List ℕ) → verdict t ≡ Accepted → length (convertedBytes e t) ≤ 332
+unfolding converted
+convert-short e t v =
+    let k = table-fits t (verdict-parts t v .content) in
+    let c = contentIn t in
+    ⊎-elim
+    (λ (z : c .offers ≡ 0). omega (arith, length-bytes (converted e c), size-times e (c .tasks .count), k .cores-high, k .tasks-high, z))
+    (λ (z : c .offers ≡ c .tasks .count). omega (arith, length-bytes (converted e c), size-times e (c .tasks .count), k .cores-high, k .tasks-high, z))
+    (k .offers)
+
+-- ---- 29 and 30
+
+pub verdict-number : (t : List ℕ) → numberOf (verdict t) ≤ 28
+unfolding verdict test1 test2 firstMet
+verdict-number t =
+    next-number 28 _ _ (refuse-number 28 1 _ (omega arith))
+    (next-number 28 _ _ (refuse-number 28 2 _ (omega arith)) (next-number 28 _ [] (tests-number (contentIn t)) (omega arith)))
+
+-- a refusal by a number above 28 comes from 29 and 30
+module _ (e : ℕ) (t : List ℕ) (room k i : ℕ) (high : 28 < k) where
+  from-way :
+      convertTest e t room ≡ Refused k i
+      → (badEdition e || eqb (editionIn t) e ≡ false) × (verdict t ≡ Accepted) × (wayTest e (contentIn t .tasks .task) (taskCount t) ≡ Refused k i)
+  unfolding convertTest wantedTest firstMet
+  from-way q =
+      let r1 = met-next _ _ k i (λ z. omega (arith, z, refuse-number 28 1 (badEdition e || eqb (editionIn t) e) (omega arith))) q in
+      let r2 = met-next (verdict t) _ k i (λ z. omega (arith, z, verdict-number t)) (r1 .1) in
+      (refuse-passed 1 _ (r1 .0), r2 .0, met-first _ _ k i (λ z. omega (arith, z, last)) (r2 .1))
+    where
+      last : numberOf (firstMet (refuse 24 (ltb room (length (convertedBytes e t))) ∷ [])) ≤ 28
+      last = next-number 28 _ [] (refuse-number 28 24 _ (omega arith)) (omega arith)
+
+  to-way :
+      badEdition e || eqb (editionIn t) e ≡ false → verdict t ≡ Accepted → wayTest e (contentIn t .tasks .task) (taskCount t) ≡ Refused k i
+      → convertTest e t room ≡ Refused k i
+  unfolding convertTest wantedTest firstMet
+  to-way p v w = rw (p, v, w)
+
+module _ (e : ℕ) (t : List ℕ) (room i : ℕ) where
+  abbrev unset : ℕ → Bool
+  unset j = noOffset (contentIn t .tasks .task j)
+
+  abbrev differs : ℕ → Bool
+  differs j = otherDeadline (contentIn t .tasks .task j)
+
+  -- the two ways
+  ways-of : badEdition e || eqb (editionIn t) e ≡ false → verdict t ≡ Accepted → ((e ≡ 2) × (editionIn t ≡ 1)) ⊎ ((e ≡ 1) × (editionIn t ≡ 2))
+  ways-of p v = let n = neither (badEdition e) _ p in ways e (editionIn t) (n .0) (verdict-parts t v .edition) (n .1)
+
+  -- "29 an offset is 0 on the way to edition 2", at the lowest such loop of a table that is accepted
+  pub refused-29 :
+      (convertTest e t room ≡ Refused 29 i) ↔ ((e ≡ 2) × (editionIn t ≡ 1) × (verdict t ≡ Accepted) × Lowest unset (taskCount t) i)
+  unfolding wayTest
+  refused-29 = (met, λ s. to-way e t room 29 i (omega arith) (rw (s .0, s .1)) (s .2) (rw (s .0) (met-lowest 29 unset (taskCount t) i (s .3))))
+    where
+      met : convertTest e t room ≡ Refused 29 i → (e ≡ 2) × (editionIn t ≡ 1) × (verdict t ≡ Accepted) × Lowest unset (taskCount t) i
+      met q =
+          let r = from-way e t room 29 i (omega arith) q in
+          ⊎-elim
+          (λ (s : (e ≡ 2) × (editionIn t ≡ 1)). (s .0, s .1, r .1, lowest-met 29 unset (taskCount t) 29 i (rw (s .0) at (r .2)) .1))
+          (λ (s : (e ≡ 1) × (editionIn t ≡ 2)). absurd (omega (arith, lowest-met 30 differs (taskCount t) 29 i (rw (s .0) at (r .2)) .0)))
+          (ways-of (r .0) (r .1))
+
+  -- "30 a deadline differs from its offset on the way to edition 1"
+  pub refused-30 :
+      (convertTest e t room ≡ Refused 30 i) ↔ ((e ≡ 1) × (editionIn t ≡ 2) × (verdict t ≡ Accepted) × Lowest differs (taskCount t) i)
+  unfolding wayTest
+  refused-30 = (met, λ s. to-way e t room 30 i (omega arith) (rw (s .0, s .1)) (s .2) (rw (s .0) (met-lowest 30 differs (taskCount t) i (s .3))))
+    where
+      met : convertTest e t room ≡ Refused 30 i → (e ≡ 1) × (editionIn t ≡ 2) × (verdict t ≡ Accepted) × Lowest differs (taskCount t) i
+      met q =
+          let r = from-way e t room 30 i (omega arith) q in
+          ⊎-elim
+          (λ (s : (e ≡ 2) × (editionIn t ≡ 1)). absurd (omega (arith, lowest-met 29 unset (taskCount t) 30 i (rw (s .0) at (r .2)) .0)))
+          (λ (s : (e ≡ 1) × (editionIn t ≡ 2)). (s .0, s .1, r .1, lowest-met 30 differs (taskCount t) 30 i (rw (s .0) at (r .2)) .1))
+          (ways-of (r .0) (r .1))

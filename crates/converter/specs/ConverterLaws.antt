@@ -1,0 +1,156 @@
+-- The conversion's answer and the bytes that it leaves behind, from what its code has seen.
+--     unwanted-large, unwanted-unknown, wanted-absent, wanted-first    the edition wanted, and the first byte
+--     way-none, way-met    29 and 30, by where the scan of the tasks ended
+--     judged-plan          what an accepted judgement hands back; plan-few: at most sixteen tasks; plan-way: 29 and 30 of its tasks
+--     Converts             the answer, its length and the bytes left behind are the definitions'
+--     convert-unwanted, convert-refused, convert-unfit, convert-written    each case of it
+use Prim.Native.Nat.{ℕ, _≤_, _<_}
+use native.Mathlib.Omega.{arith}
+use mathlib.Core.Path.{_≡_, refl, sym, ap, _∙_}
+use mathlib.Core.Bool.{Bool, true, false, cond, _||_}
+use mathlib.Core.List.{List, [], _∷_}
+use mathlib.Core.Logic.{_≢_, ⊎-elim}
+use native.Mathlib.Nat.{eq-or-lt-of-le}
+use lib.ListN.{length}
+use lib.Dec.{eqb}
+use borrow.Author.Tests.{ne-eqb}
+use Rattle.laws.specs.First.{first}
+use Rattle.laws.specs.FirstLaws.{first-le}
+use Rattle.laws.specs.TabLaws.{getD-tab}
+use Rattle.tasks.specs.declared.Task.{Task}
+use Rattle.tasks.specs.declared.Plan.{Plan}
+use Rattle.tasks.specs.declared.Answer.the-variants.{Accepted, Refused}
+use Rattle.tasks.specs.Content.{hasDeadlines, noTask, taskOf, planOf}
+use Rattle.tasks.specs.ContentLaws.{by-edition, Fits}
+use Rattle.tasks.specs.Tests.{lowest, firstMet, badEdition, tests, testPlan}
+use Rattle.tasks.specs.AnswerLaws.{neither, lowest-none, lowest-found}
+use Rattle.numbers.specs.Bytes.{byte}
+use Rattle.codec.specs.Table.{editionIn, taskCount, taskSetIn, contentIn, verdict}
+use Rattle.table.specs.declared.Judgement.{Judgement}
+use Rattle.table.specs.Judged.{judged}
+use Rattle.writer.specs.declared.Written.{Written}
+use Rattle.writer.specs.declared.Written.the-variants.{Refused as NotWritten}
+use Rattle.writer.specs.Written.{answerOfWritten, lengthOfWritten, writeTest, writtenLength, writtenTo}
+use Rattle.writer.specs.WriterLaws.{Writes}
+use Rattle.roundtrip.specs.SectionLaws.{Parts, verdict-parts, table-fits}
+use Rattle.converter.specs.Converted.{converted, wantedTest, noOffset, otherDeadline, wayTest, convertTest, convertedLength, convertedTo}
+use Rattle.converter.specs.ConvertLaws.{convertedPlan, plan-converted, way-ext, plan-says, plan-accepts, known-edition}
+
+-- ---- the edition wanted
+
+module _ (e : ℕ) where
+  pub unwanted-large : (b : Bool) → 255 < e → true ≡ badEdition e || b
+  unwanted-large b h = rw (ne-eqb e 1 (λ q. omega (arith, q)), ne-eqb e 2 (λ q. omega (arith, q)))
+
+  pub unwanted-unknown : (b : Bool) → badEdition e ≡ true → true ≡ badEdition e || b
+  unwanted-unknown b h = rw h
+
+  -- "The edition byte is absent": it reads as 0
+  pub wanted-absent : (t : List ℕ) → length t < 1 → badEdition e ≡ false → false ≡ badEdition e || eqb (editionIn t) e
+  unfolding byte
+  wanted-absent [] h known = rw (known, ne-eqb 0 e none)
+    where
+      none : 0 ≢ e
+      none q = ⊎-elim (λ (o : e ≡ 1). omega (arith, o, q)) (λ (o : e ≡ 2). omega (arith, o, q)) (known-edition e known)
+  wanted-absent (x ∷ t) h known = absurd (omega arith)
+
+  pub wanted-first : (t : List ℕ) (b : Bool) → badEdition e ≡ false → b ≡ eqb (editionIn t) e → b ≡ badEdition e || eqb (editionIn t) e
+  wanted-first t b known q = rw known q
+
+-- ---- 29 and 30
+
+module _ (e n : ℕ) (f : ℕ → Task) where
+  abbrev pub unfit : ℕ → Bool
+  unfit i = cond (hasDeadlines e) (noOffset (f i)) (otherDeadline (f i))
+
+  -- one scan for both
+  way-is : wayTest e f n ≡ lowest (cond (hasDeadlines e) 29 30) unfit n
+  unfolding wayTest
+  way-is =
+      by-edition
+      (λ b. cond b (lowest 29 (λ i. noOffset (f i)) n) (lowest 30 (λ i. otherDeadline (f i)) n)
+      ≡ lowest (cond b 29 30) (λ i. cond b (noOffset (f i)) (otherDeadline (f i))) n)
+      e refl refl
+
+  pub way-none : first unfit n ≡ n → wayTest e f n ≡ Accepted
+  way-none h = way-is ∙ lowest-none _ unfit n h
+
+  pub way-met : (i : ℕ) → first unfit n ≡ i → i ≢ n → wayTest e f n ≡ Refused (cond (hasDeadlines e) 29 30) i
+  way-met i h ne =
+      way-is ∙ lowest-found _ unfit n i h (⊎-elim (λ (q : i ≡ n). absurd (ne q)) (λ (q : i < n). q) (eq-or-lt-of-le (omega (arith, first-le unfit n, h))))
+
+-- ---- what the judgement hands back
+
+module _ (t : List ℕ) (j : Judgement) (q : j ≡ judged t) where
+  answer-is : j .answer ≡ verdict t
+  unfolding judged
+  answer-is = ap (λ (r : Judgement). r .answer) q
+
+  module _ (a : j .answer ≡ Accepted) where
+    accepted : verdict t ≡ Accepted
+    accepted = sym answer-is ∙ a
+
+    pub judged-plan : j .plan ≡ planOf (contentIn t)
+    unfolding judged
+    judged-plan = ap (λ (r : Judgement). r .plan) q ∙ rw accepted
+
+    fits : Fits (contentIn t)
+    fits = table-fits t (verdict-parts t accepted .content)
+
+    pub plan-few : j .plan .tasks ≤ 16
+    unfolding planOf
+    plan-few = rw judged-plan (fits .tasks-high)
+
+    pub plan-way : (e : ℕ) → wayTest e (taskOf (j .plan .task)) (j .plan .tasks) ≡ wayTest e (contentIn t .tasks .task) (taskCount t)
+    unfolding planOf taskOf contentIn taskSetIn
+    plan-way e =
+        rw judged-plan
+        (way-ext e (taskCount t) _ _ (λ i h. getD-tab (contentIn t .tasks .task) 16 i noTask (omega (arith, fits .tasks-high))))
+
+-- ---- the answer
+
+abbrev pub Converts : ℕ → List ℕ → List ℕ → Written → List ℕ → Type 0
+Converts e t out r after =
+    (answerOfWritten r ≡ convertTest e t (length out))
+    × (lengthOfWritten r ≡ convertedLength e t (length out))
+    × (after ≡ convertedTo e t out)
+
+module _ (e : ℕ) (t out : List ℕ) (r : Written) where
+  stopped : (k i : ℕ) → convertTest e t (length out) ≡ Refused k i → answerOfWritten r ≡ Refused k i → lengthOfWritten r ≡ 0 → Converts e t out r out
+  unfolding convertedLength convertedTo
+  stopped k i met a l = (rw (met, a), rw (met, l), rw met)
+
+  pub convert-unwanted : badEdition e || eqb (editionIn t) e ≡ true → r ≡ NotWritten 1 0 → Converts e t out r out
+  unfolding convertTest wantedTest firstMet
+  convert-unwanted h s = stopped 1 0 (rw h) (ap answerOfWritten s) (ap lengthOfWritten s)
+
+  module _ (wanted : badEdition e || eqb (editionIn t) e ≡ false) where
+    pub convert-refused : (k i : ℕ) → verdict t ≡ Refused k i → answerOfWritten r ≡ Refused k i → lengthOfWritten r ≡ 0 → Converts e t out r out
+    unfolding convertTest wantedTest firstMet
+    convert-refused k i v = stopped k i (rw (wanted, v))
+
+    module _ (v : verdict t ≡ Accepted) where
+      pub convert-unfit :
+          (k i : ℕ) → wayTest e (contentIn t .tasks .task) (taskCount t) ≡ Refused k i
+          → answerOfWritten r ≡ Refused k i → lengthOfWritten r ≡ 0 → Converts e t out r out
+      unfolding convertTest wantedTest firstMet
+      convert-unfit k i w = stopped k i (rw (wanted, v, w))
+
+      module _ (w : wayTest e (contentIn t .tasks .task) (taskCount t) ≡ Accepted) where
+        abbrev P : Plan
+        P = planOf (converted e (contentIn t))
+
+        says : contentOf P ≡ converted e (contentIn t)
+        says = plan-says e (contentIn t) (verdict-parts t v .content) w (table-fits t (verdict-parts t v .content))
+
+        pub converted-accepts : testPlan P ≡ Accepted
+        converted-accepts =
+            plan-accepts e (contentIn t) (verdict-parts t v .content) w (table-fits t (verdict-parts t v .content)) (neither (badEdition e) _ wanted .0)
+
+        same-test : writeTest P (length out) ≡ convertTest e t (length out)
+        unfolding writeTest convertTest wantedTest firstMet
+        same-test = rw (converted-accepts, says, wanted, v, w)
+
+        pub convert-written : (after : List ℕ) → Writes P out r after → Converts e t out r after
+        unfolding writtenLength writtenTo convertedLength convertedTo
+        convert-written after h = (h .0 ∙ same-test, h .1 ∙ rw (same-test, says), h .2 ∙ rw (same-test, says))
