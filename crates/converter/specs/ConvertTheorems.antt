@@ -21,14 +21,15 @@ use Rattle.tasks.specs.declared.Task.{Task}
 use Rattle.tasks.specs.declared.Plan.{Plan}
 use Rattle.tasks.specs.declared.Answer.{Answer}
 use Rattle.tasks.specs.declared.Answer.the-variants.{Accepted, Refused}
+use Rattle.tasks.specs.Numbers.{deadlineHigh}
 use Rattle.tasks.specs.TaskSet.{bound}
 use Rattle.tasks.specs.Content.{hasDeadlines, Content, late, noTask, contentOf, planOf}
 use Rattle.tasks.specs.ContentLaws.{content-ext, Fits}
-use Rattle.tasks.specs.Tests.{refuse, lowest, firstMet, numberOf, badEdition, badDeadline, test28, tests, testPlan}
+use Rattle.tasks.specs.Tests.{refuse, lowest, firstMet, numberOf, outside, badEdition, badDeadline, test28, tests, testPlan}
 use Rattle.tasks.specs.AnswerLaws.{refuse-passed, pass-lowest, lowest-passed, neither, outside-passed, firstMet-passed}
-use Rattle.tasks.specs.NumberLaws.{Lowest, lowest-met, met-lowest, refuse-number, next-number, tests-number, met-next, met-first}
+use Rattle.tasks.specs.NumberLaws.{Lowest, lowest-met, met-lowest, refuse-number, Numbers, all-numbers, tests-number, met-next, met-first}
 use Rattle.numbers.specs.ByteLaws.{Bytes}
-use Rattle.codec.specs.Table.{editionIn, taskCount, taskSetIn, contentIn, test1, test2, verdict, bytesOf}
+use Rattle.codec.specs.Table.{countedLength, editionIn, contentIn, test1, test2, verdict, bytesOf}
 use Rattle.codec.specs.TaskLaws.{size-times}
 use Rattle.sections.specs.WriteLaws.{length-bytes}
 use Rattle.roundtrip.specs.SectionLaws.{Parts, verdict-parts, table-fits}
@@ -57,7 +58,7 @@ pub record Twins (t u : List ℕ) : Type 0 where
 
 -- a table that is not refused before 24
 module _ (e : ℕ) (t : List ℕ) (wanted : badEdition e || eqb (editionIn t) e ≡ false) (v : verdict t ≡ Accepted)
-    (w : wayTest e (contentIn t .tasks .task) (taskCount t) ≡ Accepted) where
+    (w : wayTest e (contentIn t .tasks .task) (contentIn t .tasks .count) ≡ Accepted) where
   passes : tests (contentIn t) ≡ Accepted
   passes = verdict-parts t v .content
 
@@ -73,15 +74,17 @@ module _ (e : ℕ) (t : List ℕ) (wanted : badEdition e || eqb (editionIn t) e 
   other : hasDeadlines (editionIn t) ≡ not (hasDeadlines e)
   other = other-edition e (editionIn t) known from-known (neither (badEdition e) _ wanted .1)
 
+  same-edition : editionIn t ≡ contentIn t .edition
+  unfolding contentIn
+  same-edition = refl
+
   abbrev P : Plan
   P = planOf (converted e (contentIn t))
 
   says : contentOf P ≡ converted e (contentIn t)
-  unfolding contentIn taskSetIn
   says = plan-says e (contentIn t) passes w fits
 
   accepts : testPlan P ≡ Accepted
-  unfolding contentIn taskSetIn
   accepts = plan-accepts e (contentIn t) passes w fits known
 
   there : contentIn (convertedBytes e t) ≡ converted e (contentIn t)
@@ -91,8 +94,7 @@ module _ (e : ℕ) (t : List ℕ) (wanted : badEdition e || eqb (editionIn t) e 
   there-accepted = ap (λ (c : Content). verdict (bytesOf c)) (sym says) ∙ verdict-back P accepts
 
   same-deadline : hasDeadlines e ≡ false → (i : ℕ) → i < contentIn t .tasks .count → contentIn t .tasks .task i .deadline ≡ contentIn t .tasks .task i .offset
-  unfolding contentIn taskSetIn
-  same-deadline d = way-deadlines e (contentIn t .tasks .task) (taskCount t) w d
+  same-deadline d = way-deadlines e (contentIn t .tasks .task) (contentIn t .tasks .count) w d
 
   twins : Twins t (convertedBytes e t)
   unfolding converted convertedTask bound late
@@ -111,7 +113,7 @@ module _ (e : ℕ) (t : List ℕ) (wanted : badEdition e || eqb (editionIn t) e 
         lates =
             λ i h.
             ap (λ (c : Content). late c i) there
-            ∙ converted-late e (contentIn t .edition) (contentIn t .tasks .task i) (contentIn t .slack i) other (λ d. same-deadline d i h);
+            ∙ converted-late e (contentIn t .edition) (contentIn t .tasks .task i) (contentIn t .slack i) (rw same-edition at other) (λ d. same-deadline d i h);
       }
 
   -- ---- and back
@@ -131,31 +133,29 @@ module _ (e : ℕ) (t : List ℕ) (wanted : badEdition e || eqb (editionIn t) e 
   unfolding converted convertedTask
   back =
       let each : (i : ℕ) → convertedTask (editionIn t) (contentIn t .tasks .task i) ≡ contentIn t .tasks .task i =
-      λ i. converted-kept (editionIn t) (contentIn t .tasks .task i) (fits .deadlines i) (λ d. any-deadline d i) in
-      content-ext (converted (editionIn t) (converted e (contentIn t))) (contentIn t) refl
+      λ i. converted-kept (editionIn t) (contentIn t .tasks .task i) (rw (← same-edition) at (fits .deadlines i)) (λ d. any-deadline d i) in
+      content-ext (converted (editionIn t) (converted e (contentIn t))) (contentIn t) same-edition
       (λ j. record { cores = contentIn t .tasks .cores; count = contentIn t .tasks .count; task = λ i. each i j })
       refl refl refl
 
+  -- 28 leaves a deadline of 1 or more, and it is the offset
+  offset-low : hasDeadlines (editionIn t) ≡ true → (i : ℕ) → i < contentIn t .tasks .count → contentIn t .tasks .task i .offset ≢ 0
+  unfolding test28 contentIn
+  offset-low d i h z =
+      let tested : outside 1 deadlineHigh (contentIn t .tasks .task i .deadline) ≡ false =
+      rw d at (lowest-passed 28 (λ k. badDeadline (editionIn t) (contentIn t .tasks .task k)) (contentIn t .tasks .count) (tests-28 (contentIn t) passes) i h) in
+      omega (arith, outside-passed 1 deadlineHigh _ tested .0, any-deadline d i, z)
+
   -- neither 29 nor 30 is met on the way back
-  back-way : wayTest (editionIn t) (converted e (contentIn t) .tasks .task) (taskCount t) ≡ Accepted
-  unfolding wayTest converted convertedTask contentIn taskSetIn
+  back-way : wayTest (editionIn t) (converted e (contentIn t) .tasks .task) (contentIn t .tasks .count) ≡ Accepted
+  unfolding wayTest converted convertedTask
   back-way = go (hasDeadlines e) refl other
     where
       go :
           (b : Bool) → hasDeadlines e ≡ b → hasDeadlines (editionIn t) ≡ not b
-          → wayTest (editionIn t) (converted e (contentIn t) .tasks .task) (taskCount t) ≡ Accepted
-      go true p q = rw q (pass-lowest 30 _ (taskCount t) (λ i h. rw (p, eq-eqb (contentIn t .tasks .task i .offset) _ refl)))
-      go false p q = rw q (pass-lowest 29 _ (taskCount t) (λ i h. ne-eqb _ 0 (λ z. positive q i h z)))
-        where
-          -- 28 leaves a deadline of 1 or more, and it is the offset
-          positive : hasDeadlines (editionIn t) ≡ true → (i : ℕ) → i < taskCount t → contentIn t .tasks .task i .offset ≢ 0
-          positive d i h z =
-              let low = outside-passed 1 _ _ (rw d at (lowest-passed 28 _ (taskCount t) (deadlines-tested) i h)) .0 in
-              omega (arith, low, any-deadline d i, z)
-
-          deadlines-tested : lowest 28 (λ i. badDeadline (editionIn t) (contentIn t .tasks .task i)) (taskCount t) ≡ Accepted
-          unfolding test28
-          deadlines-tested = tests-28 (contentIn t) passes
+          → wayTest (editionIn t) (converted e (contentIn t) .tasks .task) (contentIn t .tasks .count) ≡ Accepted
+      go true p q = rw q (pass-lowest 30 _ (contentIn t .tasks .count) (λ i h. rw (p, eq-eqb (contentIn t .tasks .task i .offset) (contentIn t .tasks .task i .offset) refl)))
+      go false p q = rw q (pass-lowest 29 _ (contentIn t .tasks .count) (λ i h. ne-eqb _ 0 (offset-low q i h)))
 
 -- ---- the calls: what `convert` answers and leaves behind
 
@@ -168,7 +168,7 @@ module _ (e : ℕ) (t out : List ℕ) (a : convertTest e t (length out) ≡ Acce
   unfolding convertTest
   table-passed = firstMet-passed _ _ (firstMet-passed _ _ a .1) .0
 
-  way-passed : wayTest e (contentIn t .tasks .task) (taskCount t) ≡ Accepted
+  way-passed : wayTest e (contentIn t .tasks .task) (contentIn t .tasks .count) ≡ Accepted
   unfolding convertTest
   way-passed = firstMet-passed _ _ (firstMet-passed _ _ (firstMet-passed _ _ a .1) .1) .0
 
@@ -185,38 +185,42 @@ module _ (e : ℕ) (t out : List ℕ) (a : convertTest e t (length out) ≡ Acce
 
   -- "there and back gives the first bytes", from either side, in any buffer that is long enough
   module _ (b : Bytes t) (again : List ℕ) (room : length t ≤ length again) where
+    back-bytes : convertedBytes (editionIn t) (convertedBytes e t) ≡ t
+    back-bytes =
+        ap (λ (c : Content). bytesOf (converted (editionIn t) c)) (there e t wanted-passed table-passed way-passed)
+        ∙ ap bytesOf (back e t wanted-passed table-passed way-passed)
+        ∙ rewritten t table-passed b
+
+    back-wanted : wantedTest (editionIn t) (convertedBytes e t) ≡ Accepted
+    unfolding wantedTest converted
+    back-wanted =
+        rw (
+          back-edition (converted e (contentIn t)),
+          from-known e t wanted-passed table-passed way-passed,
+          ne-eqb e (editionIn t) (λ s. eqb-false (editionIn t) e (neither (badEdition e) _ wanted-passed .1) (sym s)),
+        )
+
+    back-there : wayTest (editionIn t) (contentIn (convertedBytes e t) .tasks .task) (contentIn (convertedBytes e t) .tasks .count) ≡ Accepted
+    unfolding converted
+    back-there = rw (there e t wanted-passed table-passed way-passed) (back-way e t wanted-passed table-passed way-passed)
+
+    back-test : convertTest (editionIn t) (convertedBytes e t) (length again) ≡ Accepted
+    unfolding convertTest firstMet
+    back-test =
+        rw (
+          back-wanted,
+          there-accepted e t wanted-passed table-passed way-passed,
+          back-there,
+          back-bytes,
+          le-ltb (length again) (length t) room,
+        )
+
     pub there-and-back :
         (convertTest (editionIn t) (leftBy e t out) (length again) ≡ Accepted)
         × (convertedLength (editionIn t) (leftBy e t out) (length again) ≡ length t)
         × (convertedTo (editionIn t) (leftBy e t out) again ≡ t ++ drop (length t) again)
     unfolding convertedLength convertedTo
-    there-and-back = rw left-are (q, rw (q, bytes), rw (q, bytes))
-      where
-        bytes : convertedBytes (editionIn t) (convertedBytes e t) ≡ t
-        bytes =
-            ap (λ (c : Content). bytesOf (converted (editionIn t) c)) (there e t wanted-passed table-passed way-passed)
-            ∙ ap bytesOf (back e t wanted-passed table-passed way-passed)
-            ∙ rewritten t table-passed b
-
-        wants : wantedTest (editionIn t) (convertedBytes e t) ≡ Accepted
-        unfolding wantedTest converted
-        wants =
-            rw (
-              back-edition (converted e (contentIn t)),
-              from-known e t wanted-passed table-passed way-passed,
-              ne-eqb e (editionIn t) (λ s. eqb-false (editionIn t) e (neither (badEdition e) _ wanted-passed .1) (sym s)),
-            )
-
-        q : convertTest (editionIn t) (convertedBytes e t) (length again) ≡ Accepted
-        unfolding convertTest firstMet
-        q =
-            rw (
-              wants,
-              there-accepted e t wanted-passed table-passed way-passed,
-              way-there,
-              bytes,
-              le-ltb (length again) (length t) room,
-            )
+    there-and-back = rw left-are (back-test, rw (back-test, back-bytes), rw (back-test, back-bytes))
 
 -- ---- 332 bytes
 
@@ -233,27 +237,28 @@ convert-short e t v =
 -- ---- 29 and 30
 
 pub verdict-number : (t : List ℕ) → numberOf (verdict t) ≤ 28
-unfolding verdict test1 test2 firstMet
+unfolding verdict test1 test2 Numbers
 verdict-number t =
-    next-number 28 _ _ (refuse-number 28 1 _ (omega arith))
-    (next-number 28 _ _ (refuse-number 28 2 _ (omega arith)) (next-number 28 _ [] (tests-number (contentIn t)) (omega arith)))
+    all-numbers 28 (test1 t ∷ test2 t ∷ tests (contentIn t) ∷ [])
+    (refuse-number 28 1 (badEdition (editionIn t)) (omega arith),
+    (refuse-number 28 2 (not (eqb (length t) (countedLength t))) (omega arith), (tests-number (contentIn t), tt)))
 
 -- a refusal by a number above 28 comes from 29 and 30
 module _ (e : ℕ) (t : List ℕ) (room k i : ℕ) (high : 28 < k) where
   from-way :
       convertTest e t room ≡ Refused k i
-      → (badEdition e || eqb (editionIn t) e ≡ false) × (verdict t ≡ Accepted) × (wayTest e (contentIn t .tasks .task) (taskCount t) ≡ Refused k i)
-  unfolding convertTest wantedTest firstMet
+      → (badEdition e || eqb (editionIn t) e ≡ false) × (verdict t ≡ Accepted) × (wayTest e (contentIn t .tasks .task) (contentIn t .tasks .count) ≡ Refused k i)
+  unfolding convertTest wantedTest Numbers
   from-way q =
       let r1 = met-next _ _ k i (λ z. omega (arith, z, refuse-number 28 1 (badEdition e || eqb (editionIn t) e) (omega arith))) q in
       let r2 = met-next (verdict t) _ k i (λ z. omega (arith, z, verdict-number t)) (r1 .1) in
       (refuse-passed 1 _ (r1 .0), r2 .0, met-first _ _ k i (λ z. omega (arith, z, last)) (r2 .1))
     where
       last : numberOf (firstMet (refuse 24 (ltb room (length (convertedBytes e t))) ∷ [])) ≤ 28
-      last = next-number 28 _ [] (refuse-number 28 24 _ (omega arith)) (omega arith)
+      last = all-numbers 28 (refuse 24 (ltb room (length (convertedBytes e t))) ∷ []) (refuse-number 28 24 (ltb room (length (convertedBytes e t))) (omega arith), tt)
 
   to-way :
-      badEdition e || eqb (editionIn t) e ≡ false → verdict t ≡ Accepted → wayTest e (contentIn t .tasks .task) (taskCount t) ≡ Refused k i
+      badEdition e || eqb (editionIn t) e ≡ false → verdict t ≡ Accepted → wayTest e (contentIn t .tasks .task) (contentIn t .tasks .count) ≡ Refused k i
       → convertTest e t room ≡ Refused k i
   unfolding convertTest wantedTest firstMet
   to-way p v w = rw (p, v, w)
@@ -271,28 +276,28 @@ module _ (e : ℕ) (t : List ℕ) (room i : ℕ) where
 
   -- "29 an offset is 0 on the way to edition 2", at the lowest such loop of a table that is accepted
   pub refused-29 :
-      (convertTest e t room ≡ Refused 29 i) ↔ ((e ≡ 2) × (editionIn t ≡ 1) × (verdict t ≡ Accepted) × Lowest unset (taskCount t) i)
+      (convertTest e t room ≡ Refused 29 i) ↔ ((e ≡ 2) × (editionIn t ≡ 1) × (verdict t ≡ Accepted) × Lowest unset (contentIn t .tasks .count) i)
   unfolding wayTest
-  refused-29 = (met, λ s. to-way e t room 29 i (omega arith) (rw (s .0, s .1)) (s .2) (rw (s .0) (met-lowest 29 unset (taskCount t) i (s .3))))
+  refused-29 = (met, λ s. to-way e t room 29 i (omega arith) (rw (s .0, s .1)) (s .2) (rw (s .0) (met-lowest 29 unset (contentIn t .tasks .count) i (s .3))))
     where
-      met : convertTest e t room ≡ Refused 29 i → (e ≡ 2) × (editionIn t ≡ 1) × (verdict t ≡ Accepted) × Lowest unset (taskCount t) i
+      met : convertTest e t room ≡ Refused 29 i → (e ≡ 2) × (editionIn t ≡ 1) × (verdict t ≡ Accepted) × Lowest unset (contentIn t .tasks .count) i
       met q =
           let r = from-way e t room 29 i (omega arith) q in
           ⊎-elim
-          (λ (s : (e ≡ 2) × (editionIn t ≡ 1)). (s .0, s .1, r .1, lowest-met 29 unset (taskCount t) 29 i (rw (s .0) at (r .2)) .1))
-          (λ (s : (e ≡ 1) × (editionIn t ≡ 2)). absurd (omega (arith, lowest-met 30 differs (taskCount t) 29 i (rw (s .0) at (r .2)) .0)))
+          (λ (s : (e ≡ 2) × (editionIn t ≡ 1)). (s .0, s .1, r .1, lowest-met 29 unset (contentIn t .tasks .count) 29 i (rw (s .0) at (r .2)) .1))
+          (λ (s : (e ≡ 1) × (editionIn t ≡ 2)). absurd (omega (arith, lowest-met 30 differs (contentIn t .tasks .count) 29 i (rw (s .0) at (r .2)) .0)))
           (ways-of (r .0) (r .1))
 
   -- "30 a deadline differs from its offset on the way to edition 1"
   pub refused-30 :
-      (convertTest e t room ≡ Refused 30 i) ↔ ((e ≡ 1) × (editionIn t ≡ 2) × (verdict t ≡ Accepted) × Lowest differs (taskCount t) i)
+      (convertTest e t room ≡ Refused 30 i) ↔ ((e ≡ 1) × (editionIn t ≡ 2) × (verdict t ≡ Accepted) × Lowest differs (contentIn t .tasks .count) i)
   unfolding wayTest
-  refused-30 = (met, λ s. to-way e t room 30 i (omega arith) (rw (s .0, s .1)) (s .2) (rw (s .0) (met-lowest 30 differs (taskCount t) i (s .3))))
+  refused-30 = (met, λ s. to-way e t room 30 i (omega arith) (rw (s .0, s .1)) (s .2) (rw (s .0) (met-lowest 30 differs (contentIn t .tasks .count) i (s .3))))
     where
-      met : convertTest e t room ≡ Refused 30 i → (e ≡ 1) × (editionIn t ≡ 2) × (verdict t ≡ Accepted) × Lowest differs (taskCount t) i
+      met : convertTest e t room ≡ Refused 30 i → (e ≡ 1) × (editionIn t ≡ 2) × (verdict t ≡ Accepted) × Lowest differs (contentIn t .tasks .count) i
       met q =
           let r = from-way e t room 30 i (omega arith) q in
           ⊎-elim
-          (λ (s : (e ≡ 2) × (editionIn t ≡ 1)). absurd (omega (arith, lowest-met 29 unset (taskCount t) 30 i (rw (s .0) at (r .2)) .0)))
-          (λ (s : (e ≡ 1) × (editionIn t ≡ 2)). (s .0, s .1, r .1, lowest-met 30 differs (taskCount t) 30 i (rw (s .0) at (r .2)) .1))
+          (λ (s : (e ≡ 2) × (editionIn t ≡ 1)). absurd (omega (arith, lowest-met 29 unset (contentIn t .tasks .count) 30 i (rw (s .0) at (r .2)) .0)))
+          (λ (s : (e ≡ 1) × (editionIn t ≡ 2)). (s .0, s .1, r .1, lowest-met 30 differs (contentIn t .tasks .count) 30 i (rw (s .0) at (r .2)) .1))
           (ways-of (r .0) (r .1))

@@ -14,7 +14,7 @@ use Rattle.tasks.specs.declared.Task.{Task}
 use Rattle.tasks.specs.declared.Answer.{Answer}
 use Rattle.tasks.specs.Content.{hasDeadlines, inEdition, Content}
 use Rattle.tasks.specs.Tests.{refuse, lowest, firstMet, unlessRefused, badEdition}
-use Rattle.codec.specs.Table.{editionIn, taskCount, contentIn, verdict, bytesOf}
+use Rattle.codec.specs.Table.{editionIn, contentIn, verdict, bytesOf}
 
 -- "Convert to edition 2 by giving each loop its offset as deadline, and back where every deadline equals its offset." In edition 1 the deadline
 -- is an unused place.
@@ -60,7 +60,7 @@ convertTest e t room =
     firstMet
     (wantedTest e t
     ∷ verdict t
-    ∷ wayTest e (contentIn t .tasks .task) (taskCount t)
+    ∷ wayTest e (contentIn t .tasks .task) (contentIn t .tasks .count)
     ∷ refuse 24 (ltb room (length (convertedBytes e t)))
     ∷ [])
 

@@ -20,12 +20,12 @@ use Rattle.laws.specs.TabLaws.{getD-tab}
 use Rattle.tasks.specs.declared.Task.{Task}
 use Rattle.tasks.specs.declared.Plan.{Plan}
 use Rattle.tasks.specs.declared.Answer.the-variants.{Accepted, Refused}
-use Rattle.tasks.specs.Content.{hasDeadlines, noTask, taskOf, planOf}
+use Rattle.tasks.specs.Content.{hasDeadlines, noTask, taskOf, contentOf, planOf}
 use Rattle.tasks.specs.ContentLaws.{by-edition, Fits}
 use Rattle.tasks.specs.Tests.{lowest, firstMet, badEdition, tests, testPlan}
 use Rattle.tasks.specs.AnswerLaws.{neither, lowest-none, lowest-found}
 use Rattle.numbers.specs.Bytes.{byte}
-use Rattle.codec.specs.Table.{editionIn, taskCount, taskSetIn, contentIn, verdict}
+use Rattle.codec.specs.Table.{editionIn, contentIn, verdict}
 use Rattle.table.specs.declared.Judgement.{Judgement}
 use Rattle.table.specs.Judged.{judged}
 use Rattle.writer.specs.declared.Written.{Written}
@@ -101,11 +101,11 @@ module _ (t : List ℕ) (j : Judgement) (q : j ≡ judged t) where
     unfolding planOf
     plan-few = rw judged-plan (fits .tasks-high)
 
-    pub plan-way : (e : ℕ) → wayTest e (taskOf (j .plan .task)) (j .plan .tasks) ≡ wayTest e (contentIn t .tasks .task) (taskCount t)
-    unfolding planOf taskOf contentIn taskSetIn
+    pub plan-way : (e : ℕ) → wayTest e (taskOf (j .plan .task)) (j .plan .tasks) ≡ wayTest e (contentIn t .tasks .task) (contentIn t .tasks .count)
+    unfolding planOf taskOf
     plan-way e =
         rw judged-plan
-        (way-ext e (taskCount t) _ _ (λ i h. getD-tab (contentIn t .tasks .task) 16 i noTask (omega (arith, fits .tasks-high))))
+        (way-ext e (contentIn t .tasks .count) _ _ (λ i h. getD-tab (contentIn t .tasks .task) 16 i noTask (omega (arith, fits .tasks-high))))
 
 -- ---- the answer
 
@@ -131,12 +131,12 @@ module _ (e : ℕ) (t out : List ℕ) (r : Written) where
 
     module _ (v : verdict t ≡ Accepted) where
       pub convert-unfit :
-          (k i : ℕ) → wayTest e (contentIn t .tasks .task) (taskCount t) ≡ Refused k i
+          (k i : ℕ) → wayTest e (contentIn t .tasks .task) (contentIn t .tasks .count) ≡ Refused k i
           → answerOfWritten r ≡ Refused k i → lengthOfWritten r ≡ 0 → Converts e t out r out
       unfolding convertTest wantedTest firstMet
       convert-unfit k i w = stopped k i (rw (wanted, v, w))
 
-      module _ (w : wayTest e (contentIn t .tasks .task) (taskCount t) ≡ Accepted) where
+      module _ (w : wayTest e (contentIn t .tasks .task) (contentIn t .tasks .count) ≡ Accepted) where
         abbrev P : Plan
         P = planOf (converted e (contentIn t))
 

@@ -60,7 +60,7 @@ module _ (m : ℕ) where
   either-number false x y h l = l
 
   -- all numbers of a list of tests
-  pub Numbers : List Answer → Type 0
+  unfoldable pub Numbers : List Answer → Type 0
   Numbers [] = Unit {0}
   Numbers (a ∷ l) = (numberOf a ≤ m) × Numbers l
 
