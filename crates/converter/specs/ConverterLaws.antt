@@ -1,9 +1,10 @@
 -- The conversion's answer and the bytes that it leaves behind, from what its code has seen.
---     unwanted-large, unwanted-unknown, wanted-absent, wanted-first    the edition wanted, and the first byte
+--     unwanted-large, unwanted-unknown, wanted-absent, wanted-first    the edition wanted, and the first byte; wanted-small: it fits one
 --     way-none, way-met    29 and 30, by where the scan of the tasks ended
---     judged-plan          what an accepted judgement hands back; plan-few: at most sixteen tasks; plan-way: 29 and 30 of its tasks
 --     Converts             the answer, its length and the bytes left behind are the definitions'
 --     convert-unwanted, convert-refused, convert-unfit, convert-written    each case of it
+--     plan-few             an accepted table's plan has at most sixteen tasks
+--     converted-accepts    converted, it meets none of a plan's numbers
 use Prim.Native.Nat.{ℕ, _≤_, _<_}
 use native.Mathlib.Omega.{arith}
 use mathlib.Core.Path.{_≡_, refl, sym, ap, _∙_}
@@ -54,6 +55,10 @@ module _ (e : ℕ) where
       none q = ⊎-elim (λ (o : e ≡ 1). omega (arith, o, q)) (λ (o : e ≡ 2). omega (arith, o, q)) (known-edition e known)
   wanted-absent (x ∷ t) h known = absurd (omega arith)
 
+  pub wanted-small : (b : Bool) → badEdition e || b ≡ false → e ≤ 255
+  wanted-small b h =
+      ⊎-elim (λ (o : e ≡ 1). omega (arith, o)) (λ (o : e ≡ 2). omega (arith, o)) (known-edition e (neither (badEdition e) b h .0))
+
   pub wanted-first : (t : List ℕ) (b : Bool) → badEdition e ≡ false → b ≡ eqb (editionIn t) e → b ≡ badEdition e || eqb (editionIn t) e
   wanted-first t b known q = rw known q
 
@@ -79,34 +84,6 @@ module _ (e n : ℕ) (f : ℕ → Task) where
   way-met i h ne =
       way-is ∙ lowest-found _ unfit n i h (⊎-elim (λ (q : i ≡ n). absurd (ne q)) (λ (q : i < n). q) (eq-or-lt-of-le (omega (arith, first-le unfit n, h))))
 
--- ---- what the judgement hands back
-
-module _ (t : List ℕ) (j : Judgement) (q : j ≡ judged t) where
-  answer-is : j .answer ≡ verdict t
-  unfolding judged
-  answer-is = ap (λ (r : Judgement). r .answer) q
-
-  module _ (a : j .answer ≡ Accepted) where
-    accepted : verdict t ≡ Accepted
-    accepted = sym answer-is ∙ a
-
-    pub judged-plan : j .plan ≡ planOf (contentIn t)
-    unfolding judged
-    judged-plan = ap (λ (r : Judgement). r .plan) q ∙ rw accepted
-
-    fits : Fits (contentIn t)
-    fits = table-fits t (verdict-parts t accepted .content)
-
-    pub plan-few : j .plan .tasks ≤ 16
-    unfolding planOf
-    plan-few = rw judged-plan (fits .tasks-high)
-
-    pub plan-way : (e : ℕ) → wayTest e (taskOf (j .plan .task)) (j .plan .tasks) ≡ wayTest e (contentIn t .tasks .task) (contentIn t .tasks .count)
-    unfolding planOf taskOf
-    plan-way e =
-        rw judged-plan
-        (way-ext e (contentIn t .tasks .count) _ _ (λ i h. getD-tab (contentIn t .tasks .task) 16 i noTask (omega (arith, fits .tasks-high))))
-
 -- ---- the answer
 
 abbrev pub Converts : ℕ → List ℕ → List ℕ → Written → List ℕ → Type 0
@@ -124,33 +101,72 @@ module _ (e : ℕ) (t out : List ℕ) (r : Written) where
   unfolding convertTest wantedTest firstMet
   convert-unwanted h s = stopped 1 0 (rw h) (ap answerOfWritten s) (ap lengthOfWritten s)
 
-  module _ (wanted : badEdition e || eqb (editionIn t) e ≡ false) where
-    pub convert-refused : (k i : ℕ) → verdict t ≡ Refused k i → answerOfWritten r ≡ Refused k i → lengthOfWritten r ≡ 0 → Converts e t out r out
+-- past 1 of the wanted edition, with the table's judgement
+module _ (e : ℕ) (t : List ℕ) (wanted : badEdition e || eqb (editionIn t) e ≡ false) (j : Judgement) (q : j ≡ judged t) where
+  judged-answer : j .answer ≡ verdict t
+  unfolding judged
+  judged-answer = ap (λ (r : Judgement). r .answer) q
+
+  pub convert-refused :
+      (out : List ℕ) (r : Written) (k i : ℕ) → j .answer ≡ Refused k i → answerOfWritten r ≡ j .answer → lengthOfWritten r ≡ 0
+      → Converts e t out r out
+  unfolding convertTest wantedTest firstMet
+  convert-refused out r k i m a =
+      let v : verdict t ≡ Refused k i = sym judged-answer ∙ m in
+      stopped e t out r k i (rw (wanted, v)) (a ∙ m)
+
+  module _ (a : j .answer ≡ Accepted) where
+    accepted : verdict t ≡ Accepted
+    accepted = sym judged-answer ∙ a
+
+    passes : tests (contentIn t) ≡ Accepted
+    passes = verdict-parts t accepted .content
+
+    fits : Fits (contentIn t)
+    fits = table-fits t passes
+
+    plan-is : j .plan ≡ planOf (contentIn t)
+    unfolding judged
+    plan-is = ap (λ (r : Judgement). r .plan) q ∙ rw accepted
+
+    pub plan-few : j .plan .tasks ≤ 16
+    unfolding planOf
+    plan-few = rw plan-is (fits .tasks-high)
+
+    -- 29 and 30 of the plan's tasks
+    plan-way : wayTest e (taskOf (j .plan .task)) (j .plan .tasks) ≡ wayTest e (contentIn t .tasks .task) (contentIn t .tasks .count)
+    unfolding planOf taskOf
+    plan-way =
+        rw plan-is
+        (way-ext e (contentIn t .tasks .count) _ _ (λ i h. getD-tab (contentIn t .tasks .task) 16 i noTask (omega (arith, fits .tasks-high))))
+
+    pub convert-unfit :
+        (out : List ℕ) (r : Written) (k i : ℕ) → wayTest e (taskOf (j .plan .task)) (j .plan .tasks) ≡ Refused k i
+        → answerOfWritten r ≡ Refused k i → lengthOfWritten r ≡ 0 → Converts e t out r out
     unfolding convertTest wantedTest firstMet
-    convert-refused k i v = stopped k i (rw (wanted, v))
+    convert-unfit out r k i m =
+        let w : wayTest e (contentIn t .tasks .task) (contentIn t .tasks .count) ≡ Refused k i = sym plan-way ∙ m in
+        stopped e t out r k i (rw (wanted, accepted, w))
 
-    module _ (v : verdict t ≡ Accepted) where
-      pub convert-unfit :
-          (k i : ℕ) → wayTest e (contentIn t .tasks .task) (contentIn t .tasks .count) ≡ Refused k i
-          → answerOfWritten r ≡ Refused k i → lengthOfWritten r ≡ 0 → Converts e t out r out
-      unfolding convertTest wantedTest firstMet
-      convert-unfit k i w = stopped k i (rw (wanted, v, w))
+    module _ (passed : wayTest e (taskOf (j .plan .task)) (j .plan .tasks) ≡ Accepted) (p : Plan) (made : p ≡ convertedPlan e (j .plan)) where
+      way : wayTest e (contentIn t .tasks .task) (contentIn t .tasks .count) ≡ Accepted
+      way = sym plan-way ∙ passed
 
-      module _ (w : wayTest e (contentIn t .tasks .task) (contentIn t .tasks .count) ≡ Accepted) where
-        abbrev P : Plan
-        P = planOf (converted e (contentIn t))
+      made-of : p ≡ planOf (converted e (contentIn t))
+      made-of = made ∙ ap (convertedPlan e) plan-is ∙ plan-converted e (contentIn t)
 
-        says : contentOf P ≡ converted e (contentIn t)
-        says = plan-says e (contentIn t) (verdict-parts t v .content) w (table-fits t (verdict-parts t v .content))
+      says : contentOf p ≡ converted e (contentIn t)
+      says = ap contentOf made-of ∙ plan-says e (contentIn t) passes way fits
 
-        pub converted-accepts : testPlan P ≡ Accepted
-        converted-accepts =
-            plan-accepts e (contentIn t) (verdict-parts t v .content) w (table-fits t (verdict-parts t v .content)) (neither (badEdition e) _ wanted .0)
+      pub converted-accepts : testPlan p ≡ Accepted
+      converted-accepts = ap testPlan made-of ∙ plan-accepts e (contentIn t) passes way fits (neither (badEdition e) _ wanted .0)
 
-        same-test : writeTest P (length out) ≡ convertTest e t (length out)
-        unfolding writeTest convertTest wantedTest firstMet
-        same-test = rw (converted-accepts, says, wanted, v, w)
+      same-test : (room : ℕ) → writeTest p room ≡ convertTest e t room
+      unfolding writeTest convertTest wantedTest firstMet
+      same-test room = rw (converted-accepts, says, wanted, accepted, way)
 
-        pub convert-written : (after : List ℕ) → Writes P out r after → Converts e t out r after
-        unfolding writtenLength writtenTo convertedLength convertedTo
-        convert-written after h = (h .0 ∙ same-test, h .1 ∙ rw (same-test, says), h .2 ∙ rw (same-test, says))
+      pub convert-written : (out : List ℕ) (r : Written) (after : List ℕ) → Writes p out r after → Converts e t out r after
+      unfolding writtenLength writtenTo convertedLength convertedTo
+      convert-written out r after h =
+          let z = same-test (length out) in
+          (h .0 ∙ z, h .1 ∙ rw (z, says), h .2 ∙ rw (z, says))
