@@ -239,9 +239,10 @@ convert-short e t v =
 pub verdict-number : (t : List ℕ) → numberOf (verdict t) ≤ 28
 unfolding verdict test1 test2 Numbers
 verdict-number t =
-    all-numbers 28 (test1 t ∷ test2 t ∷ tests (contentIn t) ∷ [])
-    (refuse-number 28 1 (badEdition (editionIn t)) (omega arith),
-    (refuse-number 28 2 (not (eqb (length t) (countedLength t))) (omega arith), (tests-number (contentIn t), tt)))
+    all-numbers 28 (test1 t ∷ test2 t ∷ tests (contentIn t) ∷ []) (
+      refuse-number 28 1 (badEdition (editionIn t)) (omega arith),
+      (refuse-number 28 2 (not (eqb (length t) (countedLength t))) (omega arith), (tests-number (contentIn t), tt)),
+    )
 
 -- a refusal by a number above 28 comes from 29 and 30
 module _ (e : ℕ) (t : List ℕ) (room k i : ℕ) (high : 28 < k) where

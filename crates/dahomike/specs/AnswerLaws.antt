@@ -3,7 +3,8 @@
 --     wish-plan, wish-answered        the same of a wish sheet
 --     counted-refused, counted-short, counted-done    the same of the names
 --     run-refused, run-done      the log run's answer
---     told-length, told-refused  the sentence's, by the cases of what came back
+--     told-length, told-refused          the sentence's, by the cases of what came back
+--     written-length, written-refused    the conversion's
 use Prim.Native.Nat.{ℕ, _+_, _*_, _≤_, _<_}
 use mathlib.Core.Path.{_≡_, sym, _∙_, ap}
 use mathlib.Core.Bool.{true, false}
@@ -12,6 +13,7 @@ use native.Mathlib.Omega.{arith}
 use lib.ListN.{length, take}
 use lib.Seq.{sets}
 use borrow.Author.Tests.{lt-ltb, le-ltb}
+use Rattle.tasks.specs.declared.Answer.{Answer}
 use Rattle.tasks.specs.declared.Answer.the-variants.{Accepted, Refused}
 use Rattle.tasks.specs.Tests.{firstMet, unlessRefused, tests}
 use Rattle.tasks.specs.AnswerLaws.{firstMet-passed}
@@ -28,9 +30,13 @@ use Rattle.sheet.specs.SheetTheorems.{wish-accepted}
 use Rattle.wording.specs.declared.Composed.{Composed}
 use Rattle.wording.specs.declared.Composed.the-variants.{Length, Refused as NotComposed}
 use Rattle.wording.specs.Told.{answerOfComposed, lengthOfComposed, sentenceTest, sentenceLength}
+use Rattle.writer.specs.declared.Written.{Written}
+use Rattle.writer.specs.declared.Written.the-variants.{Length as Wrote, Refused as NotWritten}
+use Rattle.writer.specs.Written.{answerOfWritten, lengthOfWritten}
+use Rattle.converter.specs.Converted.{convertTest, convertedLength}
 use Rattle.replay.specs.declared.run.Ran.{Ran}
 use Rattle.replay.specs.Ran.{runTest, ranOf}
-use Rattle.dahomike.specs.Answers.{answerNumber, judgeTest, judgeNumber, judgeLeaves, wishTest, wishNumber, wishLeaves, countedTest, countedNumber, countedLeaves, runNumber, sentenceNumber, roomTest, entryOf}
+use Rattle.dahomike.specs.Answers.{answerNumber, judgeTest, judgeNumber, judgeLeaves, wishTest, wishNumber, wishLeaves, countedTest, countedNumber, countedLeaves, runNumber, sentenceNumber, convertNumber, roomTest, entryOf}
 use Rattle.dahomike.specs.ReportLaws.{Reported, answered-is}
 
 -- ---- the judgement
@@ -117,15 +123,33 @@ module _ (t l : List ℕ) (room : ℕ) (r : Ran) (e : r ≡ ranOf t l room) wher
       let v : runTest t l room ≡ Accepted = sym (ap (λ (x : Ran). x .answer) e) ∙ a in
       rw v (ap (λ (x : Ran). x .taken + 65536 * x .refused) e ∙ rw v)
 
--- ---- the sentence
+-- ---- an answer that is a length or a refusal
 
+module _ (a : Answer) (n : ℕ) where
+  length-number : (l : ℕ) → a ≡ Accepted → l ≡ unlessRefused a n 0 → l ≡ answerNumber a n
+  unfolding answerNumber
+  length-number l e q = rw e (q ∙ rw e)
+
+  refused-number : (m j : ℕ) → a ≡ Refused m j → answerNumber (Refused m j) 0 ≡ answerNumber a n
+  unfolding answerNumber
+  refused-number m j e = rw e
+
+-- the sentence
 module _ (k i v room : ℕ) (r : Composed) (e : answerOfComposed r ≡ sentenceTest k i v room) where
   pub told-length : (n : ℕ) → r ≡ Length n → lengthOfComposed r ≡ sentenceLength k i v room → n ≡ sentenceNumber k i v room
-  unfolding sentenceNumber sentenceLength answerNumber
-  told-length n c l =
-      let accepted : sentenceTest k i v room ≡ Accepted = sym e ∙ ap answerOfComposed c in
-      rw accepted ((sym (ap lengthOfComposed c) ∙ l) ∙ rw accepted)
+  unfolding sentenceNumber sentenceLength
+  told-length n c l = length-number (sentenceTest k i v room) _ n (sym e ∙ ap answerOfComposed c) (sym (ap lengthOfComposed c) ∙ l)
 
   pub told-refused : (m j : ℕ) → r ≡ NotComposed m j → answerNumber (Refused m j) 0 ≡ sentenceNumber k i v room
-  unfolding sentenceNumber answerNumber
-  told-refused m j c = let met : sentenceTest k i v room ≡ Refused m j = sym e ∙ ap answerOfComposed c in rw met
+  unfolding sentenceNumber
+  told-refused m j c = refused-number (sentenceTest k i v room) _ m j (sym e ∙ ap answerOfComposed c)
+
+-- the conversion
+module _ (e : ℕ) (t : List ℕ) (room : ℕ) (r : Written) (q : answerOfWritten r ≡ convertTest e t room) where
+  pub written-length : (n : ℕ) → r ≡ Wrote n → lengthOfWritten r ≡ convertedLength e t room → n ≡ convertNumber e t room
+  unfolding convertNumber convertedLength
+  written-length n c l = length-number (convertTest e t room) _ n (sym q ∙ ap answerOfWritten c) (sym (ap lengthOfWritten c) ∙ l)
+
+  pub written-refused : (m j : ℕ) → r ≡ NotWritten m j → answerNumber (Refused m j) 0 ≡ convertNumber e t room
+  unfolding convertNumber
+  written-refused m j c = refused-number (convertTest e t room) _ m j (sym q ∙ ap answerOfWritten c)

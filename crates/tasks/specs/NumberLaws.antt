@@ -76,20 +76,43 @@ tests-number c =
     let one : (k : ℕ) (b : Bool) → k ≤ 28 → numberOf (refuse k b) ≤ 28 = refuse-number 28 in
     let at : (k : ℕ) (p : ℕ → Bool) (n : ℕ) → k ≤ 28 → numberOf (lowest k p n) ≤ 28 = lowest-number 28 in
     all-numbers 28
-    (test3 c ∷ test4 c ∷ test5 c ∷ test6 c ∷ test7 c ∷ test8 c ∷ test28 c ∷ test9 c ∷ test10 c ∷ test11 c ∷ test12 c ∷ test13 c ∷ [])
-    (one 3 (badCores (c .tasks .cores)) (omega arith),
-    (at 4 (badLabel (c .label)) (c .tasks .cores) (omega arith),
-    (one 5 (badCount (c .tasks .cores) (c .tasks .count)) (omega arith),
-    (at 6 (λ i. badSeparation (c .tasks .task i)) (c .tasks .count) (omega arith),
-    (at 7 (λ i. badBudget (c .tasks .task i)) (c .tasks .count) (omega arith),
-    (at 8 (λ i. badOffset (c .tasks .task i)) (c .tasks .count) (omega arith),
-    (at 28 (λ i. badDeadline (c .edition) (c .tasks .task i)) (c .tasks .count) (omega arith),
-    (one 9 (badMultiple (c .tasks)) (omega arith),
-    (one 10 (badShares (c .tasks)) (omega arith),
-    (one 11 (badOffers (c .tasks) (c .offers)) (omega arith),
-    (either-number 28 (eqb (c .offers) 0) (foundTest (c .slack) (row (found (c .tasks))) (c .tasks .count)) (compliantTest (c .tasks) (c .slack)) (at 12 (λ k. not (eqb (c .slack k) (row (found (c .tasks)) k))) (c .tasks .count) (omega arith)) (at 12 (λ k. not (covers (c .tasks) (c .slack) k)) (c .tasks .count) (omega arith)),
-    (at 13 (λ i. overBound (c .tasks .task i) (bound (c .tasks) (c .slack) i)) (c .tasks .count) (omega arith),
-    tt))))))))))))
+    (test3 c ∷ test4 c ∷ test5 c ∷ test6 c ∷ test7 c ∷ test8 c ∷ test28 c ∷ test9 c ∷ test10 c ∷ test11 c ∷ test12 c ∷ test13 c ∷ []) (
+      one 3 (badCores (c .tasks .cores)) (omega arith),
+      (
+        at 4 (badLabel (c .label)) (c .tasks .cores) (omega arith),
+        (
+          one 5 (badCount (c .tasks .cores) (c .tasks .count)) (omega arith),
+          (
+            at 6 (λ i. badSeparation (c .tasks .task i)) (c .tasks .count) (omega arith),
+            (
+              at 7 (λ i. badBudget (c .tasks .task i)) (c .tasks .count) (omega arith),
+              (
+                at 8 (λ i. badOffset (c .tasks .task i)) (c .tasks .count) (omega arith),
+                (
+                  at 28 (λ i. badDeadline (c .edition) (c .tasks .task i)) (c .tasks .count) (omega arith),
+                  (
+                    one 9 (badMultiple (c .tasks)) (omega arith),
+                    (
+                      one 10 (badShares (c .tasks)) (omega arith),
+                      (
+                        one 11 (badOffers (c .tasks) (c .offers)) (omega arith),
+                        (
+                          either-number 28 (eqb (c .offers) 0) (foundTest (c .slack) (row (found (c .tasks))) (c .tasks .count)) (compliantTest (c .tasks) (c .slack)) (at 12 (λ k. not (eqb (c .slack k) (row (found (c .tasks)) k))) (c .tasks .count) (omega arith)) (at 12 (λ k. not (covers (c .tasks) (c .slack) k)) (c .tasks .count) (omega arith)),
+                          (
+                            at 13 (λ i. overBound (c .tasks .task i) (bound (c .tasks) (c .slack) i)) (c .tasks .count) (omega arith),
+                            tt,
+                          ),
+                        ),
+                      ),
+                    ),
+                  ),
+                ),
+              ),
+            ),
+          ),
+        ),
+      ),
+    )
 
 -- ---- the test that a refusal comes from
 
