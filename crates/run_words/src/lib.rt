@@ -1,5 +1,5 @@
-// Fixed words of sentences, those between index and value: what would be right, for 14 to 28, of a log, the engine, lent buffers, wishes and
-// deadlines.
+// Fixed words of sentences, those between index and value: what would be right, for 14 to 30, of a log, the engine, lent buffers, wishes,
+// deadlines and the way between the editions.
 use decimal::put_words;
 ghost use Prim.Native.Nat.{_+_, _≤_};
 ghost use lib.ListN.{length};
@@ -108,9 +108,33 @@ fn put_wish_words(out: &mut [u8], at: usize, number: u32) -> usize
     }
 }
 
-// The words of 14 to 28, from `at` on.
+// 28 to 30: a loop's deadline, and offset and deadline on the way from one edition to the other.
+fn put_deadline_words(out: &mut [u8], at: usize, number: u32) -> usize
+    requires { ⌜ (28 ≤ number) × (number ≤ 30) × (at + 160 ≤ length (now out)) ⌝ }
+    ensures { λ r. ⌜ Stored (now (out .entry)) at (wording number .rule) r (now (out .exit)) ⌝ }
+{
+    match number {
+        28 => put_words(
+            out,
+            at,
+            b": its deadline must be 1 to 1,600,000 ticks, not ",
+        ),
+        29 => put_words(
+            out,
+            at,
+            b": on the way to edition 2, its offset must be at least 1 tick, not ",
+        ),
+        _ => put_words(
+            out,
+            at,
+            b": on the way to edition 1, its deadline must equal its offset, not ",
+        ),
+    }
+}
+
+// The words of 14 to 30, from `at` on.
 pub fn put_run_words(out: &mut [u8], at: usize, number: u32) -> usize
-    requires { ⌜ (14 ≤ number) × (number ≤ 28) × (at + 160 ≤ length (now out)) ⌝ }
+    requires { ⌜ (14 ≤ number) × (number ≤ 30) × (at + 160 ≤ length (now out)) ⌝ }
     ensures { λ r. ⌜ Stored (now (out .entry)) at (wording number .rule) r (now (out .exit)) ⌝ }
 {
     match number {
@@ -118,10 +142,6 @@ pub fn put_run_words(out: &mut [u8], at: usize, number: u32) -> usize
         ..=23 => put_engine_words(out, at, number),
         ..=25 => put_buffer_words(out, at, number),
         ..=27 => put_wish_words(out, at, number),
-        _ => put_words(
-            out,
-            at,
-            b": its deadline must be 1 to 1,600,000 ticks, not ",
-        ),
+        _ => put_deadline_words(out, at, number),
     }
 }

@@ -20,7 +20,7 @@ pub record Wording : Type 0 where
 abbrev pub fixed : String → String → Wording
 fixed place rule = record { place = words place; rule = words rule }
 
--- document 01's numbers, and 25 to 28: what the index counts, and what would be right. Where document 01 gives no index, 0 is where the count begins
+-- document 01's numbers, and 25 to 30: what the index counts, and what would be right. Where document 01 gives no index, 0 is where the count begins
 unfoldable pub wordings : List Wording
 wordings =
     fixed " for byte " ": the edition must be 1 or 2, not "
@@ -51,6 +51,8 @@ wordings =
     ∷ fixed " for loop " ": its wish must be at least its budget and at most 16 times its separation, not "
     ∷ fixed " for loop " " onwards: whole offsets and compliant slack must exist with every bound at most its wish, and the number of such solutions is "
     ∷ fixed " for loop " ": its deadline must be 1 to 1,600,000 ticks, not "
+    ∷ fixed " for loop " ": on the way to edition 2, its offset must be at least 1 tick, not "
+    ∷ fixed " for loop " ": on the way to edition 1, its deadline must equal its offset, not "
     ∷ []
 
 -- "A number outside the table … gets a sentence with the word `unknown`"
@@ -59,7 +61,7 @@ otherWording = fixed " for place " ": the meaning of this number is unknown here
 
 -- "the table, which 25 and each later number joins"
 abbrev pub lastKnown : ℕ
-lastKnown = 28
+lastKnown = 30
 
 abbrev pub Known : ℕ → Type 0
 Known k = (1 ≤ k) × (k ≤ lastKnown)

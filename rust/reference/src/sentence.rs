@@ -13,6 +13,7 @@ pub fn sentence(number: u32, index: u32, value: u64) -> String {
         .or_else(|| of_engine(number, index, value))
         .or_else(|| of_buffer(number, index, value))
         .or_else(|| of_wish(number, index, value))
+        .or_else(|| of_conversion(number, index, value))
         .unwrap_or_else(|| of_unknown(number, index, value))
 }
 
@@ -180,6 +181,22 @@ fn of_wish(number: u32, index: u32, value: u64) -> Option<String> {
         27 => format!(
             "Refusal 27 for loop {index} onwards: whole offsets and compliant slack must exist \
              with every bound at most its wish, and the number of such solutions is {value}."
+        ),
+        _ => return None,
+    };
+    Some(sentence)
+}
+
+/// 29 and 30: a loop on the way from one edition to the other.
+fn of_conversion(number: u32, index: u32, value: u64) -> Option<String> {
+    let sentence = match number {
+        29 => format!(
+            "Refusal 29 for loop {index}: on the way to edition 2, its offset must be at least 1 \
+             tick, not {value}."
+        ),
+        30 => format!(
+            "Refusal 30 for loop {index}: on the way to edition 1, its deadline must equal its \
+             offset, not {value}."
         ),
         _ => return None,
     };
