@@ -1,6 +1,7 @@
 // Lines that make a call, print its case under the name at the line's end and, of a release or a step, take the state that it hands back.
 use state::State;
 use tasks::Plan;
+use test_converts::converted;
 use test_engine::calls;
 use test_engine::lent::lent;
 use test_logs::run;
@@ -17,47 +18,45 @@ use test_tables::written;
 use test_wishes::wished;
 use test_world::world::World;
 
-fn judge(table: Draft, words: &[u8]) {
-    let bytes = table.bytes;
-    judged::bytes(words, front(&bytes, table.length));
-}
-
 fn say_printed(buffer: &[u8; text::LONGEST], length: usize) {
     say::text(front(buffer, length));
     say::fact(b"later bytes stay", untouched(buffer, length));
 }
 
-// `text NAME`: what the program `plan` prints for the table in the making.
-fn printed(table: Draft, words: &[u8]) {
-    let bytes = table.bytes;
+// `text NAME`: what the program `plan` prints for the table.
+fn printed(table: &[u8], words: &[u8]) {
     let mut buffer = [FILL; text::LONGEST];
     say::case(b"text ", words);
-    let length = text::text(front(&bytes, table.length), &mut buffer);
+    let length = text::text(table, &mut buffer);
     say_printed(&buffer, length);
 }
 
-// `wish NAME`: the table in the making is the sheet.
-fn wish(table: Draft, words: &[u8]) {
-    let bytes = table.bytes;
-    wished(words, front(&bytes, table.length));
+// `convert EDITION ROOM NAME`.
+fn convert(table: &[u8], words: &[u8]) {
+    let edition = number(words, 0);
+    let room = number(words, edition.next);
+    converted(
+        rest(words, room.next),
+        table,
+        (edition.value % 4294967296) as u32,
+        room.value as usize,
+    );
 }
 
-// `write ROOM NAME`: the table in the making is what should come out.
-fn write(plan: Plan, table: Draft, words: &[u8]) {
+// `write ROOM NAME`: the table is what should come out.
+fn write(plan: Plan, table: &[u8], words: &[u8]) {
     let room = number(words, 0);
-    let bytes = table.bytes;
     say::case(b"plan ", rest(words, room.next));
-    written::outcome(plan, room.value as usize, front(&bytes, table.length));
+    written::outcome(plan, room.value as usize, table);
 }
 
 // `run ROOM NAME`.
-fn run_log(table: Draft, log: Draft, words: &[u8]) {
+fn run_log(table: &[u8], log: Draft, words: &[u8]) {
     let room = number(words, 0);
-    let bytes = table.bytes;
     let entries = log.bytes;
     run::bytes(
         rest(words, room.next),
-        front(&bytes, table.length),
+        table,
         front(&entries, log.length),
         room.value as usize,
     );
@@ -91,9 +90,9 @@ fn release(state: State, words: &[u8]) -> State {
 }
 
 // A call of the table alone or of numbers alone. Whether the line is one.
-fn of_table(table: Draft, what: &[u8], words: &[u8]) -> bool {
+fn of_table(table: &[u8], what: &[u8], words: &[u8]) -> bool {
     if check::same(what, b"judge") {
-        judge(table, words);
+        judged::bytes(words, table);
         return true;
     }
     if check::same(what, b"text") {
@@ -101,7 +100,11 @@ fn of_table(table: Draft, what: &[u8], words: &[u8]) -> bool {
         return true;
     }
     if check::same(what, b"wish") {
-        wish(table, words);
+        wished(words, table);
+        return true;
+    }
+    if check::same(what, b"convert") {
+        convert(table, words);
         return true;
     }
     if check::same(what, b"sentence") {
@@ -112,7 +115,9 @@ fn of_table(table: Draft, what: &[u8], words: &[u8]) -> bool {
 }
 
 fn stateless(world: World, what: &[u8], words: &[u8]) {
-    let table = world.table;
+    let draft = world.table;
+    let bytes = draft.bytes;
+    let table = front(&bytes, draft.length);
     let log = world.log;
     let plan = world.plan;
     let state = world.state;

@@ -118,7 +118,7 @@ run p loops name log reports =
 abbrev entry : ℕ → ℕ → ℕ → Entry
 entry t i c = record { tick = t; loop = i; demand = c }
 
-abbrev p3 : ℕ → List Task
+abbrev pub p3 : ℕ → List Task
 p3 y = loop 2 1 2 ∷ loop 2 1 2 ∷ loop 3 3 y ∷ []
 
 -- behind two loops whose weights are equal, 6: one of weight 4 and one of 12
@@ -129,7 +129,7 @@ others = loop 6 1 1 ∷ loop 2 1 1 ∷ []
 abbrev rising : List Task
 rising = loop 6 1 4 ∷ loop 3 1 0 ∷ loop 2 1 1 ∷ []
 
-abbrev p1 : List Task
+abbrev pub p1 : List Task
 p1 = loop 10 9 10 ∷ loop 10 9 10 ∷ loop 100 20 90 ∷ []
 
 pub cases : List Case

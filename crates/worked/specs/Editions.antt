@@ -29,10 +29,10 @@ use Rattle.wishes.specs.Wish.{withOffsets, largestOffset, atSlack, wished, pass
 use Rattle.sheet.specs.Wished.{wishVerdict, wishOf}
 use Rattle.worked.specs.Cases.{concat, tableWith, sameAnswer, Shown, prints, printAll, SheetCase, solvedBy, turnedAway, meets, meetAll}
 
-abbrev due : ℕ → ℕ → ℕ → ℕ → Task
+abbrev pub due : ℕ → ℕ → ℕ → ℕ → Task
 due T C Y D = record { separation = T; budget = C; offset = Y; deadline = D }
 
-abbrev p1Due : ℕ → ℕ → ℕ → List Task
+abbrev pub p1Due : ℕ → ℕ → ℕ → List Task
 p1Due a b c = due 10 9 10 a ∷ due 10 9 10 b ∷ due 100 20 90 c ∷ []
 
 abbrev shown : List Task → String → Shown
