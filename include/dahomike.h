@@ -1,5 +1,6 @@
 /*
- * Judgement, its counted loops, offsets from wishes, the log run and the sentences of refusals of Dahomike as C functions.
+ * Judgement, its counted loops, offsets from wishes, the log run, the sentences of refusals and the conversion between the editions of
+ * Dahomike as C functions.
  * `rt staticlib dahomike` writes the library that has them, target/staticlib/libdahomike.a. The proved source is
  * crates/dahomike/src/lib.rt; .ci/documents holds the declarations here to it.
  *
@@ -10,10 +11,10 @@
  * have any length: what is wrong with them is refused. The functions keep no pointer and allocate nothing.
  *
  * What a refused call answers: 4,294,967,296 x number + index. So answer >> 32 is the refusal number, 0 for a call that is not refused,
- * and the low 32 bits are the index: the lowest failing core for 4, loop for 6, 7, 8, 12, 13, 26 and 28, log entry for 15, and 0 for
- * every other number. A refused call writes nothing.
+ * and the low 32 bits are the index: the lowest failing core for 4, loop for 6, 7, 8, 12, 13, 26, 28, 29 and 30, log entry for 15, and 0
+ * for every other number. A refused call writes nothing.
  *
- *      1  The edition byte is absent or neither 1 nor 2.
+ *      1  The edition byte is absent or neither 1 nor 2; or the wanted edition is neither, or the one that the table is in.
  *      2  The length isn't exactly what the edition and the counts give, or a count is absent.
  *      3  Cores are not 2 to 8.
  *      4  A core label is above 63 or not above the one before.
@@ -29,15 +30,17 @@
  *     14  A log's length isn't 2 + 9 x count, or its count is absent.
  *     15  A log tick is above 1,000,000,000.
  *     16  The lent answer is shorter than 8 x count.
- *     24  The buffer lent for the judgement, for its names or for offsets from wishes is too short.
+ *     24  The buffer lent for the judgement, for its names, for offsets from wishes or for the conversion is too short.
  *     25  The buffer lent for a sentence is too short.
  *     26  On a wish sheet, W is not C to 16 x T.
  *     27  On a wish sheet, no solution exists.
  *     28  In edition 2, a deadline is not 1 to 1,600,000.
+ *     29  On the way to edition 2, an offset is 0.
+ *     30  On the way to edition 1, a deadline differs from its offset.
  *
  * Each number is tested over all entries before the next, and the first that is met is answered: 1 to 8, 28 and 9 to 13 of the table,
- * then 24 for dahomike_judge and dahomike_counted, 14 to 16 for dahomike_run_log; 1 to 7 of the sheet, then 26, 28, 9, 10, 11, 27 and 24
- * for dahomike_wish. dahomike_sentence tests 25 alone.
+ * then 24 for dahomike_judge and dahomike_counted, 14 to 16 for dahomike_run_log, 29 or 30 and then 24 for dahomike_convert; 1 to 7 of
+ * the sheet, then 26, 28, 9, 10, 11, 27 and 24 for dahomike_wish. dahomike_sentence tests 25 alone.
  */
 #ifndef DAHOMIKE_H
 #define DAHOMIKE_H
@@ -60,7 +63,7 @@ extern "C" {
  *
  * Answers n, which is 3 to 16, or the refusal: one of 1 to 13, 24 and 28. With a slack count of 0 the slack is found: the least that is
  * compliant. Otherwise it is the slack offered, tested by 12. Deadlines are tested by 28 and not used otherwise: the slack and the
- * bounds, and what the functions below write, are the same in both editions.
+ * bounds, and what the functions below write, all but dahomike_convert, are the same in both editions.
  */
 uint64_t dahomike_judge(const uint8_t *table, size_t table_len, uint8_t *out, size_t out_len);
 
@@ -114,7 +117,7 @@ uint64_t dahomike_run_log(const uint8_t *table, size_t table_len, const uint8_t 
 /*
  * Tells a refusal in one English sentence, which names the loop, core, log entry or release and says what would be right.
  *
- *     number  the refusal number, 1 to 28; those that no C function answers are told too. Any other number gets a sentence with the word
+ *     number  the refusal number, 1 to 30; those that no C function answers are told too. Any other number gets a sentence with the word
  *             `unknown`, and no other sentence has it
  *     index   the index that came with it
  *     value   what was found there, as the separation for 6 or the tick for 15; docs/REFUSALS.md says which. 0 where none is meant
@@ -123,6 +126,20 @@ uint64_t dahomike_run_log(const uint8_t *table, size_t table_len, const uint8_t 
  * Answers the sentence's length in bytes, or the refusal 25. No two calls that differ in number, index or value give the same sentence.
  */
 uint64_t dahomike_sentence(uint32_t number, uint32_t index, uint64_t value, uint8_t *out, size_t out_len);
+
+/*
+ * Converts a show table to the other edition: to edition 2 with each loop's offset as its deadline, and to edition 1 where every deadline
+ * equals its offset.
+ *
+ *     table    as above
+ *     edition  the edition wanted, 1 or 2: the one that the table is not in
+ *     out      where the call is not refused, the table in the wanted edition: the same labels, T, C, Y and slack, offered or to be found;
+ *              bytes beyond it stay. 332 bytes are enough for every table
+ *
+ * Answers the converted table's length in bytes, which is 42 to 332, or the refusal: one of 1 to 13, 24 and 28 to 30. Both tables have
+ * the same slack, bounds and late, as `plan` prints them, and the second converted back is the first.
+ */
+uint64_t dahomike_convert(const uint8_t *table, size_t table_len, uint32_t edition, uint8_t *out, size_t out_len);
 
 #ifdef __cplusplus
 }

@@ -1,6 +1,6 @@
 /*
  * The header and the static library from C: P1 and P4 judged, P1's and P3's counted loops named, offsets found for P1's loops and their
- * wishes, P11 run, two refusals told. .ci/run compiles and runs it where there is a C compiler.
+ * wishes, P11 run, two refusals told, P1 converted to edition 2 and back. .ci/run compiles and runs it where there is a C compiler.
  */
 #include "../dahomike.h"
 
@@ -136,12 +136,40 @@ static void tell_refusals(void) {
     expect_bytes("99 told", out, sizeof out, (const uint8_t *)unknown, sizeof unknown - 1);
 }
 
+static void convert_p1(void) {
+    static const uint8_t dated[] = {
+        2, 2, 0, 1, 3,
+        10, 0, 0, 0, 9, 0, 0, 0, 10, 0, 0, 0, 10, 0, 0, 0,
+        10, 0, 0, 0, 9, 0, 0, 0, 10, 0, 0, 0, 10, 0, 0, 0,
+        100, 0, 0, 0, 20, 0, 0, 0, 90, 0, 0, 0, 90, 0, 0, 0,
+        0,
+    };
+    uint8_t p1[sizeof p4 - 12], later[sizeof dated], out[sizeof dated + 1];
+    memcpy(p1, p4, sizeof p1);
+    p1[sizeof p1 - 1] = 0;
+    memcpy(later, dated, sizeof dated);
+    later[33] = 11;
+    memset(out, 0xee, sizeof out);
+    expect_answer("P1 to edition 257", dahomike_convert(p1, sizeof p1, 257, out, sizeof out), REFUSED(1, 0));
+    expect_answer("P1 to edition 1", dahomike_convert(p1, sizeof p1, 1, out, sizeof out), REFUSED(1, 0));
+    expect_answer("P1 to edition 2, a short buffer", dahomike_convert(p1, sizeof p1, 2, out, sizeof dated - 1), REFUSED(24, 0));
+    expect_answer("P3 to edition 2", dahomike_convert(p3, sizeof p3, 2, out, 0), REFUSED(29, 2));
+    expect_answer("a later deadline", dahomike_convert(later, sizeof later, 1, out, sizeof out), REFUSED(30, 1));
+    expect_bytes("refused, converted", out, sizeof out, out, 0);
+    expect_answer("P1 to edition 2", dahomike_convert(p1, sizeof p1, 2, out, sizeof out), sizeof dated);
+    expect_bytes("P1 to edition 2", out, sizeof out, dated, sizeof dated);
+    memset(out, 0xee, sizeof out);
+    expect_answer("P1 back", dahomike_convert(dated, sizeof dated, 1, out, sizeof out), sizeof p1);
+    expect_bytes("P1 back", out, sizeof out, p1, sizeof p1);
+}
+
 int main(void) {
     judge_p1();
     name_counted();
     find_offsets();
     run_p11();
     tell_refusals();
+    convert_p1();
     if (failures == 0) {
         puts("the C functions from C: ok");
     }

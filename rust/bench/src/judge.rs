@@ -7,7 +7,8 @@ use std::hint::black_box;
 use reference::Refusal;
 use samples::{Random, Shape, tight};
 
-use crate::turns::{best, median_ratio, seconds, take_turns};
+use crate::shapes::{SHAPES, print};
+use crate::turns::{seconds, take_turns};
 
 /// Tables timed for each number of tasks.
 const TABLES: usize = 500;
@@ -18,9 +19,6 @@ const TURNS: usize = 41;
 /// A turn goes through all tables this often.
 const PASSES: usize = 8;
 
-const SHAPES: [Shape; 3] =
-    [Shape { cores: 2, tasks: 3 }, Shape { cores: 4, tasks: 8 }, Shape { cores: 8, tasks: 16 }];
-
 type Form = fn(&[u8], &mut [u8]) -> Result<usize, Refusal>;
 
 pub fn run() {
@@ -28,22 +26,12 @@ pub fn run() {
     for shape in SHAPES {
         let tables = accepted_tables(shape);
         check(&tables);
-        let (proved_turns, plain_turns) = take_turns(
+        let (proved, plain) = take_turns(
             TURNS,
             || seconds_a_table(dahomike::judge, &tables),
             || seconds_a_table(fast::judge, &tables),
         );
-        let (proved, plain) = (best(&proved_turns), best(&plain_turns));
-        println!(
-            "{:2} tasks on {} cores: proved {:8.0}/s  plain {:8.0}/s  \
-             time ratio proved/plain {:.2} (median of turns {:.2})",
-            shape.tasks,
-            shape.cores,
-            1.0 / proved,
-            1.0 / plain,
-            proved / plain,
-            median_ratio(&proved_turns, &plain_turns),
-        );
+        print(shape, "", &proved, &plain);
     }
 }
 

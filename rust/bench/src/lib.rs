@@ -1,10 +1,12 @@
 //! Times the proved code against the plain code written for speed, in the same run: the judgement,
-//! wishes, the engine's step and tick, and the log run.
+//! conversions, wishes, the engine's step and tick, and the log run.
 
 #![forbid(unsafe_code)]
 
+pub mod convert;
 pub mod engine;
 pub mod judge;
 pub mod log;
+mod shapes;
 mod turns;
 pub mod wish;

@@ -8,6 +8,7 @@ use std::hint::black_box;
 use reference::{Refusal, Table};
 use samples::{Random, Shape, slow_sheets, wishing};
 
+use crate::shapes::{SHAPES, print};
 use crate::turns::{best, median_ratio, seconds, take_turns};
 
 /// Sheets timed for each number of tasks.
@@ -20,9 +21,6 @@ const PASSES: usize = 8;
 /// The same on the slowest sheets, one at a time: a turn takes about so many seconds, or one call.
 const SLOW_TURNS: usize = 21;
 const SLOW_TURN: f64 = 0.001;
-
-const SHAPES: [Shape; 3] =
-    [Shape { cores: 2, tasks: 3 }, Shape { cores: 4, tasks: 8 }, Shape { cores: 8, tasks: 16 }];
 
 type Form = fn(&[u8], &mut [u8]) -> Result<usize, Refusal>;
 
@@ -40,22 +38,12 @@ pub fn run() {
 fn typical(shape: Shape) {
     let sheets = solved_sheets(shape);
     check(&sheets);
-    let (proved_turns, plain_turns) = take_turns(
+    let (proved, plain) = take_turns(
         TURNS,
         || seconds_a_sheet(dahomike::wish, &sheets, PASSES),
         || seconds_a_sheet(fast::wish_into, &sheets, PASSES),
     );
-    let (proved, plain) = (best(&proved_turns), best(&plain_turns));
-    println!(
-        "{:2} tasks on {} cores: proved {:8.0}/s  plain {:8.0}/s  \
-         time ratio proved/plain {:.2} (median of turns {:.2})",
-        shape.tasks,
-        shape.cores,
-        1.0 / proved,
-        1.0 / plain,
-        proved / plain,
-        median_ratio(&proved_turns, &plain_turns),
-    );
+    print(shape, "", &proved, &plain);
 }
 
 /// Sheets that have a solution.

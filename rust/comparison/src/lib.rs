@@ -1,11 +1,14 @@
 //! Compares the proved code, and the plain code written for speed, with the reference: of a
-//! judgement, a log run, a sentence and a wish the answer and every byte of the lent buffer and
-//! around it, of a release or a step the answer and every field that it hands back. A log run is
-//! held to demand 3 as well, and a sentence and a wish to what document 02 says of them. All but
-//! sentences are of either edition, and what must not depend on it is compared between the two.
+//! judgement, a log run, a sentence, a wish and a conversion the answer and every byte of the lent
+//! buffer and around it, of a release or a step the answer and every field that it hands back. A
+//! log run is held to demand 3 as well, and a sentence, a wish and a conversion to what document 02
+//! says of them. All but sentences are of either edition, and what must not depend on it is
+//! compared between the two.
 
 #![forbid(unsafe_code)]
 
+mod conversion_tally;
+mod conversions;
 mod counts;
 mod edition_names;
 mod engine;
@@ -24,6 +27,8 @@ mod twins;
 mod wish_tally;
 mod wishes;
 
+pub use conversion_tally::ConversionTally;
+pub use conversions::{compare_conversion, compare_conversion_at};
 pub use edition_names::EDITIONS_AT_LEAST;
 pub use engine::{compare_release, compare_step, compare_steps};
 pub use engine_tally::EngineTally;

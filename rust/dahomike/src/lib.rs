@@ -6,7 +6,7 @@
 //! the deadline D; a count, n or 0, and as many entries of slack. A number has 4 bytes, low byte
 //! first, so a task has 12 bytes in edition 1 and 16 in edition 2. What the functions answer and
 //! write depends on neither edition nor deadlines, but that 28 refuses a deadline that is not 1 to
-//! 1,600,000.
+//! 1,600,000, and that `convert` takes a table from one edition to the other.
 
 pub use records::Refusal;
 
@@ -50,6 +50,14 @@ mod ffi {
             number: u32,
             index: u32,
             value: u64,
+            out: *mut u8,
+            out_len: usize,
+        ) -> u64;
+
+        pub fn dahomike_convert(
+            table: *const u8,
+            table_len: usize,
+            edition: u32,
             out: *mut u8,
             out_len: usize,
         ) -> u64;
@@ -135,6 +143,20 @@ pub fn sentence(number: u32, index: u32, value: u64) -> String {
     let length = sentence_into(number, index, value, &mut text).expect("no sentence is longer");
     text.truncate(length);
     String::from_utf8(text).expect("a sentence is ASCII")
+}
+
+/// Converts a show table to the wanted edition: to 2 with each offset as deadline, and to 1 where
+/// every deadline equals its offset. Where the call is not refused, the converted table stands in
+/// `out`, later bytes of `out` stay, and its length comes back, which is at most 332. Labels, T, C,
+/// Y and offered slack are as they were, and slack that was to be found still is. Both tables have
+/// the same slack, bounds and late, as `plan` prints them, and the second converted back is the
+/// first. Where the call is refused, `out` stays as it is.
+pub fn convert(table: &[u8], edition: u32, out: &mut [u8]) -> Result<usize, Refusal> {
+    // SAFETY: as in `judge`.
+    let answer = unsafe {
+        ffi::dahomike_convert(table.as_ptr(), table.len(), edition, out.as_mut_ptr(), out.len())
+    };
+    decode(answer).map(|length| length as usize)
 }
 
 /// How many entries were taken and how many refused, of taken + 65,536 × refused.

@@ -1,9 +1,9 @@
-//! The C calls on the largest table, the longest log, the longest sentence and a slow wish sheet in
-//! a thread with a stack of 64 KiB. A call that needs more ends the whole test program.
+//! The C calls on the largest tables, the longest log, the longest sentence and a slow wish sheet
+//! in a thread with a stack of 64 KiB. A call that needs more ends the whole test program.
 
 use std::thread::Builder;
 
-use dahomike::{counted, judge, run_log, sentence_into, wish};
+use dahomike::{convert, counted, judge, run_log, sentence_into, wish};
 
 const STACK: usize = 64 * 1024;
 
@@ -16,13 +16,22 @@ const LONGEST: &[u8] = b"Refusal 10 for loop 4294967295 onwards: the shares must
 
 /// Eight cores and sixteen tasks (16, 8, 16), which fill the cores, with deadlines; no slack.
 fn table() -> Vec<u8> {
-    let mut table = vec![2, 8, 0, 1, 2, 3, 4, 5, 6, 7, 16];
+    [tasks(2, &[16, 8, 16, 1_600_000]), vec![0]].concat()
+}
+
+/// The same tasks with offsets as deadlines, or of edition 1, and with this slack.
+fn convertible(edition: u8, slack: &[u32]) -> Vec<u8> {
+    let fields = if edition == 1 { 3 } else { 4 };
+    let entries = slack.iter().flat_map(|x| x.to_le_bytes()).collect();
+    [tasks(edition, &[16, 8, 16, 16][..fields]), vec![slack.len() as u8], entries].concat()
+}
+
+/// The edition, eight cores, and sixteen tasks with these fields.
+fn tasks(edition: u8, fields: &[u32]) -> Vec<u8> {
+    let mut table = vec![edition, 8, 0, 1, 2, 3, 4, 5, 6, 7, 16];
     for _ in 0..16 {
-        for field in [16u32, 8, 16, 1_600_000] {
-            table.extend(field.to_le_bytes());
-        }
+        fields.iter().for_each(|field| table.extend(field.to_le_bytes()));
     }
-    table.push(0);
     table
 }
 
@@ -52,8 +61,14 @@ fn log() -> Vec<u8> {
     log
 }
 
+/// What these calls give in a thread with a small stack.
+fn on_small_stack<T: Send + 'static>(calls: impl FnOnce() -> T + Send + 'static) -> T {
+    let thread = Builder::new().stack_size(STACK).spawn(calls).expect("the thread starts");
+    thread.join().expect("the calls come back")
+}
+
 #[test]
-fn every_call_on_a_stack_of_64_kib() {
+fn every_call_but_the_conversion_on_a_stack_of_64_kib() {
     let (table, sheet, log) = (table(), sheet(), log());
     let mut plan = vec![0xee; 8 * 16];
     let mut names = vec![0xee; 8];
@@ -68,9 +83,8 @@ fn every_call_on_a_stack_of_64_kib() {
         let told = sentence_into(10, u32::MAX, u64::MAX, &mut text);
         ((judged, named, wished, run, told), (plan, names, offsets, answer, text))
     };
-    let thread = Builder::new().stack_size(STACK).spawn(calls).expect("the thread starts");
     let ((judged, named, wished, run, told), (plan, names, offsets, answer, text)) =
-        thread.join().expect("the calls come back");
+        on_small_stack(calls);
     assert_eq!(judged, Ok(16));
     // All weights are equal: the lowest seven of the sixteen are counted.
     assert_eq!(named, Ok(7));
@@ -87,4 +101,18 @@ fn every_call_on_a_stack_of_64_kib() {
     }
     assert_eq!(told, Ok(LONGEST.len()));
     assert_eq!(text, LONGEST);
+}
+
+#[test]
+fn the_conversion_on_a_stack_of_64_kib() {
+    for slack in [&[][..], &[11; 16]] {
+        let (one, two) = (convertible(1, slack), convertible(2, slack));
+        assert_eq!((one.len(), two.len()), (204 + 4 * slack.len(), 268 + 4 * slack.len()));
+        for (from, edition, to) in [(one.clone(), 2, two.clone()), (two, 1, one)] {
+            let mut out = vec![0xee; to.len()];
+            let (answer, out) = on_small_stack(move || (convert(&from, edition, &mut out), out));
+            assert_eq!(answer, Ok(to.len()));
+            assert_eq!(out, to);
+        }
+    }
 }

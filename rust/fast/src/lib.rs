@@ -1,12 +1,13 @@
-//! The judgement of a show table, the engine's release and step, the log run, and the offsets from
-//! wishes, written for speed: the proved code is timed against them. Numbers have at most 64 bits,
-//! and nothing is on the heap. The judgement makes one pass over the tasks where one is enough, and
-//! one division by H and one by m for each round of the slack search. The engine advances a state
-//! where it lies. The log run goes from event to event and not from tick to tick. A wish sheet that
-//! takes many rounds leaps over most of them.
+//! The judgement of a show table, the engine's release and step, the log run, the offsets from
+//! wishes, and the conversion between the editions, written for speed: the proved code is timed
+//! against them. Numbers have at most 64 bits, and nothing is on the heap. The judgement makes one
+//! pass over the tasks where one is enough, and one division by H and one by m for each round of
+//! the slack search. The engine advances a state where it lies. The log run goes from event to
+//! event and not from tick to tick. A wish sheet that takes many rounds leaps over most of them.
 
 #![forbid(unsafe_code)]
 
+mod convert;
 mod engine;
 mod heads;
 mod log;
@@ -14,6 +15,7 @@ mod slack;
 mod table;
 mod wish;
 
+pub use convert::convert;
 pub use engine::{release, step, tick};
 pub use log::{run_log, run_log_by_ticks};
 pub use wish::{wish_by_rounds_into, wish_into, wish_rounds};

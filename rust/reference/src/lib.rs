@@ -1,13 +1,14 @@
 //! The judgement of a show table, the engine's release and step, the log run, the sentences of
-//! refusals and the offsets from wishes, written from documents 01 and 02 alone, in their order and
-//! with their words beside each step. They are what the proved code is compared with, so they are
-//! plain before they are quick: the numbers of a judgement and of a wish are 128 bits wide, the log
-//! run goes tick by tick on a machine of its own, and nothing is worked out in a shorter way than
-//! the documents say it. The wording of the sentences, which they leave free, is written out a
-//! second time.
+//! refusals, the offsets from wishes and the conversion between the editions, written from
+//! documents 01 and 02 alone, in their order and with their words beside each step. They are what
+//! the proved code is compared with, so they are plain before they are quick: the numbers of a
+//! judgement and of a wish are 128 bits wide, the log run goes tick by tick on a machine of its
+//! own, and nothing is worked out in a shorter way than the documents say it. The wording of the
+//! sentences, which they leave free, is written out a second time.
 
 #![forbid(unsafe_code)]
 
+mod convert;
 mod engine;
 mod log;
 mod log_run;
@@ -21,6 +22,7 @@ mod wish;
 
 pub use records::{IDLE, Refusal, Report, State, Task, Tasks};
 
+pub use convert::{convert, convert_into};
 pub use engine::{Released, Stepped, chosen, points, release, step};
 pub use log::{Entry, Log};
 pub use log_run::{Outcome, outcomes, run_log};

@@ -8,7 +8,12 @@ use reference::{Table, Task};
 /// first is for the judgement to say.
 pub fn faulty_table(random: &mut Random) -> Table {
     let make = random.pick(&[mixed, offered, any_tight]);
-    let mut table = make(random);
+    let table = make(random);
+    with_faults(random, table)
+}
+
+/// The table with one to three such faults.
+pub fn with_faults(random: &mut Random, mut table: Table) -> Table {
     for _ in 0..random.between(1, 3) {
         add_fault(random, &mut table);
     }

@@ -1,16 +1,19 @@
-//! What judgements, engines, log runs, sentences and wishes are compared on, and all but the
-//! sentences timed on, made from a fixed seed.
+//! What judgements, engines, log runs, sentences, wishes and conversions are compared on, and all
+//! but the sentences timed on, made from a fixed seed.
 //!
 //! Show tables: valid ones, tight ones, ones with an H near its limit, ones that offer slack around
 //! compliance, faulty ones and damaged bytes. Engine states: sound ones, and ones damaged in one
 //! clause of soundness. Release logs: ones that keep their table, ones that do not, and damaged
 //! bytes. Refusals to be told: of known and of unknown numbers, and pairs that differ in little.
 //! Wish sheets: ones with room, ones at the edge of having a solution, ones with wishes at the ends
-//! of their range, faulty ones, and the slowest that were found. Of tables, and of what is made
-//! from them, about half are of edition 1 and half of edition 2; what is timed is of edition 1.
+//! of their range, faulty ones, and the slowest that were found. Tables to be converted: ones that
+//! can be, ones that meet 29 or 30, and faulty ones; with the editions wanted of them. Of tables,
+//! and of what is made from them, about half are of edition 1 and half of edition 2; what is timed
+//! is of edition 1, but for tables that are converted to it.
 
 #![forbid(unsafe_code)]
 
+mod conversions;
 mod damaged_logs;
 mod damaged_states;
 mod damaged_tables;
@@ -28,6 +31,9 @@ mod sound_states;
 mod tight_tables;
 mod wish_sheets;
 
+pub use conversions::{
+    convertible, faulty_convertible, inconvertible, wanted_edition, without_zero_offsets,
+};
 pub use damaged_logs::{damaged_log, noise_log};
 pub use damaged_states::damaged_state;
 pub use damaged_tables::{damaged_table, noise_table};

@@ -31,7 +31,7 @@ pub fn short_accepted(random: &mut Random) -> Table {
 }
 
 /// The first table that a maker makes and the judgement accepts.
-fn accepted(random: &mut Random, make: fn(&mut Random) -> Table) -> Table {
+pub fn accepted(random: &mut Random, make: fn(&mut Random) -> Table) -> Table {
     loop {
         let table = make(random);
         if reference::judge(&table.bytes()).is_ok() {
