@@ -136,7 +136,7 @@ uint64_t dahomike_sentence(uint32_t number, uint32_t index, uint64_t value, uint
  *     out      where the call is not refused, the table in the wanted edition: the same labels, T, C, Y and slack, offered or to be found;
  *              bytes beyond it stay. 332 bytes are enough for every table
  *
- * Answers the converted table's length in bytes, which is 42 to 332, or the refusal: one of 1 to 13, 24 and 28 to 30. Both tables have
+ * Answers the converted table's length in bytes, at most 332, or the refusal: one of 1 to 13, 24 and 28 to 30. Both tables have
  * the same slack, bounds and late, as `plan` prints them, and the second converted back is the first.
  */
 uint64_t dahomike_convert(const uint8_t *table, size_t table_len, uint32_t edition, uint8_t *out, size_t out_len);

@@ -14,8 +14,8 @@
 use Prim.Native.Nat.{ℕ, zero, suc, _≤_, _<_}
 use native.Mathlib.Omega.{arith}
 use mathlib.Core.Path.{_≡_, refl, sym, ap, _∙_}
-use mathlib.Core.Bool.{Bool, true, false, cond, not, _&&_, _||_, true≢false}
-use mathlib.Core.List.{List, [], _∷_, _++_}
+use mathlib.Core.Bool.{Bool, true, false, cond, not, _||_, true≢false}
+use mathlib.Core.List.{List, [], _∷_}
 use mathlib.Core.Logic.{_⊎_, inl, inr, ⊎-elim}
 use lib.Dec.{eqb}
 use borrow.Author.Tests.{eqb-true, eqb-false, not-false}
@@ -28,8 +28,8 @@ use Rattle.tasks.specs.declared.Answer.the-variants.{Accepted}
 use Rattle.tasks.specs.TaskSet.{TaskSet, plain, found, row}
 use Rattle.tasks.specs.PlainLaws.{plain-multiple, plain-shares, plain-compliant, plain-found, plain-bounds}
 use Rattle.tasks.specs.Content.{hasDeadlines, inEdition, Content, lateOf, noTask, taskOf, contentOf, planOf}
-use Rattle.tasks.specs.ContentLaws.{plan-ext, edition-zero, edition-again, by-edition, Fits, fits-back}
-use Rattle.tasks.specs.Tests.{refuse, lowest, firstMet, badEdition, badDeadline, badMultiple, badShares, compliantTest, foundTest, boundsTest, test3, test4, test5, test6, test7, test8, test28, test9, test10, test11, test12, test13, tests, testPlan}
+use Rattle.tasks.specs.ContentLaws.{plan-ext, edition-zero, edition-again, Fits, fits-back}
+use Rattle.tasks.specs.Tests.{refuse, firstMet, badEdition, badDeadline, badMultiple, badShares, compliantTest, foundTest, boundsTest, test3, test4, test5, test6, test7, test8, test28, test9, test10, test11, test12, test13, tests, testPlan}
 use Rattle.tasks.specs.TestsLaws.{tests-limits, plan-accepted}
 use Rattle.tasks.specs.AnswerLaws.{pass-lowest, lowest-passed, lowest-ext, orNext-passed, firstMet-pass, firstMet-passed, firstMet-append, pass-outside}
 use Rattle.converter.specs.Converted.{convertedTask, converted, noOffset, otherDeadline, wayTest}

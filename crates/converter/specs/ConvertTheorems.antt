@@ -8,35 +8,33 @@
 --     refused-29, refused-30    29 and 30 are met exactly in their cases
 use Prim.Native.Nat.{ℕ, _≤_, _<_}
 use native.Mathlib.Omega.{arith}
-use mathlib.Core.Path.{_≡_, refl, sym, ap, fun-ext, _∙_}
+use mathlib.Core.Path.{_≡_, refl, sym, ap, _∙_}
 use mathlib.Core.Bool.{Bool, true, false, not, _||_, true≢false}
 use mathlib.Core.List.{List, [], _∷_, _++_}
 use mathlib.Core.Logic.{_↔_, _⊎_, _≢_, ⊎-elim}
 use lib.ListN.{length, take, drop}
 use lib.Seq.{take-at}
 use lib.Dec.{ltb, eqb}
-use borrow.Author.Tests.{ltb-false, le-ltb, eqb-true, eqb-false, eq-eqb, ne-eqb}
+use borrow.Author.Tests.{le-ltb, eqb-false, eq-eqb, ne-eqb}
 use Rattle.laws.specs.EveryLaws.{below-or-not}
-use Rattle.tasks.specs.declared.Task.{Task}
 use Rattle.tasks.specs.declared.Plan.{Plan}
-use Rattle.tasks.specs.declared.Answer.{Answer}
 use Rattle.tasks.specs.declared.Answer.the-variants.{Accepted, Refused}
 use Rattle.tasks.specs.Numbers.{deadlineHigh}
 use Rattle.tasks.specs.TaskSet.{bound}
 use Rattle.tasks.specs.Content.{hasDeadlines, Content, late, noTask, contentOf, planOf}
 use Rattle.tasks.specs.ContentLaws.{content-ext, Fits}
-use Rattle.tasks.specs.Tests.{refuse, lowest, firstMet, numberOf, outside, badEdition, badDeadline, test28, tests, testPlan}
+use Rattle.tasks.specs.Tests.{refuse, firstMet, numberOf, outside, badEdition, badDeadline, test28, tests, testPlan}
 use Rattle.tasks.specs.AnswerLaws.{refuse-passed, pass-lowest, lowest-passed, neither, outside-passed, firstMet-passed}
 use Rattle.tasks.specs.NumberLaws.{Lowest, lowest-met, met-lowest, refuse-number, Numbers, all-numbers, tests-number, met-next, met-first}
 use Rattle.numbers.specs.ByteLaws.{Bytes}
 use Rattle.codec.specs.Table.{countedLength, editionIn, contentIn, test1, test2, verdict, bytesOf}
 use Rattle.codec.specs.TaskLaws.{size-times}
 use Rattle.sections.specs.WriteLaws.{length-bytes}
-use Rattle.roundtrip.specs.SectionLaws.{Parts, verdict-parts, table-fits}
+use Rattle.roundtrip.specs.SectionLaws.{verdict-parts, table-fits}
 use Rattle.roundtrip.specs.BackLaws.{back-edition}
 use Rattle.roundtrip.specs.RoundTrip.{rewritten, plan-back, verdict-back}
 use Rattle.converter.specs.Converted.{convertedTask, converted, convertedBytes, wantedTest, noOffset, otherDeadline, wayTest, convertTest, convertedLength, convertedTo}
-use Rattle.converter.specs.ConvertLaws.{converted-fits, way-offsets, way-deadlines, tests-28, converted-late, converted-kept, plan-says, plan-accepts, ways, other-edition}
+use Rattle.converter.specs.ConvertLaws.{way-deadlines, tests-28, converted-late, converted-kept, plan-says, plan-accepts, ways, other-edition}
 
 unfoldable pub leftBy : ℕ → List ℕ → List ℕ → List ℕ
 leftBy e t out = take (convertedLength e t (length out)) (convertedTo e t out)

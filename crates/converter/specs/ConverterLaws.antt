@@ -33,7 +33,7 @@ use Rattle.writer.specs.declared.Written.{Written}
 use Rattle.writer.specs.declared.Written.the-variants.{Refused as NotWritten}
 use Rattle.writer.specs.Written.{answerOfWritten, lengthOfWritten, writeTest, writtenLength, writtenTo}
 use Rattle.writer.specs.WriterLaws.{Writes}
-use Rattle.roundtrip.specs.SectionLaws.{Parts, verdict-parts, table-fits}
+use Rattle.roundtrip.specs.SectionLaws.{verdict-parts, table-fits}
 use Rattle.converter.specs.Converted.{converted, wantedTest, noOffset, otherDeadline, wayTest, convertTest, convertedLength, convertedTo}
 use Rattle.converter.specs.ConvertLaws.{convertedPlan, plan-converted, way-ext, plan-says, plan-accepts, known-edition}
 

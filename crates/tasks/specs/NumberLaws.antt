@@ -19,7 +19,7 @@ use Rattle.tasks.specs.declared.Answer.{Answer}
 use Rattle.tasks.specs.declared.Answer.the-variants.{Accepted, Refused}
 use Rattle.tasks.specs.TaskSet.{covers, found, bound, row}
 use Rattle.tasks.specs.Content.{Content}
-use Rattle.tasks.specs.Tests.{refuse, refuseAt, lowest, orNext, firstMet, numberOf, indexOf, badCores, badLabel, badCount, badSeparation, badBudget, badOffset, badDeadline, badMultiple, badShares, badOffers, compliantTest, foundTest, overBound, test3, test4, test5, test6, test7, test8, test28, test9, test10, test11, test12, test13, tests}
+use Rattle.tasks.specs.Tests.{refuse, refuseAt, lowest, firstMet, numberOf, indexOf, badCores, badLabel, badCount, badSeparation, badBudget, badOffset, badDeadline, badMultiple, badShares, badOffers, compliantTest, foundTest, overBound, test3, test4, test5, test6, test7, test8, test28, test9, test10, test11, test12, test13, tests}
 use Rattle.tasks.specs.AnswerLaws.{lowest-none, lowest-found}
 
 pub record Lowest (p : ℕ → Bool) (n i : ℕ) : Type 0 where
