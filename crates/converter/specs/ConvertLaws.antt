@@ -9,6 +9,7 @@
 --     plan-says          the plan of a converted content says it; plan-accepts: and meets none of a plan's numbers
 --     converted-late     of the two editions, late is the same
 --     converted-kept     conversion to the edition of a task whose deadline, where it has one, is its offset, leaves it as it is
+--     table-says, table-passes    the same of a table, past 1 of the wanted edition, its own numbers, 29 and 30
 --     known-edition      an edition that 1 passes is 1 or 2
 --     ways               two that differ are 2 and 1, or 1 and 2; other-edition: one of them has deadlines
 use Prim.Native.Nat.{ℕ, zero, suc, _≤_, _<_}
@@ -31,7 +32,9 @@ use Rattle.tasks.specs.Content.{hasDeadlines, inEdition, Content, lateOf, noTas
 use Rattle.tasks.specs.ContentLaws.{plan-ext, edition-zero, edition-again, Fits, fits-back}
 use Rattle.tasks.specs.Tests.{refuse, firstMet, badEdition, badDeadline, badMultiple, badShares, compliantTest, foundTest, boundsTest, test3, test4, test5, test6, test7, test8, test28, test9, test10, test11, test12, test13, tests, testPlan}
 use Rattle.tasks.specs.TestsLaws.{tests-limits, plan-accepted}
-use Rattle.tasks.specs.AnswerLaws.{pass-lowest, lowest-passed, lowest-ext, orNext-passed, firstMet-pass, firstMet-passed, firstMet-append, pass-outside}
+use Rattle.tasks.specs.AnswerLaws.{pass-lowest, lowest-passed, lowest-ext, orNext-passed, firstMet-pass, firstMet-passed, firstMet-append, neither, pass-outside}
+use Rattle.codec.specs.Table.{editionIn, contentIn, verdict}
+use Rattle.roundtrip.specs.SectionLaws.{verdict-parts, table-fits}
 use Rattle.converter.specs.Converted.{convertedTask, converted, noOffset, otherDeadline, wayTest}
 
 unfoldable pub convertedPlan : ℕ → Plan → Plan
@@ -167,10 +170,10 @@ module _ (e : ℕ) (c : Content) (a : tests c ≡ Accepted) (w : wayTest e (c .t
       ∙ rw (same-before e c, p .0) (firstMet-pass _ _ converted-28 ∙ ap firstMet (same-after e c) ∙ p .2)
 
   module _ (k : Fits c) where
-    pub plan-says : contentOf (planOf (converted e c)) ≡ converted e c
+    plan-says : contentOf (planOf (converted e c)) ≡ converted e c
     plan-says = fits-back (converted e c) (converted-fits e k)
 
-    pub plan-accepts : badEdition e ≡ false → testPlan (planOf (converted e c)) ≡ Accepted
+    plan-accepts : badEdition e ≡ false → testPlan (planOf (converted e c)) ≡ Accepted
     unfolding planOf converted
     plan-accepts known = plan-accepted (planOf (converted e c)) known (ap tests plan-says ∙ converted-tests)
 
@@ -219,3 +222,16 @@ pub other-edition :
     (e f : ℕ) → badEdition e ≡ false → badEdition f ≡ false → eqb f e ≡ false → hasDeadlines f ≡ not (hasDeadlines e)
 other-edition e f he hf ne =
     ⊎-elim (λ (w : (e ≡ 2) × (f ≡ 1)). rw (w .0, w .1)) (λ (w : (e ≡ 1) × (f ≡ 2)). rw (w .0, w .1)) (ways e f he hf ne)
+
+-- ---- an accepted table that meets neither 1 of the wanted edition nor 29 nor 30
+
+module _ (e : ℕ) (t : List ℕ) (wanted : badEdition e || eqb (editionIn t) e ≡ false) (v : verdict t ≡ Accepted)
+    (w : wayTest e (contentIn t .tasks .task) (contentIn t .tasks .count) ≡ Accepted) where
+  passes : tests (contentIn t) ≡ Accepted
+  passes = verdict-parts t v .content
+
+  pub table-says : contentOf (planOf (converted e (contentIn t))) ≡ converted e (contentIn t)
+  table-says = plan-says e (contentIn t) passes w (table-fits t passes)
+
+  pub table-passes : testPlan (planOf (converted e (contentIn t))) ≡ Accepted
+  table-passes = plan-accepts e (contentIn t) passes w (table-fits t passes) (neither (badEdition e) _ wanted .0)

@@ -34,7 +34,7 @@ use Rattle.roundtrip.specs.SectionLaws.{verdict-parts, table-fits}
 use Rattle.roundtrip.specs.BackLaws.{back-edition}
 use Rattle.roundtrip.specs.RoundTrip.{rewritten, plan-back, verdict-back}
 use Rattle.converter.specs.Converted.{convertedTask, converted, convertedBytes, wantedTest, noOffset, otherDeadline, wayTest, convertTest, convertedLength, convertedTo}
-use Rattle.converter.specs.ConvertLaws.{way-deadlines, tests-28, converted-late, converted-kept, plan-says, plan-accepts, ways, other-edition}
+use Rattle.converter.specs.ConvertLaws.{way-deadlines, tests-28, converted-late, converted-kept, table-says, table-passes, ways, other-edition}
 
 unfoldable pub leftBy : ℕ → List ℕ → List ℕ → List ℕ
 leftBy e t out = take (convertedLength e t (length out)) (convertedTo e t out)
@@ -80,10 +80,10 @@ module _ (e : ℕ) (t : List ℕ) (wanted : badEdition e || eqb (editionIn t) e 
   P = planOf (converted e (contentIn t))
 
   says : contentOf P ≡ converted e (contentIn t)
-  says = plan-says e (contentIn t) passes w fits
+  says = table-says e t wanted v w
 
   accepts : testPlan P ≡ Accepted
-  accepts = plan-accepts e (contentIn t) passes w fits known
+  accepts = table-passes e t wanted v w
 
   there : contentIn (convertedBytes e t) ≡ converted e (contentIn t)
   there = ap (λ (c : Content). contentIn (bytesOf c)) (sym says) ∙ plan-back P accepts ∙ says

@@ -23,7 +23,7 @@ use Rattle.tasks.specs.declared.Plan.{Plan}
 use Rattle.tasks.specs.declared.Answer.the-variants.{Accepted, Refused}
 use Rattle.tasks.specs.Content.{hasDeadlines, noTask, taskOf, contentOf, planOf}
 use Rattle.tasks.specs.ContentLaws.{by-edition, Fits}
-use Rattle.tasks.specs.Tests.{lowest, firstMet, badEdition, tests, testPlan}
+use Rattle.tasks.specs.Tests.{lowest, firstMet, badEdition, testPlan}
 use Rattle.tasks.specs.AnswerLaws.{neither, lowest-none, lowest-found}
 use Rattle.numbers.specs.Bytes.{byte}
 use Rattle.codec.specs.Table.{editionIn, contentIn, verdict}
@@ -35,7 +35,7 @@ use Rattle.writer.specs.Written.{answerOfWritten, lengthOfWritten, writeTest, w
 use Rattle.writer.specs.WriterLaws.{Writes}
 use Rattle.roundtrip.specs.SectionLaws.{verdict-parts, table-fits}
 use Rattle.converter.specs.Converted.{converted, wantedTest, noOffset, otherDeadline, wayTest, convertTest, convertedLength, convertedTo}
-use Rattle.converter.specs.ConvertLaws.{convertedPlan, plan-converted, way-ext, plan-says, plan-accepts, known-edition}
+use Rattle.converter.specs.ConvertLaws.{convertedPlan, plan-converted, way-ext, table-says, table-passes, known-edition}
 
 -- ---- the edition wanted
 
@@ -119,11 +119,8 @@ module _ (e : ℕ) (t : List ℕ) (wanted : badEdition e || eqb (editionIn t) e 
     accepted : verdict t ≡ Accepted
     accepted = sym judged-answer ∙ a
 
-    passes : tests (contentIn t) ≡ Accepted
-    passes = verdict-parts t accepted .content
-
     fits : Fits (contentIn t)
-    fits = table-fits t passes
+    fits = table-fits t (verdict-parts t accepted .content)
 
     plan-is : j .plan ≡ planOf (contentIn t)
     unfolding judged
@@ -156,10 +153,10 @@ module _ (e : ℕ) (t : List ℕ) (wanted : badEdition e || eqb (editionIn t) e 
       made-of = made ∙ ap (convertedPlan e) plan-is ∙ plan-converted e (contentIn t)
 
       says : contentOf p ≡ converted e (contentIn t)
-      says = ap contentOf made-of ∙ plan-says e (contentIn t) passes way fits
+      says = ap contentOf made-of ∙ table-says e t wanted accepted way
 
       pub converted-accepts : testPlan p ≡ Accepted
-      converted-accepts = ap testPlan made-of ∙ plan-accepts e (contentIn t) passes way fits (neither (badEdition e) _ wanted .0)
+      converted-accepts = ap testPlan made-of ∙ table-passes e t wanted accepted way
 
       same-test : (room : ℕ) → writeTest p room ≡ convertTest e t room
       unfolding writeTest convertTest wantedTest firstMet
