@@ -6,7 +6,6 @@ pub mod Tests
 pub mod PlainLaws
 pub mod Limits
 pub mod AnswerLaws
-pub mod NumberLaws
 pub mod LimitsLaws
 pub mod ShareLaws
 pub mod AmountLaws
@@ -16,3 +15,4 @@ pub mod RisingLaws
 pub mod FoundLaws
 pub mod TestsLaws
 pub mod TaskTheorems
+pub mod NumberLaws
