@@ -11,7 +11,11 @@ fn put_frame_words(out: &mut [u8], at: usize, number: u32) -> usize
     ensures { λ r. ⌜ Stored (now (out .entry)) at (wording number .rule) r (now (out .exit)) ⌝ }
 {
     match number {
-        1 => put_words(out, at, b": the edition must be 1 or 2, not "),
+        1 => put_words(
+            out,
+            at,
+            b": the edition must be 1 or 2, in a conversion the one that the table is not in, not ",
+        ),
         2 => put_words(
             out,
             at,

@@ -23,7 +23,7 @@ fixed place rule = record { place = words place; rule = words rule }
 -- document 01's numbers, and 25 to 30: what the index counts, and what would be right. Where document 01 gives no index, 0 is where the count begins
 unfoldable pub wordings : List Wording
 wordings =
-    fixed " for byte " ": the edition must be 1 or 2, not "
+    fixed " for byte " ": the edition must be 1 or 2, in a conversion the one that the table is not in, not "
     ∷ fixed " for byte " " onwards: the table must have 4 bytes and 1 more for each core, 12 for each loop (16 in edition 2) and 4 for each entry of slack, not "
     ∷ fixed " for core " " onwards: the number of cores must be 2 to 8, not "
     ∷ fixed " for core " ": its label must be 0 to 63 and above the label of the core before, not "

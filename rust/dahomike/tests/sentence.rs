@@ -9,7 +9,9 @@ const BUDGET: &str = "Refusal 7 for loop 1: its budget must be at least 1 tick a
 #[test]
 fn a_sentence_has_number_index_and_value() {
     assert_eq!(sentence(7, 1, 11), BUDGET);
-    assert_eq!(sentence(1, 0, 7), "Refusal 1 for byte 0: the edition must be 1 or 2, not 7.");
+    let edition = "Refusal 1 for byte 0: the edition must be 1 or 2, in a conversion the one that \
+        the table is not in, not 7.";
+    assert_eq!(sentence(1, 0, 7), edition);
 }
 
 #[test]

@@ -36,7 +36,10 @@ pub fn sentence_into(
 /// 1 to 5: edition, length, cores, and the number of loops.
 fn of_table(number: u32, index: u32, value: u64) -> Option<String> {
     let sentence = match number {
-        1 => format!("Refusal 1 for byte {index}: the edition must be 1 or 2, not {value}."),
+        1 => format!(
+            "Refusal 1 for byte {index}: the edition must be 1 or 2, in a conversion the one that \
+             the table is not in, not {value}."
+        ),
         2 => format!(
             "Refusal 2 for byte {index} onwards: the table must have 4 bytes and 1 more for \
              each core, 12 for each loop (16 in edition 2) and 4 for each entry of slack, not \
