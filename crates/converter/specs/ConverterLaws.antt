@@ -1,6 +1,7 @@
 -- The conversion's answer and the bytes that it leaves behind, from what its code has seen.
 --     unwanted-large, unwanted-unknown, wanted-absent, wanted-first    the edition wanted, and the first byte; wanted-small: it fits one
 --     way-none, way-met    29 and 30, by where the scan of the tasks ended
+--     convertedPlan        a plan in the wanted edition; plan-converted: of the plan that keeps a content it is the one that keeps the converted content
 --     Converts             the answer, its length and the bytes left behind are the definitions'
 --     convert-unwanted, convert-refused, convert-unfit, convert-written    each case of it
 --     plan-few             an accepted table's plan has at most sixteen tasks
@@ -17,12 +18,13 @@ use lib.Dec.{eqb}
 use borrow.Author.Tests.{ne-eqb}
 use Rattle.laws.specs.First.{first}
 use Rattle.laws.specs.FirstLaws.{first-le}
-use Rattle.laws.specs.TabLaws.{getD-tab}
+use Rattle.laws.specs.Tab.{tab}
+use Rattle.laws.specs.TabLaws.{tab-ext, getD-tab}
 use Rattle.tasks.specs.declared.Task.{Task}
 use Rattle.tasks.specs.declared.Plan.{Plan}
 use Rattle.tasks.specs.declared.Answer.the-variants.{Accepted, Refused}
-use Rattle.tasks.specs.Content.{hasDeadlines, noTask, taskOf, contentOf, planOf}
-use Rattle.tasks.specs.ContentLaws.{by-edition, Fits}
+use Rattle.tasks.specs.Content.{hasDeadlines, Content, noTask, taskOf, contentOf, planOf}
+use Rattle.tasks.specs.ContentLaws.{plan-ext, by-edition, Fits}
 use Rattle.tasks.specs.Tests.{lowest, firstMet, badEdition, testPlan}
 use Rattle.tasks.specs.AnswerLaws.{neither, lowest-none, lowest-found}
 use Rattle.numbers.specs.Bytes.{byte}
@@ -34,8 +36,8 @@ use Rattle.writer.specs.declared.Written.the-variants.{Refused as NotWritten}
 use Rattle.writer.specs.Written.{answerOfWritten, lengthOfWritten, writeTest, writtenLength, writtenTo}
 use Rattle.writer.specs.WriterLaws.{Writes}
 use Rattle.roundtrip.specs.SectionLaws.{verdict-parts, table-fits}
-use Rattle.converter.specs.Converted.{converted, wantedTest, noOffset, otherDeadline, wayTest, convertTest, convertedLength, convertedTo}
-use Rattle.converter.specs.ConvertLaws.{convertedPlan, plan-converted, way-ext, table-says, table-passes, known-edition}
+use Rattle.conversion.specs.Converted.{convertedTask, converted, wantedTest, noOffset, otherDeadline, wayTest, convertTest, convertedLength, convertedTo}
+use Rattle.conversion.specs.ConvertedLaws.{way-ext, table-says, table-passes, known-edition}
 
 -- ---- the edition wanted
 
@@ -83,6 +85,27 @@ module _ (e n : ℕ) (f : ℕ → Task) where
   pub way-met : (i : ℕ) → first unfit n ≡ i → i ≢ n → wayTest e f n ≡ Refused (cond (hasDeadlines e) 29 30) i
   way-met i h ne =
       way-is ∙ lowest-found _ unfit n i h (⊎-elim (λ (q : i ≡ n). absurd (ne q)) (λ (q : i < n). q) (eq-or-lt-of-le (omega (arith, first-le unfit n, h))))
+
+-- ---- the plan
+
+unfoldable pub convertedPlan : ℕ → Plan → Plan
+convertedPlan e p =
+    record {
+      edition = e;
+      offered = p .offered;
+      cores = p .cores;
+      tasks = p .tasks;
+      labels = p .labels;
+      task = tab (λ i. convertedTask e (taskOf (p .task) i)) 16;
+      slack = p .slack;
+    }
+
+pub plan-converted : (e : ℕ) (c : Content) → convertedPlan e (planOf c) ≡ planOf (converted e c)
+unfolding convertedPlan planOf converted taskOf
+plan-converted e c =
+    plan-ext (convertedPlan e (planOf c)) (planOf (converted e c)) refl refl refl refl refl
+    (tab-ext _ _ 16 (λ i h. ap (convertedTask e) (getD-tab (c .tasks .task) 16 i noTask h)))
+    refl
 
 -- ---- the answer
 

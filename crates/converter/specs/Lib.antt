@@ -1,4 +1,1 @@
-pub mod Converted
-pub mod ConvertLaws
 pub mod ConverterLaws
-pub mod ConvertTheorems

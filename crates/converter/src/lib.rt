@@ -22,8 +22,8 @@ ghost use Rattle.tasks.specs.Content.{hasDeadlines, taskOf};
 ghost use Rattle.tasks.specs.Tests.{badEdition};
 ghost use Rattle.codec.specs.Table.{editionIn};
 ghost use Rattle.writer.specs.Written.{answerOfWritten, lengthOfWritten};
-ghost use Rattle.converter.specs.Converted.{convertedTask, noOffset, otherDeadline, wayTest, convertTest, convertedLength, convertedTo};
-ghost use Rattle.converter.specs.ConvertLaws.{convertedPlan};
+ghost use Rattle.conversion.specs.Converted.{convertedTask, noOffset, otherDeadline, wayTest, convertTest, convertedLength, convertedTo};
+ghost use Rattle.converter.specs.ConverterLaws.{convertedPlan};
 
 // "A table already in the wanted edition, or a wanted edition other than 1 and 2". A table without an edition byte is in none.
 fn is_unwanted(table: &[u8], edition: u32) -> bool

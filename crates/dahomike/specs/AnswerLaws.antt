@@ -33,7 +33,7 @@ use Rattle.wording.specs.Told.{answerOfComposed, lengthOfComposed, sentenceTest
 use Rattle.writer.specs.declared.Written.{Written}
 use Rattle.writer.specs.declared.Written.the-variants.{Length as Wrote, Refused as NotWritten}
 use Rattle.writer.specs.Written.{answerOfWritten, lengthOfWritten}
-use Rattle.converter.specs.Converted.{convertTest, convertedLength}
+use Rattle.conversion.specs.Converted.{convertTest, convertedLength}
 use Rattle.replay.specs.declared.run.Ran.{Ran}
 use Rattle.replay.specs.Ran.{runTest, ranOf}
 use Rattle.dahomike.specs.Answers.{answerNumber, judgeTest, judgeNumber, judgeLeaves, wishTest, wishNumber, wishLeaves, countedTest, countedNumber, countedLeaves, runNumber, sentenceNumber, convertNumber, roomTest, entryOf}

@@ -28,7 +28,7 @@ use Rattle.tasks.specs.Tests.{refuse, firstMet, numberOf, indexOf, unlessRefuse
 use Rattle.numbers.specs.Bytes.{digits, entries}
 use Rattle.codec.specs.Table.{taskCount, contentIn, verdict}
 use Rattle.table.specs.Judged.{countedIn}
-use Rattle.converter.specs.Converted.{convertedBytes, convertTest}
+use Rattle.conversion.specs.Converted.{convertedBytes, convertTest}
 use Rattle.replay.specs.Ran.{runTest, ranOf}
 use Rattle.wishes.specs.Wish.{solved}
 use Rattle.sheet.specs.Wished.{wishVerdict}

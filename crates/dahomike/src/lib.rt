@@ -17,7 +17,7 @@ ghost use Prim.Native.Nat.{_+_, _*_, _≤_, _<_};
 ghost use lib.ListN.{length};
 ghost use lib.Seq.{sets};
 ghost use Rattle.numbers.specs.Bytes.{digits, entries};
-ghost use Rattle.converter.specs.Converted.{convertedTo};
+ghost use Rattle.conversion.specs.Converted.{convertedTo};
 ghost use Rattle.replay.specs.Ran.{runLeaves};
 ghost use Rattle.dahomike.specs.Answers.{answerNumber, judgeNumber, judgeLeaves, countedNumber, countedLeaves, wishNumber, wishLeaves, runNumber, sentenceNumber, convertNumber, entrySize, entryBytes, entryOf, roomTest, Reportable};
 ghost use Rattle.dahomike.specs.ReportLaws.{Reported};

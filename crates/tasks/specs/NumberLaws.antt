@@ -2,14 +2,14 @@
 --     Lowest                        the lowest index below n where p holds
 --     lowest-met, met-lowest        lowest k p n is a refusal exactly there, by k
 --     refuse-number, lowest-number, either-number    the number of a test is at most m where its parts' are
---     Numbers, all-numbers          and so is that of a list where all of them are
+--     Numbers                       and so is that of the first that a list of such tests meets: _also_, no-more
 --     tests-number                  those of a content are at most 28
 --     met-next                      a refusal by a number that the first test doesn't have comes from the rest
 --     met-first                     one by a number that the rest doesn't have comes from the first test
 use Prim.Native.Nat.{ℕ, _≤_, _<_}
 use native.Mathlib.Omega.{arith}
 use mathlib.Core.Path.{_≡_, refl, sym, ap, _∙_}
-use mathlib.Core.Bool.{Bool, true, false, cond, not, true≢false}
+use mathlib.Core.Bool.{Bool, true, false, cond, true≢false}
 use mathlib.Core.List.{List, [], _∷_}
 use mathlib.Core.Logic.{_≢_, ⊎-elim}
 use lib.Dec.{ltb, eqb}
@@ -17,9 +17,8 @@ use Rattle.laws.specs.First.{first}
 use Rattle.laws.specs.FirstLaws.{first-or-none, first-holds, first-before, first-unique}
 use Rattle.tasks.specs.declared.Answer.{Answer}
 use Rattle.tasks.specs.declared.Answer.the-variants.{Accepted, Refused}
-use Rattle.tasks.specs.TaskSet.{covers, found, bound, row}
 use Rattle.tasks.specs.Content.{Content}
-use Rattle.tasks.specs.Tests.{refuse, refuseAt, lowest, firstMet, numberOf, indexOf, badCores, badLabel, badCount, badSeparation, badBudget, badOffset, badDeadline, badMultiple, badShares, badOffers, compliantTest, foundTest, overBound, test3, test4, test5, test6, test7, test8, test28, test9, test10, test11, test12, test13, tests}
+use Rattle.tasks.specs.Tests.{refuse, refuseAt, lowest, firstMet, numberOf, indexOf, badCores, badCount, badMultiple, badShares, badOffers, test3, test4, test5, test6, test7, test8, test28, test9, test10, test11, test12, test13, tests}
 use Rattle.tasks.specs.AnswerLaws.{lowest-none, lowest-found}
 
 pub record Lowest (p : ℕ → Bool) (n i : ℕ) : Type 0 where
@@ -59,60 +58,40 @@ module _ (m : ℕ) where
   either-number true x y h l = h
   either-number false x y h l = l
 
-  -- all numbers of a list of tests
-  unfoldable pub Numbers : List Answer → Type 0
-  Numbers [] = Unit {0}
-  Numbers (a ∷ l) = (numberOf a ≤ m) × Numbers l
+-- the first refusal that a list of tests meets has the number of one of them
+pub record Numbers (m : ℕ) (l : List Answer) : Type 0 where
+  pub first-number : numberOf (firstMet l) ≤ m
 
-  pub all-numbers : (l : List Answer) → Numbers l → numberOf (firstMet l) ≤ m
-  unfolding firstMet Numbers
-  all-numbers [] h = omega arith
-  all-numbers (Accepted ∷ l) h = all-numbers l (h .1)
-  all-numbers (Refused k i ∷ l) h = h .0
+infixr 5 _also_
+pub _also_ : {m : ℕ} {a : Answer} {l : List Answer} → numberOf a ≤ m → Numbers m l → Numbers m (a ∷ l)
+unfolding firstMet
+_also_ {a = Accepted} h r = record { first-number = r .first-number }
+_also_ {a = Refused k i} h r = record { first-number = h }
+
+pub no-more : {m : ℕ} → Numbers m []
+unfolding firstMet
+no-more = record { first-number = omega arith }
 
 pub tests-number : (c : Content) → numberOf (tests c) ≤ 28
-unfolding tests test3 test4 test5 test6 test7 test8 test28 test9 test10 test11 test12 test13 Numbers
+unfolding tests test3 test4 test5 test6 test7 test8 test28 test9 test10 test11 test12 test13
 tests-number c =
     let one : (k : ℕ) (b : Bool) → k ≤ 28 → numberOf (refuse k b) ≤ 28 = refuse-number 28 in
     let at : (k : ℕ) (p : ℕ → Bool) (n : ℕ) → k ≤ 28 → numberOf (lowest k p n) ≤ 28 = lowest-number 28 in
-    all-numbers 28
-    (test3 c ∷ test4 c ∷ test5 c ∷ test6 c ∷ test7 c ∷ test8 c ∷ test28 c ∷ test9 c ∷ test10 c ∷ test11 c ∷ test12 c ∷ test13 c ∷ []) (
-      one 3 (badCores (c .tasks .cores)) (omega arith),
-      (
-        at 4 (badLabel (c .label)) (c .tasks .cores) (omega arith),
-        (
-          one 5 (badCount (c .tasks .cores) (c .tasks .count)) (omega arith),
-          (
-            at 6 (λ i. badSeparation (c .tasks .task i)) (c .tasks .count) (omega arith),
-            (
-              at 7 (λ i. badBudget (c .tasks .task i)) (c .tasks .count) (omega arith),
-              (
-                at 8 (λ i. badOffset (c .tasks .task i)) (c .tasks .count) (omega arith),
-                (
-                  at 28 (λ i. badDeadline (c .edition) (c .tasks .task i)) (c .tasks .count) (omega arith),
-                  (
-                    one 9 (badMultiple (c .tasks)) (omega arith),
-                    (
-                      one 10 (badShares (c .tasks)) (omega arith),
-                      (
-                        one 11 (badOffers (c .tasks) (c .offers)) (omega arith),
-                        (
-                          either-number 28 (eqb (c .offers) 0) (foundTest (c .slack) (row (found (c .tasks))) (c .tasks .count)) (compliantTest (c .tasks) (c .slack)) (at 12 (λ k. not (eqb (c .slack k) (row (found (c .tasks)) k))) (c .tasks .count) (omega arith)) (at 12 (λ k. not (covers (c .tasks) (c .slack) k)) (c .tasks .count) (omega arith)),
-                          (
-                            at 13 (λ i. overBound (c .tasks .task i) (bound (c .tasks) (c .slack) i)) (c .tasks .count) (omega arith),
-                            tt,
-                          ),
-                        ),
-                      ),
-                    ),
-                  ),
-                ),
-              ),
-            ),
-          ),
-        ),
-      ),
-    )
+    let all : Numbers 28 (test3 c ∷ test4 c ∷ test5 c ∷ test6 c ∷ test7 c ∷ test8 c ∷ test28 c ∷ test9 c ∷ test10 c ∷ test11 c ∷ test12 c ∷ test13 c ∷ []) =
+    one 3 (badCores (c .tasks .cores)) (omega arith)
+    also at 4 _ _ (omega arith)
+    also one 5 (badCount (c .tasks .cores) (c .tasks .count)) (omega arith)
+    also at 6 _ _ (omega arith)
+    also at 7 _ _ (omega arith)
+    also at 8 _ _ (omega arith)
+    also at 28 _ _ (omega arith)
+    also one 9 (badMultiple (c .tasks)) (omega arith)
+    also one 10 (badShares (c .tasks)) (omega arith)
+    also one 11 (badOffers (c .tasks) (c .offers)) (omega arith)
+    also either-number 28 (eqb (c .offers) 0) _ _ (at 12 _ _ (omega arith)) (at 12 _ _ (omega arith))
+    also at 13 _ _ (omega arith)
+    also no-more in
+    all .first-number
 
 -- ---- the test that a refusal comes from
 

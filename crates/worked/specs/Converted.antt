@@ -23,7 +23,7 @@ use Rattle.tasks.specs.Content.{noTask}
 use Rattle.tasks.specs.Tests.{lowest, firstMet, outside, badLabel, test3, test4, test5, test6, test7, test8, test28, test9, test10, test11, test12, test13, tests}
 use Rattle.numbers.specs.Bytes.{byte, number, digits, entries}
 use Rattle.codec.specs.Table.{coreCount, taskCount, tasksAt, slackCount, slackAt, taskIn, taskSetIn, contentIn, test1, test2, verdict, taskSize, plainBytes, taskBytes, bytesOf}
-use Rattle.converter.specs.Converted.{convertedTask, converted, wantedTest, wayTest, convertTest, convertedLength, convertedTo}
+use Rattle.conversion.specs.Converted.{convertedTask, converted, wantedTest, wayTest, convertTest, convertedLength, convertedTo}
 use Rattle.worked.specs.Cases.{p1, p3, concat, tableWith, sameAnswer}
 use Rattle.worked.specs.Editions.{due, p1Due}
 

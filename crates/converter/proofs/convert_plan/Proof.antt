@@ -1,6 +1,6 @@
 -- `converter::convert_plan` meets its contract.
 use borrow.Author.Needs.{needs}
-use Rattle.converter.specs.ConvertLaws.{convertedPlan}
+use Rattle.converter.specs.ConverterLaws.{convertedPlan}
 use Rattle.converter.proofs.convert_plan.Statement.{statement}
 use Rattle.converter.proofs.convert_plan.Tie as tie
 

@@ -7,7 +7,7 @@ use Rattle.laws.specs.Tab.{tab, cut}
 use Rattle.laws.specs.TabLaws.{filled-none, cut-all}
 use Rattle.tasks.specs.Content.{noTask, taskOf}
 use Rattle.reader.specs.LoadLaws.{filled-step}
-use Rattle.converter.specs.Converted.{convertedTask}
+use Rattle.conversion.specs.Converted.{convertedTask}
 use Rattle.converter.proofs.convert_tasks.Statement.{statement}
 use Rattle.converter.proofs.convert_tasks.Tie as tie
 

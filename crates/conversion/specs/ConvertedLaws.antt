@@ -1,5 +1,4 @@
 -- Laws of what a table says in the wanted edition.
---     convertedPlan      a plan in the wanted edition; plan-converted: of the plan that keeps a content it is the one that keeps the converted content
 --     converted-fits     a converted content fits a plan
 --     way-ext            29 and 30 look at the tasks below n
 --     way-offsets, way-deadlines    what 29 and 30 leave
@@ -20,43 +19,21 @@ use mathlib.Core.List.{List, [], _∷_}
 use mathlib.Core.Logic.{_⊎_, inl, inr, ⊎-elim}
 use lib.Dec.{eqb}
 use borrow.Author.Tests.{eqb-true, eqb-false, not-false}
-use Rattle.laws.specs.Tab.{tab}
-use Rattle.laws.specs.TabLaws.{tab-ext, getD-tab}
 use Rattle.tasks.specs.declared.Task.{Task}
-use Rattle.tasks.specs.declared.Plan.{Plan}
 use Rattle.tasks.specs.declared.Answer.{Answer}
 use Rattle.tasks.specs.declared.Answer.the-variants.{Accepted}
 use Rattle.tasks.specs.TaskSet.{TaskSet, plain, found, row}
 use Rattle.tasks.specs.PlainLaws.{plain-multiple, plain-shares, plain-compliant, plain-found, plain-bounds}
-use Rattle.tasks.specs.Content.{hasDeadlines, inEdition, Content, lateOf, noTask, taskOf, contentOf, planOf}
-use Rattle.tasks.specs.ContentLaws.{plan-ext, edition-zero, edition-again, Fits, fits-back}
+use Rattle.tasks.specs.Content.{hasDeadlines, inEdition, Content, lateOf, noTask, contentOf, planOf}
+use Rattle.tasks.specs.ContentLaws.{edition-zero, edition-again, Fits, fits-back}
 use Rattle.tasks.specs.Tests.{refuse, firstMet, badEdition, badDeadline, badMultiple, badShares, compliantTest, foundTest, boundsTest, test3, test4, test5, test6, test7, test8, test28, test9, test10, test11, test12, test13, tests, testPlan}
 use Rattle.tasks.specs.TestsLaws.{tests-limits, plan-accepted}
 use Rattle.tasks.specs.AnswerLaws.{pass-lowest, lowest-passed, lowest-ext, orNext-passed, firstMet-pass, firstMet-passed, firstMet-append, neither, pass-outside}
 use Rattle.codec.specs.Table.{editionIn, contentIn, verdict}
 use Rattle.roundtrip.specs.SectionLaws.{verdict-parts, table-fits}
-use Rattle.converter.specs.Converted.{convertedTask, converted, noOffset, otherDeadline, wayTest}
-
-unfoldable pub convertedPlan : ℕ → Plan → Plan
-convertedPlan e p =
-    record {
-      edition = e;
-      offered = p .offered;
-      cores = p .cores;
-      tasks = p .tasks;
-      labels = p .labels;
-      task = tab (λ i. convertedTask e (taskOf (p .task) i)) 16;
-      slack = p .slack;
-    }
+use Rattle.conversion.specs.Converted.{convertedTask, converted, noOffset, otherDeadline, wayTest}
 
 module _ (e : ℕ) where
-  pub plan-converted : (c : Content) → convertedPlan e (planOf c) ≡ planOf (converted e c)
-  unfolding convertedPlan planOf converted taskOf
-  plan-converted c =
-      plan-ext (convertedPlan e (planOf c)) (planOf (converted e c)) refl refl refl refl refl
-      (tab-ext _ _ 16 (λ i h. ap (convertedTask e) (getD-tab (c .tasks .task) 16 i noTask h)))
-      refl
-
   -- an unused place stays one
   converted-zero : convertedTask e noTask ≡ noTask
   unfolding convertedTask noTask

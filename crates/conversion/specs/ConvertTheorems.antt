@@ -25,7 +25,7 @@ use Rattle.tasks.specs.Content.{hasDeadlines, Content, late, noTask, contentOf,
 use Rattle.tasks.specs.ContentLaws.{content-ext, Fits}
 use Rattle.tasks.specs.Tests.{refuse, firstMet, numberOf, outside, badEdition, badDeadline, test28, tests, testPlan}
 use Rattle.tasks.specs.AnswerLaws.{refuse-passed, pass-lowest, lowest-passed, neither, outside-passed, firstMet-passed}
-use Rattle.tasks.specs.NumberLaws.{Lowest, lowest-met, met-lowest, refuse-number, Numbers, all-numbers, tests-number, met-next, met-first}
+use Rattle.tasks.specs.NumberLaws.{Lowest, lowest-met, met-lowest, refuse-number, Numbers, _also_, no-more, tests-number, met-next, met-first}
 use Rattle.numbers.specs.ByteLaws.{Bytes}
 use Rattle.codec.specs.Table.{countedLength, editionIn, contentIn, test1, test2, verdict, bytesOf}
 use Rattle.codec.specs.TaskLaws.{size-times}
@@ -33,8 +33,8 @@ use Rattle.sections.specs.WriteLaws.{length-bytes}
 use Rattle.roundtrip.specs.SectionLaws.{verdict-parts, table-fits}
 use Rattle.roundtrip.specs.BackLaws.{back-edition}
 use Rattle.roundtrip.specs.RoundTrip.{rewritten, plan-back, verdict-back}
-use Rattle.converter.specs.Converted.{convertedTask, converted, convertedBytes, wantedTest, noOffset, otherDeadline, wayTest, convertTest, convertedLength, convertedTo}
-use Rattle.converter.specs.ConvertLaws.{way-deadlines, tests-28, converted-late, converted-kept, table-says, table-passes, ways, other-edition}
+use Rattle.conversion.specs.Converted.{convertedTask, converted, convertedBytes, wantedTest, noOffset, otherDeadline, wayTest, convertTest, convertedLength, convertedTo}
+use Rattle.conversion.specs.ConvertedLaws.{way-deadlines, tests-28, converted-late, converted-kept, table-says, table-passes, ways, other-edition}
 
 unfoldable pub leftBy : ℕ → List ℕ → List ℕ → List ℕ
 leftBy e t out = take (convertedLength e t (length out)) (convertedTo e t out)
@@ -235,26 +235,26 @@ convert-short e t v =
 -- ---- 29 and 30
 
 pub verdict-number : (t : List ℕ) → numberOf (verdict t) ≤ 28
-unfolding verdict test1 test2 Numbers
+unfolding verdict test1 test2
 verdict-number t =
-    all-numbers 28 (test1 t ∷ test2 t ∷ tests (contentIn t) ∷ []) (
-      refuse-number 28 1 (badEdition (editionIn t)) (omega arith),
-      (refuse-number 28 2 (not (eqb (length t) (countedLength t))) (omega arith), (tests-number (contentIn t), tt)),
-    )
+    let all : Numbers 28 (test1 t ∷ test2 t ∷ tests (contentIn t) ∷ []) =
+    refuse-number 28 1 (badEdition (editionIn t)) (omega arith)
+    also refuse-number 28 2 (not (eqb (length t) (countedLength t))) (omega arith)
+    also tests-number (contentIn t)
+    also no-more in
+    all .first-number
 
 -- a refusal by a number above 28 comes from 29 and 30
 module _ (e : ℕ) (t : List ℕ) (room k i : ℕ) (high : 28 < k) where
   from-way :
       convertTest e t room ≡ Refused k i
       → (badEdition e || eqb (editionIn t) e ≡ false) × (verdict t ≡ Accepted) × (wayTest e (contentIn t .tasks .task) (contentIn t .tasks .count) ≡ Refused k i)
-  unfolding convertTest wantedTest Numbers
+  unfolding convertTest wantedTest
   from-way q =
       let r1 = met-next _ _ k i (λ z. omega (arith, z, refuse-number 28 1 (badEdition e || eqb (editionIn t) e) (omega arith))) q in
       let r2 = met-next (verdict t) _ k i (λ z. omega (arith, z, verdict-number t)) (r1 .1) in
-      (refuse-passed 1 _ (r1 .0), r2 .0, met-first _ _ k i (λ z. omega (arith, z, last)) (r2 .1))
-    where
-      last : numberOf (firstMet (refuse 24 (ltb room (length (convertedBytes e t))) ∷ [])) ≤ 28
-      last = all-numbers 28 (refuse 24 (ltb room (length (convertedBytes e t))) ∷ []) (refuse-number 28 24 (ltb room (length (convertedBytes e t))) (omega arith), tt)
+      let last : Numbers 28 (refuse 24 (ltb room (length (convertedBytes e t))) ∷ []) = refuse-number 28 24 (ltb room (length (convertedBytes e t))) (omega arith) also no-more in
+      (refuse-passed 1 _ (r1 .0), r2 .0, met-first _ _ k i (λ z. omega (arith, z, last .first-number)) (r2 .1))
 
   to-way :
       badEdition e || eqb (editionIn t) e ≡ false → verdict t ≡ Accepted → wayTest e (contentIn t .tasks .task) (contentIn t .tasks .count) ≡ Refused k i
