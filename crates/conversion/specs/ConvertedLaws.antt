@@ -1,7 +1,7 @@
 -- Laws of what a table says in the wanted edition.
 --     converted-fits     a converted content fits a plan
---     way-ext            29 and 30 look at the tasks below n
 --     way-offsets, way-deadlines    what 29 and 30 leave
+--     way-ext            29 and 30 look at the tasks below n
 --     of-plain           what a task set's T, C and Y give is the same after the conversion
 --     tests-28           a content that meets none of its numbers doesn't meet 28
 --     converted-tests    a converted content meets none of 3 to 13 and 28
@@ -54,13 +54,6 @@ module _ (e : ℕ) where
 
 -- ---- 29 and 30
 
-pub way-ext : (e n : ℕ) (f g : ℕ → Task) → ((i : ℕ) → i < n → f i ≡ g i) → wayTest e f n ≡ wayTest e g n
-unfolding wayTest
-way-ext e n f g same =
-    let a = lowest-ext 29 (λ i. noOffset (f i)) (λ i. noOffset (g i)) n (λ i h. ap noOffset (same i h)) in
-    let b = lowest-ext 30 (λ i. otherDeadline (f i)) (λ i. otherDeadline (g i)) n (λ i h. ap otherDeadline (same i h)) in
-    λ j. cond (hasDeadlines e) (a j) (b j)
-
 module _ (e : ℕ) (task : ℕ → Task) (n : ℕ) (a : wayTest e task n ≡ Accepted) where
   pub way-offsets : hasDeadlines e ≡ true → (i : ℕ) → i < n → 1 ≤ task i .offset
   unfolding wayTest
@@ -73,6 +66,13 @@ module _ (e : ℕ) (task : ℕ → Task) (n : ℕ) (a : wayTest e task n ≡ Acc
   pub way-deadlines : hasDeadlines e ≡ false → (i : ℕ) → i < n → task i .deadline ≡ task i .offset
   unfolding wayTest
   way-deadlines d i h = eqb-true _ _ (not-false _ (lowest-passed 30 (λ j. otherDeadline (task j)) n (rw d at a) i h))
+
+pub way-ext : (e n : ℕ) (f g : ℕ → Task) → ((i : ℕ) → i < n → f i ≡ g i) → wayTest e f n ≡ wayTest e g n
+unfolding wayTest
+way-ext e n f g same =
+    let a = lowest-ext 29 (λ i. noOffset (f i)) (λ i. noOffset (g i)) n (λ i h. ap noOffset (same i h)) in
+    let b = lowest-ext 30 (λ i. otherDeadline (f i)) (λ i. otherDeadline (g i)) n (λ i h. ap otherDeadline (same i h)) in
+    λ j. cond (hasDeadlines e) (a j) (b j)
 
 -- ---- 3 to 13 and 28
 
