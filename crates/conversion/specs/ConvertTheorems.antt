@@ -5,13 +5,13 @@
 --     there-and-back    converted to the first edition, it is the first bytes
 --     convert-short     a buffer of 332 bytes is never too short
 --     verdict-number    a table is refused by numbers up to 28
---     refused-29, refused-30    29 and 30 are met exactly in their cases
+--     Meets29, Meets30  the cases of 29 and 30; refused-29, refused-30: the numbers are met exactly in them
 use Prim.Native.Nat.{ℕ, _≤_, _<_}
 use native.Mathlib.Omega.{arith}
 use mathlib.Core.Path.{_≡_, refl, sym, ap, _∙_}
 use mathlib.Core.Bool.{Bool, true, false, not, _||_, true≢false}
 use mathlib.Core.List.{List, [], _∷_, _++_}
-use mathlib.Core.Logic.{_↔_, _⊎_, _≢_, ⊎-elim}
+use mathlib.Core.Logic.{_↔_, _⊎_, inl, inr, _≢_, ⊎-elim}
 use lib.ListN.{length, take, drop}
 use lib.Seq.{take-at}
 use lib.Dec.{ltb, eqb}
@@ -269,34 +269,37 @@ module _ (e : ℕ) (t : List ℕ) (room i : ℕ) where
   abbrev differs : ℕ → Bool
   differs j = otherDeadline (contentIn t .tasks .task j)
 
+  -- "29 an offset is 0 on the way to edition 2": i is the lowest such loop of a table that is accepted
+  abbrev pub Meets29 : Type 0
+  Meets29 = (e ≡ 2) × (editionIn t ≡ 1) × (verdict t ≡ Accepted) × Lowest unset (contentIn t .tasks .count) i
+
+  -- "30 a deadline differs from its offset on the way to edition 1": the same
+  abbrev pub Meets30 : Type 0
+  Meets30 = (e ≡ 1) × (editionIn t ≡ 2) × (verdict t ≡ Accepted) × Lowest differs (contentIn t .tasks .count) i
+
   -- the two ways
-  ways-of : badEdition e || eqb (editionIn t) e ≡ false → verdict t ≡ Accepted → ((e ≡ 2) × (editionIn t ≡ 1)) ⊎ ((e ≡ 1) × (editionIn t ≡ 2))
-  ways-of p v = let n = neither (badEdition e) _ p in ways e (editionIn t) (n .0) (verdict-parts t v .edition) (n .1)
-
-  -- "29 an offset is 0 on the way to edition 2", at the lowest such loop of a table that is accepted
-  pub refused-29 :
-      (convertTest e t room ≡ Refused 29 i) ↔ ((e ≡ 2) × (editionIn t ≡ 1) × (verdict t ≡ Accepted) × Lowest unset (contentIn t .tasks .count) i)
+  either : (k : ℕ) → 28 < k → convertTest e t room ≡ Refused k i → ((k ≡ 29) × Meets29) ⊎ ((k ≡ 30) × Meets30)
   unfolding wayTest
-  refused-29 = (met, λ s. to-way e t room 29 i (omega arith) (rw (s .0, s .1)) (s .2) (rw (s .0) (met-lowest 29 unset (contentIn t .tasks .count) i (s .3))))
-    where
-      met : convertTest e t room ≡ Refused 29 i → (e ≡ 2) × (editionIn t ≡ 1) × (verdict t ≡ Accepted) × Lowest unset (contentIn t .tasks .count) i
-      met q =
-          let r = from-way e t room 29 i (omega arith) q in
-          ⊎-elim
-          (λ (s : (e ≡ 2) × (editionIn t ≡ 1)). (s .0, s .1, r .1, lowest-met 29 unset (contentIn t .tasks .count) 29 i (rw (s .0) at (r .2)) .1))
-          (λ (s : (e ≡ 1) × (editionIn t ≡ 2)). absurd (omega (arith, lowest-met 30 differs (contentIn t .tasks .count) 29 i (rw (s .0) at (r .2)) .0)))
-          (ways-of (r .0) (r .1))
+  either k high q =
+      let r = from-way e t room k i high q in
+      let n = neither (badEdition e) _ (r .0) in
+      ⊎-elim
+      (λ (s : (e ≡ 2) × (editionIn t ≡ 1)).
+      let l = lowest-met 29 unset (contentIn t .tasks .count) k i (rw (s .0) at (r .2)) in inl (l .0, (s .0, s .1, r .1, l .1)))
+      (λ (s : (e ≡ 1) × (editionIn t ≡ 2)).
+      let l = lowest-met 30 differs (contentIn t .tasks .count) k i (rw (s .0) at (r .2)) in inr (l .0, (s .0, s .1, r .1, l .1)))
+      (ways e (editionIn t) (n .0) (verdict-parts t (r .1) .edition) (n .1))
 
-  -- "30 a deadline differs from its offset on the way to edition 1"
-  pub refused-30 :
-      (convertTest e t room ≡ Refused 30 i) ↔ ((e ≡ 1) × (editionIn t ≡ 2) × (verdict t ≡ Accepted) × Lowest differs (contentIn t .tasks .count) i)
+  pub refused-29 : (convertTest e t room ≡ Refused 29 i) ↔ Meets29
   unfolding wayTest
-  refused-30 = (met, λ s. to-way e t room 30 i (omega arith) (rw (s .0, s .1)) (s .2) (rw (s .0) (met-lowest 30 differs (contentIn t .tasks .count) i (s .3))))
-    where
-      met : convertTest e t room ≡ Refused 30 i → (e ≡ 1) × (editionIn t ≡ 2) × (verdict t ≡ Accepted) × Lowest differs (contentIn t .tasks .count) i
-      met q =
-          let r = from-way e t room 30 i (omega arith) q in
-          ⊎-elim
-          (λ (s : (e ≡ 2) × (editionIn t ≡ 1)). absurd (omega (arith, lowest-met 29 unset (contentIn t .tasks .count) 30 i (rw (s .0) at (r .2)) .0)))
-          (λ (s : (e ≡ 1) × (editionIn t ≡ 2)). (s .0, s .1, r .1, lowest-met 30 differs (contentIn t .tasks .count) 30 i (rw (s .0) at (r .2)) .1))
-          (ways-of (r .0) (r .1))
+  refused-29 = (
+    λ q. ⊎-elim (λ (s : (29 ≡ 29) × Meets29). s .1) (λ (s : (29 ≡ 30) × Meets30). absurd (omega (arith, s .0))) (either 29 (omega arith) q),
+    λ s. to-way e t room 29 i (omega arith) (rw (s .0, s .1)) (s .2) (rw (s .0) (met-lowest 29 unset (contentIn t .tasks .count) i (s .3))),
+  )
+
+  pub refused-30 : (convertTest e t room ≡ Refused 30 i) ↔ Meets30
+  unfolding wayTest
+  refused-30 = (
+    λ q. ⊎-elim (λ (s : (30 ≡ 29) × Meets29). absurd (omega (arith, s .0))) (λ (s : (30 ≡ 30) × Meets30). s .1) (either 30 (omega arith) q),
+    λ s. to-way e t room 30 i (omega arith) (rw (s .0, s .1)) (s .2) (rw (s .0) (met-lowest 30 differs (contentIn t .tasks .count) i (s .3))),
+  )
