@@ -58,3 +58,5 @@ pub const DEADLINE_OUTSIDE: u8 = 28;
 pub const OFFSET_ZERO: u8 = 29;
 
 pub const DEADLINE_NOT_OFFSET: u8 = 30;
+
+pub const TASKS_TOO_FEW: u8 = 31;
