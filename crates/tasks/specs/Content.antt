@@ -3,22 +3,22 @@
 --     inEdition           a task as an edition has it: without deadlines its deadline is an unused place
 --     Content             the edition, cores' labels, tasks, the slack count and the slack
 --     countedOf           the loops counted at its slack
---     lateOf, late        counted from the priority point or from the deadline
+--     lateOf, late        counted from the priority point or from the deadline, of a bound and of a content's loop
 --     contentOf           what a plan says
 --     planOf              the plan that keeps a content, zeros in its unused places
 --     tidy                a plan with zeros in its unused places
 --     noTask, zeroPlan    a task and a plan of zeros; zeroTask: whether a task is one
 --     Same                "two plans are the same if their used entries and that mark agree", and "only if editions agree too"
-use Prim.Native.Nat.{ℕ, _+_, _-_}
+use Prim.Native.Nat.{ℕ, _-_}
 use mathlib.Core.Path.{_≡_}
 use mathlib.Core.Bool.{Bool, false, cond, not, _&&_}
-use mathlib.Core.List.{List}
+use mathlib.Core.List.{List, []}
 use lib.ListN.{getD, replicate}
 use lib.Dec.{eqb}
 use Rattle.laws.specs.Tab.{tab, cut}
 use Rattle.tasks.specs.declared.Task.{Task}
 use Rattle.tasks.specs.declared.Plan.{Plan}
-use Rattle.tasks.specs.TaskSet.{TaskSet, counted, boundOf, row}
+use Rattle.tasks.specs.TaskSet.{TaskSet, counted, coreForEach, bound, row}
 
 -- "Edition 2 carries deadlines."
 abbrev pub hasDeadlines : ℕ → Bool
@@ -37,17 +37,18 @@ pub record Content : Type 0 where
   pub offers : ℕ
   pub slack : ℕ → ℕ
 
--- "A judgement hands the names back beside the plan, by the weights at its slack, offered or found alike"
+-- "A judgement hands the names back beside the plan, by the weights at its slack, offered or found alike"; where loops are no more than cores it
+-- "names no loop"
 unfoldable pub countedOf : Content → List ℕ
-countedOf c = counted (c .tasks) (c .slack)
+countedOf c = cond (coreForEach (c .tasks .cores) (c .tasks .count)) [] (counted (c .tasks) (c .slack))
 
--- of a task with slack x: in edition 2 "late is the larger of 0 and bound − D", a difference of natural numbers; in edition 1 "x + C, counted from
--- the priority point"
+-- of a task with bound b: "the larger of 0 and bound minus offset, or minus deadline in edition 2", a difference of natural numbers. Where loops
+-- are more than cores the first is "x + C, counted from the priority point".
 unfoldable pub lateOf : ℕ → Task → ℕ → ℕ
-lateOf e t x = cond (hasDeadlines e) (boundOf t x - t .deadline) (x + t .budget)
+lateOf e t b = b - cond (hasDeadlines e) (t .deadline) (t .offset)
 
 unfoldable pub late : Content → ℕ → ℕ
-late c i = lateOf (c .edition) (c .tasks .task i) (c .slack i)
+late c i = lateOf (c .edition) (c .tasks .task i) (bound (c .tasks) (c .slack) i)
 
 unfoldable pub noTask : Task
 noTask = record { separation = 0; budget = 0; offset = 0; deadline = 0 }

@@ -16,7 +16,7 @@
 --     mark-back       the mark of a plan with tasks comes back from its slack count
 --     tidied-code     the tidied plan, array by array
 --     zero-task       a task that the test of zeros passes is the task of zeros; no-task: and back
-use Prim.Native.Nat.{ℕ, _+_, _-_, _≤_, _<_}
+use Prim.Native.Nat.{ℕ, _-_, _≤_, _<_}
 use mathlib.Core.Path.{_≡_, refl, sym, ap, fun-ext, _∙_}
 use mathlib.Core.Bool.{Bool, true, false, cond, not, _||_}
 use mathlib.Core.List.{List}
@@ -30,7 +30,7 @@ use Rattle.laws.specs.TabLaws.{getD-tab, cut-below, cut-above, cut-map}
 use Rattle.laws.specs.EveryLaws.{both}
 use Rattle.tasks.specs.declared.Task.{Task}
 use Rattle.tasks.specs.declared.Plan.{Plan}
-use Rattle.tasks.specs.TaskSet.{TaskSet, boundOf, row}
+use Rattle.tasks.specs.TaskSet.{TaskSet, row}
 use Rattle.tasks.specs.Content.{hasDeadlines, inEdition, Content, lateOf, noTask, zeroTask, taskOf, contentOf, planOf, tidy}
 
 pub plan-ext :
@@ -99,14 +99,14 @@ cut-edition e n f i =
     sym (cut-map (inEdition e) n (λ j. inEdition e (f j)) noTask noTask (edition-zero e) i)
     ∙ ap (λ (g : ℕ → Task). cut n g noTask i) (fun-ext (λ j. edition-again e (f j)))
 
-pub late-edition : (e : ℕ) (t : Task) (x : ℕ) → lateOf e (inEdition e t) x ≡ lateOf e t x
+pub late-edition : (e : ℕ) (t : Task) (bound : ℕ) → lateOf e (inEdition e t) bound ≡ lateOf e t bound
 unfolding lateOf
-late-edition e t x =
-    by-edition (λ b. cond b (boundOf t x - cond b (t .deadline) 0) (x + t .budget) ≡ cond b (boundOf t x - t .deadline) (x + t .budget)) e refl refl
+late-edition e t bound =
+    by-edition (λ b. bound - cond b (cond b (t .deadline) 0) (t .offset) ≡ bound - cond b (t .deadline) (t .offset)) e refl refl
 
-pub late-high : (e : ℕ) (t : Task) (x : ℕ) → lateOf e t x ≤ boundOf t x
+pub late-high : (e : ℕ) (t : Task) (bound : ℕ) → lateOf e t bound ≤ bound
 unfolding lateOf
-late-high e t x = by-edition (λ b. cond b (boundOf t x - t .deadline) (x + t .budget) ≤ boundOf t x) e (omega arith) (omega arith)
+late-high e t bound = omega arith
 
 pub used-task : (p : Plan) (i : ℕ) → i < p .tasks → contentOf p .tasks .task i ≡ inEdition (p .edition) (taskOf (p .task) i)
 unfolding contentOf

@@ -13,6 +13,7 @@ pub mod SlackLaws
 pub mod CeilingLaws
 pub mod RisingLaws
 pub mod FoundLaws
+pub mod BoundLaws
 pub mod TestsLaws
 pub mod TaskTheorems
 pub mod NumberLaws

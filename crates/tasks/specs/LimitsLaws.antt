@@ -65,7 +65,7 @@ module _ (c : Content) where
       record {
         cores-low = outside-passed _ _ _ (refuse-passed _ _ a3) .0;
         cores-high = outside-passed _ _ _ (refuse-passed _ _ a3) .1;
-        more-tasks = omega (arith, outside-passed _ _ _ (refuse-passed _ _ a5) .0);
+        tasks-low = outside-passed _ _ _ (refuse-passed _ _ a5) .0;
         tasks-high = outside-passed _ _ _ (refuse-passed _ _ a5) .1;
         separation-low = λ i h. outside-passed _ _ _ (lowest-passed _ _ _ a6 i h) .0;
         separation-high = λ i h. outside-passed _ _ _ (lowest-passed _ _ _ a6 i h) .1;

@@ -80,7 +80,7 @@ tests-number c =
     let all : Numbers 28 (test3 c ∷ test4 c ∷ test5 c ∷ test6 c ∷ test7 c ∷ test8 c ∷ test28 c ∷ test9 c ∷ test10 c ∷ test11 c ∷ test12 c ∷ test13 c ∷ []) =
     one 3 (badCores (c .tasks .cores)) (omega arith)
     also at 4 _ _ (omega arith)
-    also one 5 (badCount (c .tasks .cores) (c .tasks .count)) (omega arith)
+    also one 5 (badCount 1 (c .tasks .count)) (omega arith)
     also at 6 _ _ (omega arith)
     also at 7 _ _ (omega arith)
     also at 8 _ _ (omega arith)

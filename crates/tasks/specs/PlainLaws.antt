@@ -5,10 +5,11 @@
 --     plain-bounds                      13 at a slack, are those of its plain tasks
 use Prim.Native.Nat.{ℕ, suc, _*_}
 use mathlib.Core.Path.{_≡_, refl, ap, fun-ext}
+use mathlib.Core.Bool.{cond}
 use mathlib.Core.List.{List}
 use lib.ListN.{replicate}
 use Rattle.laws.specs.Settle.{settle}
-use Rattle.tasks.specs.TaskSet.{TaskSet, plain, hyperperiod, share, weight, surplus, counted, amount, cover, covers, needed, raise, ceiling, found, bound}
+use Rattle.tasks.specs.TaskSet.{TaskSet, plain, hyperperiod, share, weight, surplus, counted, amount, cover, covers, needed, raise, ceiling, coreForEach, found, bound}
 use Rattle.tasks.specs.Tests.{badMultiple, badShares, compliantTest, boundsTest}
 
 module _ (s : TaskSet) where
@@ -34,7 +35,10 @@ module _ (s : TaskSet) where
 
   pub plain-found : found (plain s) ≡ found s
   unfolding plain found
-  plain-found = ap (λ (g : List ℕ → List ℕ). settle g (s .count) (suc (s .count * ceiling)) (replicate (s .count) 0)) (fun-ext raise-plain)
+  plain-found =
+      ap
+      (λ (g : List ℕ → List ℕ). cond (coreForEach (s .cores) (s .count)) (replicate (s .count) 0) (settle g (s .count) (suc (s .count * ceiling)) (replicate (s .count) 0)))
+      (fun-ext raise-plain)
 
   pub plain-bounds : (x : ℕ → ℕ) → boundsTest (plain s) x ≡ boundsTest s x
   unfolding plain bound

@@ -7,9 +7,10 @@
 --     counted, amount           the tasks with the m − 1 largest weights, and A
 --     Compliant, covers         the condition, for all tasks and as a test of one
 --     raise, found              the slack raised once, and raised from zeros until nothing changes
---     boundOf, bound            counted from release, of one task and of a set's
+--     coreForEach               whether loops are no more than cores
+--     boundOf, boundBy, bound   counted from release, of one task, of one with a core of its own or without, and of a set's
 use Prim.Native.Nat.{ℕ, suc, _+_, _-_, _*_, _/_, _≤_, _<_}
-use mathlib.Core.Bool.{Bool}
+use mathlib.Core.Bool.{Bool, cond}
 use mathlib.Core.List.{List}
 use lib.ListN.{getD, replicate}
 use lib.Dec.{leb}
@@ -91,13 +92,24 @@ raise s x = tab (needed s (amount s (row x))) (s .count)
 abbrev pub ceiling : ℕ
 ceiling = 800000
 
--- "starting at zeros, the vector is raised until nothing changes"
+-- "Where loops are no more than cores": n loops on m cores
+abbrev pub coreForEach : ℕ → ℕ → Bool
+coreForEach m n = leb n m
+
+-- "starting at zeros, the vector is raised until nothing changes"; where loops are no more than cores, a loop's "slack is 0"
 unfoldable pub found : TaskSet → List ℕ
-found s = settle (raise s) (s .count) (suc (s .count * ceiling)) (replicate (s .count) 0)
+found s =
+    cond (coreForEach (s .cores) (s .count))
+    (replicate (s .count) 0)
+    (settle (raise s) (s .count) (suc (s .count * ceiling)) (replicate (s .count) 0))
 
 -- "The bound of a loop is Y + x + C, counted from release."
 abbrev pub boundOf : Task → ℕ → ℕ
 boundOf t x = t .offset + x + t .budget
 
+-- the same, or where loops are no more than cores: "its bound is its budget"
+abbrev pub boundBy : Bool → Task → ℕ → ℕ
+boundBy each t x = cond each (t .budget) (boundOf t x)
+
 unfoldable pub bound : TaskSet → (ℕ → ℕ) → ℕ → ℕ
-bound s x i = boundOf (s .task i) (x i)
+bound s x i = boundBy (coreForEach (s .cores) (s .count)) (s .task i) (x i)

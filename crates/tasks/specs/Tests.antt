@@ -7,7 +7,7 @@
 --     badEdition … overBound    what each number tests, of what it looks at: both the tests below and the contracts of the code cite these
 --     compliantTest, foundTest, boundsTest      12 of offered slack, 12 of a plan marked as found, and 13
 --     test3 … test13, tests, testPlan           the tests of a content by 3 to 13 and 28, in their order, and of a plan
-use Prim.Native.Nat.{ℕ, _+_, _-_, _*_}
+use Prim.Native.Nat.{ℕ, _-_, _*_}
 use mathlib.Core.Bool.{Bool, true, false, cond, not, _&&_, _||_}
 use mathlib.Core.List.{List, [], _∷_}
 use lib.Dec.{ltb, leb, eqb}
@@ -18,7 +18,7 @@ use Rattle.tasks.specs.declared.Plan.{Plan}
 use Rattle.tasks.specs.declared.Answer.{Answer}
 use Rattle.tasks.specs.declared.Answer.the-variants.{Accepted, Refused}
 use Rattle.tasks.specs.Numbers.{separationHigh, deadlineHigh, multipleHigh}
-use Rattle.tasks.specs.TaskSet.{TaskSet, hyperperiod, share, covers, found, bound, row}
+use Rattle.tasks.specs.TaskSet.{TaskSet, hyperperiod, share, covers, coreForEach, found, bound, row}
 use Rattle.tasks.specs.Content.{hasDeadlines, Content, contentOf}
 
 abbrev pub refuse : ℕ → Bool → Answer
@@ -73,9 +73,9 @@ badCores m = outside 2 8 m
 unfoldable pub badLabel : (ℕ → ℕ) → ℕ → Bool
 badLabel label i = ltb 63 (label i) || (ltb 0 i && leb (label i) (label (i - 1)))
 
--- 5: "Loops are fewer than cores + 1 or more than 16."
+-- 5: "Number 5 now meets 0 loops or more than 16": fewer than 1. Wish sheets keep "fewer than cores + 1 or more than 16"
 abbrev pub badCount : ℕ → ℕ → Bool
-badCount m n = outside (m + 1) 16 n
+badCount least n = outside least 16 n
 
 -- 6: "A separation is not 1 to 100,000."
 abbrev pub badSeparation : Task → Bool
@@ -105,9 +105,9 @@ badMultiple s = ltb multipleHigh (hyperperiod s)
 abbrev pub badShares : TaskSet → Bool
 badShares s = ltb (s .cores * hyperperiod s) (sum (share s) (s .count))
 
--- 11: "The slack count is neither 0 nor n."
+-- 11: "The slack count is neither 0 nor n."; where loops are no more than cores, "offered slack for such a table is refused 11"
 abbrev pub badOffers : TaskSet → ℕ → Bool
-badOffers s k = not (eqb k 0 || eqb k (s .count))
+badOffers s k = not (eqb k 0 || (not (coreForEach (s .cores) (s .count)) && eqb k (s .count)))
 
 -- 12: "Offered slack isn't compliant (lowest loop k that fails)."
 abbrev pub compliantTest : TaskSet → (ℕ → ℕ) → Answer
@@ -134,7 +134,7 @@ module _ (c : Content) where
   test4 = lowest 4 (badLabel (c .label)) (c .tasks .cores)
 
   unfoldable pub test5 : Answer
-  test5 = refuse 5 (badCount (c .tasks .cores) (c .tasks .count))
+  test5 = refuse 5 (badCount 1 (c .tasks .count))
 
   unfoldable pub test6 : Answer
   test6 = lowest 6 (λ i. badSeparation (c .tasks .task i)) (c .tasks .count)

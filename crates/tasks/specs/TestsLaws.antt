@@ -5,15 +5,16 @@
 --     plan-passed, plan-accepted                       a plan that meets none has a known edition, and its content meets none; and back
 use Prim.Native.Nat.{ℕ, _≤_, _<_}
 use mathlib.Core.Path.{_≡_, refl, sym, _∙_}
-use mathlib.Core.Bool.{Bool, true, false, _||_}
+use mathlib.Core.Bool.{Bool, true, false, not, _&&_, _||_}
 use mathlib.Core.Logic.{_⊎_, inl, inr}
 use lib.Dec.{eqb}
-use borrow.Author.Tests.{ltb-false, eqb-true, eq-eqb, not-false}
+use borrow.Author.Tests.{ltb-false, eqb-true, eq-eqb, not-true, not-false}
+use Rattle.laws.specs.EveryLaws.{both}
 use Rattle.tasks.specs.declared.Plan.{Plan}
 use Rattle.tasks.specs.declared.Answer.the-variants.{Accepted}
-use Rattle.tasks.specs.TaskSet.{Compliant, found, row}
+use Rattle.tasks.specs.TaskSet.{Compliant, coreForEach, found, row}
 use Rattle.tasks.specs.Content.{hasDeadlines, Content, contentOf}
-use Rattle.tasks.specs.Limits.{Limits, Bounded}
+use Rattle.tasks.specs.Limits.{Limits, Enough, Bounded}
 use Rattle.tasks.specs.Tests.{refuse, badEdition, test11, test12, test13, tests, testPlan}
 use Rattle.tasks.specs.AnswerLaws.{orNext-passed, refuse-passed, lowest-passed, firstMet-passed}
 use Rattle.tasks.specs.LimitsLaws.{limitTests, slackTests, tests-split, Labelled, limits-passed, deadlines-passed}
@@ -25,22 +26,22 @@ pub record Passed (c : Content) : Type 0 where
   pub limits : Limits (c .tasks)
   pub labelled : Labelled c
   pub deadline-high : hasDeadlines (c .edition) ≡ true → (i : ℕ) → i < c .tasks .count → c .tasks .task i .deadline ≤ 1600000
-  pub offers : (c .offers ≡ 0) ⊎ (c .offers ≡ c .tasks .count)
+  pub offers : (c .offers ≡ 0) ⊎ ((coreForEach (c .tasks .cores) (c .tasks .count) ≡ false) × (c .offers ≡ c .tasks .count))
   -- "A plan marked as found" has the found slack
   pub as-found : c .offers ≡ 0 → (k : ℕ) → k < c .tasks .count → c .slack k ≡ row (found (c .tasks)) k
-  pub compliant : Compliant (c .tasks) (c .slack)
+  pub compliant : Enough (c .tasks) (c .slack)
   pub bounded : Bounded (c .tasks) (c .slack)
 
 module _ (c : Content) where
-  offers-passed : test11 c ≡ Accepted → (c .offers ≡ 0) ⊎ (c .offers ≡ c .tasks .count)
+  offers-passed : test11 c ≡ Accepted → (c .offers ≡ 0) ⊎ ((coreForEach (c .tasks .cores) (c .tasks .count) ≡ false) × (c .offers ≡ c .tasks .count))
   unfolding test11
   offers-passed a = go (eqb (c .offers) 0) refl (not-false _ (refuse-passed _ _ a))
     where
       go :
-          (b : Bool) → eqb (c .offers) 0 ≡ b → b || eqb (c .offers) (c .tasks .count) ≡ true
-          → (c .offers ≡ 0) ⊎ (c .offers ≡ c .tasks .count)
+          (b : Bool) → eqb (c .offers) 0 ≡ b → b || (not (coreForEach (c .tasks .cores) (c .tasks .count)) && eqb (c .offers) (c .tasks .count)) ≡ true
+          → (c .offers ≡ 0) ⊎ ((coreForEach (c .tasks .cores) (c .tasks .count) ≡ false) × (c .offers ≡ c .tasks .count))
       go true e h = inl (eqb-true _ _ e)
-      go false e h = inr (eqb-true _ _ h)
+      go false e h = let r = both _ _ h in inr (not-true _ (r .0), eqb-true _ _ (r .1))
 
   found-passed : test12 c ≡ Accepted → c .offers ≡ 0 → (k : ℕ) → k < c .tasks .count → c .slack k ≡ row (found (c .tasks)) k
   unfolding test12
@@ -51,8 +52,8 @@ module _ (c : Content) where
   offered-passed a e =
       covers-compliant (c .tasks) (c .slack) (λ k h. not-false _ (lowest-passed 12 _ (c .tasks .count) (rw e at a) k h))
 
-  compliant-passed : Limits (c .tasks) → test12 c ≡ Accepted → Compliant (c .tasks) (c .slack)
-  compliant-passed L a = go (eqb (c .offers) 0) refl
+  compliant-passed : Limits (c .tasks) → test12 c ≡ Accepted → Enough (c .tasks) (c .slack)
+  compliant-passed L a more = go (eqb (c .offers) 0) refl
     where
       go : (b : Bool) → eqb (c .offers) 0 ≡ b → Compliant (c .tasks) (c .slack)
       go true e =
@@ -61,7 +62,7 @@ module _ (c : Content) where
           (row (found (c .tasks)))
           (c .slack)
           (λ k h. sym (found-passed a (eqb-true _ _ e) k h))
-          (found-compliant (c .tasks) L)
+          (found-compliant (c .tasks) L more)
       go false e = offered-passed a e
 
   bounded-passed : test13 c ≡ Accepted → Bounded (c .tasks) (c .slack)
@@ -89,7 +90,7 @@ module _ (c : Content) where
   pub tests-limits : tests c ≡ Accepted → Limits (c .tasks)
   tests-limits a = tests-passed a .limits
 
-  pub tests-compliant : tests c ≡ Accepted → Compliant (c .tasks) (c .slack)
+  pub tests-compliant : tests c ≡ Accepted → Enough (c .tasks) (c .slack)
   tests-compliant a = tests-passed a .compliant
 
   pub tests-bounded : tests c ≡ Accepted → Bounded (c .tasks) (c .slack)

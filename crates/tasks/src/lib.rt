@@ -1,4 +1,5 @@
 // The records that every layer shares: a task, a plan, and the answer of a test. What document 01 says of them is in specs/.
+pub mod bound;
 pub mod edition;
 pub mod limits;
 pub mod refusal;
