@@ -53,10 +53,10 @@ other :
 unfolding judging limitTests test3 test4 test5 test6 test7 test8 test28 test9 test10 test11 offeredTest hadSlack
 other e t l x y = refl
 
--- 11 looks at the two counts only
-eleven : (c d : Content) → c .tasks .count ≡ d .tasks .count → c .offers ≡ d .offers → test11 c ≡ test11 d
+-- 11 looks at the three counts only
+eleven : (c d : Content) → c .tasks .cores ≡ d .tasks .cores → c .tasks .count ≡ d .tasks .count → c .offers ≡ d .offers → test11 c ≡ test11 d
 unfolding test11
-eleven c d n o = rw (n, o)
+eleven c d m n o = rw (m, n, o)
 
 pub judging-limits : (c d : Content) (j i : ℕ) → limitTests c ≡ limitTests d → limitTests d ≡ Refused j i → judging c ≡ judging d
 unfolding judging
@@ -76,4 +76,4 @@ module _ (c d : Content) (e : c .edition ≡ d .edition) (t : c .tasks ≡ d .ta
       rw (f, q, v, w)
     where
       count-same : test11 c ≡ test11 d
-      count-same = eleven c d (ap (λ (s : TaskSet). s .count) t) o
+      count-same = eleven c d (ap (λ (s : TaskSet). s .cores) t) (ap (λ (s : TaskSet). s .count) t) o

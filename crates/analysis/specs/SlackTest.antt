@@ -4,6 +4,7 @@
 --     taskTests      6 to 12, and 28
 --     hadSlack       the slack: offered, or found
 --     Offered        12 of offered slack, and that slack with zeros in unused places, with the tasks counted at it
+--     Unoffered      slack that is not offered, with the tasks counted at it
 --     RatesTested    the answer by 9 to 12, and the slack with the tasks counted at it
 --     TasksTested    the answer by 6 to 12, and the same
 --     PlanTested     the answer by 3 to 12, and the same where none is met
@@ -51,6 +52,10 @@ hadSlack c = cond (eqb (c .offers) 0) (row (found (c .tasks))) (c .slack)
 pub record Offered (s : TaskSet) (slack : List ℕ) (r : Tested) : Type 0 where
   pub answer : r .answer ≡ compliantTest s (cut (s .count) (row slack) 0)
   pub had : r .answer ≡ Accepted → Had s (cut (s .count) (row slack) 0) (r .slack) (r .names)
+
+pub record Unoffered (s : TaskSet) (r : Tested) : Type 0 where
+  pub answer : r .answer ≡ Accepted
+  pub had : Had s (row (found s)) (r .slack) (r .names)
 
 -- 11, and 12 of offered slack
 unfoldable pub slackTest : TaskSet → List ℕ → ℕ → Answer

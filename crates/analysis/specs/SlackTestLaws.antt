@@ -5,26 +5,28 @@
 --     limits-from       what the three stages leave
 --     stopped, passed-on                           a refusal is passed on, and a passed test leaves the next
 --     slack-tests, had-plan                        11 and 12 of a plan, and the slack that it has with the tasks counted at it
---     slack-none, slack-count, slack-offered       11 and 12 by the slack count
+--     slack-none, slack-own, slack-count, slack-offered     11 and 12 by the slack count, slack-own where loops are no more than cores
+--     had-own                                      the slack there
 use Prim.Native.Nat.{ℕ, _-_, _≤_, _<_}
 use mathlib.Core.Path.{_≡_, refl, sym, _∙_, ap}
-use mathlib.Core.Bool.{cond}
+use mathlib.Core.Bool.{Bool, true, false, cond, not, _||_, true≢false}
 use mathlib.Core.List.{List, [], _∷_}
 use native.Mathlib.Omega.{arith}
 use lib.Dec.{eqb}
-use lib.ListN.{take}
+use lib.ListN.{take, replicate}
 use borrow.Author.Tests.{ltb-false, eq-eqb, ne-eqb}
 use Rattle.laws.specs.Tab.{tab, cut}
-use Rattle.laws.specs.TabLaws.{tab-ext, getD-cut, cut-below, cut-map}
+use Rattle.laws.specs.TabLaws.{tab-ext, tab-replicate, getD-cut, cut-below, cut-map}
 use Rattle.tasks.specs.declared.Task.{Task}
 use Rattle.tasks.specs.declared.Plan.{Plan}
 use Rattle.tasks.specs.declared.Answer.{Answer}
 use Rattle.tasks.specs.declared.Answer.the-variants.{Accepted, Refused}
-use Rattle.tasks.specs.TaskSet.{TaskSet, plainTask, plain, counted, found, row}
+use Rattle.tasks.specs.TaskSet.{TaskSet, plainTask, plain, counted, coreForEach, found, row}
 use Rattle.tasks.specs.PlainLaws.{plain-multiple, plain-shares, plain-counted, plain-compliant, plain-found}
 use Rattle.tasks.specs.AmountLaws.{counted-ext}
+use Rattle.tasks.specs.FoundLaws.{found-zeros}
 use Rattle.tasks.specs.Content.{inEdition, Content, contentOf, taskOf, noTask}
-use Rattle.tasks.specs.Tests.{badLabel, firstMet, orNext, compliantTest, test3, test4, test5, test6, test7, test8, test28, test9, test10, test11}
+use Rattle.tasks.specs.Tests.{refuse, badLabel, firstMet, orNext, compliantTest, test3, test4, test5, test6, test7, test8, test28, test9, test10, test11}
 use Rattle.tasks.specs.AnswerLaws.{refuse-passed, lowest-ext, firstMet-append, firstMet-passed}
 use Rattle.tasks.specs.Limits.{Limits}
 use Rattle.tasks.specs.LimitsLaws.{limitTests}
@@ -82,7 +84,7 @@ unfolding badLabel
 label-cut m label i h = rw (cut-below m label 0 i h, cut-below m label 0 (i - 1) (omega arith))
 
 module _ (p : Plan) (k : ℕ) where
-  pub frame-tests : frameTest (p .cores) (row (p .labels)) (p .tasks) ≡ firstMet (test3 (offering p k) ∷ test4 (offering p k) ∷ test5 (offering p k) ∷ [])
+  pub frame-tests : frameTest false (p .cores) (row (p .labels)) (p .tasks) ≡ firstMet (test3 (offering p k) ∷ test4 (offering p k) ∷ test5 (offering p k) ∷ [])
   unfolding frameTest test3 test4 test5 offering contentOf
   frame-tests =
       rw (lowest-ext 4 (badLabel (cut (p .cores) (row (p .labels)) 0)) (badLabel (row (p .labels))) (p .cores) (label-cut (p .cores) (row (p .labels))))
@@ -109,7 +111,7 @@ module _ (c : Content) where
   rates-tests s e = rw (e, plain-multiple (c .tasks), plain-shares (c .tasks))
 
 pub limits-from :
-    (m n : ℕ) (separation budget offset : List ℕ) → Framed m n → Ranges (setFrom m n separation budget offset) →
+    (m n : ℕ) (separation budget offset : List ℕ) → Framed 1 m n → Ranges (setFrom m n separation budget offset) →
     ratesTest (setFrom m n separation budget offset) ≡ Accepted → Limits (setFrom m n separation budget offset)
 unfolding ratesTest setFrom
 limits-from m n separation budget offset f g a =
@@ -118,7 +120,7 @@ limits-from m n separation budget offset f g a =
     record {
       cores-low = f .cores-low;
       cores-high = f .cores-high;
-      more-tasks = f .more-tasks;
+      tasks-low = f .tasks-low;
       tasks-high = f .tasks-high;
       separation-low = g .timed .separation-low;
       separation-high = g .separation;
@@ -141,19 +143,40 @@ module _ (s : TaskSet) (slack : List ℕ) (k : ℕ) where
   unfolding slackTest firstMet
   slack-none e = rw e
 
-  pub slack-count : (k ≡ 0 → ⊥) → (k ≡ s .count → ⊥) → slackTest s slack k ≡ Refused 11 0
+  -- where loops are no more than cores
+  pub slack-own : coreForEach (s .cores) (s .count) ≡ true → slackTest s slack k ≡ refuse 11 (not (eqb k 0))
   unfolding slackTest firstMet
-  slack-count e f = rw (ne-eqb k 0 e, ne-eqb k (s .count) f)
-
-  pub slack-offered :
-      (k ≡ 0 → ⊥) → k ≡ s .count →
-      slackTest s slack k ≡ compliantTest s (cut (s .count) (row slack) 0)
-  unfolding slackTest firstMet
-  slack-offered e f = rw (ne-eqb k 0 e, eq-eqb k (s .count) f) (last _)
+  slack-own each = rw each (go (eqb k 0))
     where
-      last : (a : Answer) → orNext a Accepted ≡ a
-      last Accepted = refl
-      last (Refused k i) = refl
+      go :
+          (b : Bool)
+          → orNext (refuse 11 (not (b || false))) (orNext (cond b Accepted (compliantTest s (cut (s .count) (row slack) 0))) Accepted) ≡ refuse 11 (not b)
+      go true = refl
+      go false = refl
+
+  pub had-own :
+      (zeros names : List ℕ) → coreForEach (s .cores) (s .count) ≡ true → zeros ≡ replicate 16 0 → k ≡ 0
+      → Had s (cond (eqb k 0) (row (found s)) (cut (s .count) (row slack) 0)) zeros names
+  had-own zeros names each ez z =
+      record {
+        places = rw z (ez ∙ sym (tab-replicate 0 16) ∙ tab-ext _ _ 16 (λ i h. sym (found-zeros s each i)));
+        counts = λ more. absurd (true≢false (sym each ∙ more));
+      }
+
+  module _ (more : coreForEach (s .cores) (s .count) ≡ false) where
+    pub slack-count : (k ≡ 0 → ⊥) → (k ≡ s .count → ⊥) → slackTest s slack k ≡ Refused 11 0
+    unfolding slackTest firstMet
+    slack-count e f = rw (ne-eqb k 0 e, more, ne-eqb k (s .count) f)
+
+    pub slack-offered :
+        (k ≡ 0 → ⊥) → k ≡ s .count →
+        slackTest s slack k ≡ compliantTest s (cut (s .count) (row slack) 0)
+    unfolding slackTest firstMet
+    slack-offered e f = rw (ne-eqb k 0 e, more, eq-eqb k (s .count) f) (last _)
+      where
+        last : (a : Answer) → orNext a Accepted ≡ a
+        last Accepted = refl
+        last (Refused k i) = refl
 
 -- the last stage of a plan whose task set the columns stand for
 module _ (p : Plan) (k : ℕ) (s : TaskSet) (e : s ≡ plain (contentOf p .tasks)) where
@@ -172,9 +195,9 @@ module _ (p : Plan) (k : ℕ) (s : TaskSet) (e : s ≡ plain (contentOf p .tasks
   had-plan slack names g =
       record {
         places = g .places ∙ tab-ext _ _ 16 (λ i h. slack-had i);
-        counts =
+        counts = λ more.
             ap (λ (t : TaskSet). take (t .cores - 1) names) (sym e)
-            ∙ g .counts
+            ∙ g .counts (rw e more)
             ∙ ap (λ (t : TaskSet). counted t (cond (eqb k 0) (row (found s)) (cut (s .count) (row (p .slack)) 0))) e
             ∙ plain-counted (contentOf p .tasks) _
             ∙ counted-ext (contentOf p .tasks) _ _ (λ i h. slack-had i);

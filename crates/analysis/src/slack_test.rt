@@ -9,13 +9,18 @@ use slack::vector::first_uncovered;
 use slack::vector::search;
 use tasks::Answer;
 use tasks::Plan;
+use tasks::bound::core_for_each;
 use tasks::refusal;
 use tidy::tidy_slack;
 ghost use mathlib.Core.Path.{_≡_};
+ghost use mathlib.Core.Bool.{not};
+ghost use lib.Dec.{eqb};
+ghost use lib.ListN.{replicate};
 ghost use Rattle.tasks.specs.TaskSet.{TaskSet};
+ghost use Rattle.tasks.specs.Tests.{refuse};
 ghost use Rattle.slack.specs.Arrays.{ArraysOf};
 ghost use Rattle.slack.specs.StageLaws.{Framed};
-ghost use Rattle.analysis.specs.SlackTest.{PlanTested, Offered, RatesTested, TasksTested};
+ghost use Rattle.analysis.specs.SlackTest.{PlanTested, Offered, Unoffered, RatesTested, TasksTested};
 ghost use Rattle.fields.specs.Columns.{setFrom};
 ghost use Rattle.slack.specs.Rates.{Ranges};
 
@@ -68,6 +73,58 @@ fn offered(
     }
 }
 
+// Slack that is not offered is found.
+fn unoffered(
+    share: &[u64; 16],
+    budget: &[u32; 16],
+    offset: &[u32; 16],
+    multiple: u64,
+    surplus: u64,
+    cores: usize,
+    tasks: usize,
+) -> Tested
+    requires { ⌜ ((s : TaskSet) × ArraysOf s (now share) (now budget) (now offset) multiple surplus cores tasks) ⌝ }
+    ensures { λ r. ⌜ ((s : TaskSet) → ArraysOf s (now (share .entry)) (now (budget .entry)) (now (offset .entry)) multiple surplus cores tasks → Unoffered s r) ⌝ }
+{
+    let mut names = first_names();
+    let slack = search(
+        share,
+        budget,
+        offset,
+        &mut names,
+        multiple,
+        surplus,
+        cores,
+        tasks,
+    );
+    Tested {
+        answer: Answer::Accepted,
+        slack,
+        names,
+    }
+}
+
+// Where loops are no more than cores "offered slack … is refused 11", a loop's "slack is 0", and no task is counted.
+fn own_cores(offers: usize) -> Tested
+    ensures { λ r. ⌜ (r .answer ≡ refuse 11 (not (eqb offers 0))) × (r .slack ≡ replicate 16 0) ⌝ }
+{
+    if offers == 0 {
+        return Tested {
+            answer: Answer::Accepted,
+            slack: [0; 16],
+            names: [0; 16],
+        };
+    }
+    Tested {
+        answer: Answer::Refused {
+            number: refusal::SLACK_COUNT_WRONG,
+            index: 0,
+        },
+        slack: [0; 16],
+        names: [0; 16],
+    }
+}
+
 // Tests 9 to 12, of a task set that meets none of 3 to 8 and 28.
 fn test_rated(
     separation: &[u32; 16],
@@ -78,7 +135,7 @@ fn test_rated(
     tasks: usize,
     offers: usize,
 ) -> Tested
-    requires { ⌜ Framed cores tasks × Ranges (setFrom cores tasks (now separation) (now budget) (now offset)) ⌝ }
+    requires { ⌜ Framed 1 cores tasks × Ranges (setFrom cores tasks (now separation) (now budget) (now offset)) ⌝ }
     ensures { λ r. ⌜ RatesTested (setFrom cores tasks (now (separation .entry)) (now (budget .entry)) (now (offset .entry))) (now (slack .entry)) offers r ⌝ }
 {
     let rates = rate(separation, budget, offset, cores, tasks);
@@ -86,24 +143,20 @@ fn test_rated(
     let Answer::Accepted = rated else {
         return untested(rated);
     };
+    if core_for_each(cores, tasks) {
+        return own_cores(offers);
+    }
     let share = rates.share;
     if offers == 0 {
-        let mut names = first_names();
-        let found = search(
+        return unoffered(
             &share,
             budget,
             offset,
-            &mut names,
             rates.multiple,
             rates.surplus,
             cores,
             tasks,
         );
-        return Tested {
-            answer: Answer::Accepted,
-            slack: found,
-            names,
-        };
     }
     if offers != tasks {
         return untested(Answer::Refused {
@@ -125,7 +178,7 @@ fn test_rated(
 
 // Tests 6 to 12, and 28.
 fn test_tasks(plan: Plan, offers: usize) -> Tested
-    requires { ⌜ Framed (plan .cores) (plan .tasks) ⌝ }
+    requires { ⌜ Framed 1 (plan .cores) (plan .tasks) ⌝ }
     ensures { λ r. ⌜ TasksTested plan offers r ⌝ }
 {
     let tasks = plan.tasks;
@@ -155,7 +208,7 @@ pub fn test_slack(plan: Plan, offers: usize) -> Tested
     ensures { λ r. ⌜ PlanTested plan offers r ⌝ }
 {
     let labels = plan.labels;
-    let framed = frame(plan.cores, &labels, plan.tasks);
+    let framed = frame(plan.cores, &labels, plan.tasks, false);
     let Answer::Accepted = framed else {
         return untested(framed);
     };

@@ -19,7 +19,7 @@ use Rattle.tasks.specs.declared.Task.{Task}
 use Rattle.tasks.specs.declared.Plan.{Plan}
 use Rattle.tasks.specs.declared.Answer.{Answer}
 use Rattle.tasks.specs.declared.Answer.the-variants.{Accepted, Refused}
-use Rattle.tasks.specs.TaskSet.{boundOf, bound}
+use Rattle.tasks.specs.TaskSet.{coreForEach, boundBy, bound}
 use Rattle.tasks.specs.Numbers.{deadlineHigh}
 use Rattle.tasks.specs.Content.{inEdition, taskOf, contentOf}
 use Rattle.tasks.specs.ContentLaws.{by-edition, used-task}
@@ -83,6 +83,7 @@ module _ (p : Plan) where
 
   pub bounds-scan :
       (x : ℕ → ℕ)
-      → lowest 13 (λ i. overBound (taskOf (p .task) i) (boundOf (taskOf (p .task) i) (x i))) (p .tasks) ≡ boundsTest (contentOf p .tasks) x
+      → lowest 13 (λ i. overBound (taskOf (p .task) i) (boundBy (coreForEach (p .cores) (p .tasks)) (taskOf (p .task) i) (x i))) (p .tasks)
+      ≡ boundsTest (contentOf p .tasks) x
   unfolding contentOf bound
-  bounds-scan x = lowest-ext 13 _ _ (p .tasks) (λ i h. ap (λ (t : Task). overBound t (boundOf t (x i))) (sym (used-task p i h)))
+  bounds-scan x = lowest-ext 13 _ _ (p .tasks) (λ i h. ap (λ (t : Task). overBound t (boundBy (coreForEach (p .cores) (p .tasks)) t (x i))) (sym (used-task p i h)))

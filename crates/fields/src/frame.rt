@@ -7,7 +7,7 @@ ghost use Prim.Native.Nat.{_<_, _≤_};
 ghost use Rattle.laws.specs.First.{first};
 ghost use Rattle.tasks.specs.TaskSet.{row};
 ghost use Rattle.tasks.specs.Tests.{badLabel};
-ghost use Rattle.fields.specs.Stages.{frameTest};
+ghost use Rattle.fields.specs.Stages.{leastBy, frameTest};
 
 // "A core label is above 63 or not above the one before."
 fn is_bad_label(labels: &[u8; 8], i: usize) -> bool
@@ -38,8 +38,19 @@ fn bad_label(labels: &[u8; 8], cores: usize) -> usize
     cores
 }
 
-pub fn frame(cores: usize, labels: &[u8; 8], tasks: usize) -> Answer
-    ensures { λ r. ⌜ r ≡ frameTest cores (row (now (labels .entry))) tasks ⌝ }
+// "0 loops", on a wish sheet "fewer than cores + 1", are too few.
+fn least(cores: usize, wishes: bool) -> usize
+    requires { ⌜ cores ≤ 8 ⌝ }
+    ensures { λ r. ⌜ r ≡ leastBy wishes cores ⌝ }
+{
+    if wishes {
+        return cores + 1;
+    }
+    1
+}
+
+pub fn frame(cores: usize, labels: &[u8; 8], tasks: usize, wishes: bool) -> Answer
+    ensures { λ r. ⌜ r ≡ frameTest wishes cores (row (now (labels .entry))) tasks ⌝ }
 {
     if cores < limits::CORES_LOW {
         return Answer::Refused {
@@ -60,7 +71,7 @@ pub fn frame(cores: usize, labels: &[u8; 8], tasks: usize) -> Answer
             index: bad as u16,
         };
     }
-    if tasks <= cores {
+    if tasks < least(cores, wishes) {
         return Answer::Refused {
             number: refusal::TASK_COUNT_OUTSIDE,
             index: 0,

@@ -3,18 +3,18 @@
 --     lifted       the least slack, from what is needed and the budget, both divided by the number of cores
 --     need         what an amount needs: it divided by H, rounded up
 --     upto         the row f below n and g from n on
---     ArraysOf     the arrays and numbers are those of the task set s
+--     ArraysOf     the arrays and numbers are those of the task set s, which has more loops than cores
 --     Needs        what A of the slack x needs, and the tasks counted at x first among the names
---     Had          the slack x in an array, and the tasks counted at it first among the names
+--     Had          the slack x in an array, and of more loops than cores the tasks counted at it first among the names
 use Prim.Native.Nat.{ℕ, _+_, _*_, _-_, _/_, _≤_, _<_}
 use mathlib.Core.Path.{_≡_}
-use mathlib.Core.Bool.{Bool, cond}
+use mathlib.Core.Bool.{Bool, false, cond}
 use mathlib.Core.List.{List}
 use lib.Dec.{ltb}
 use lib.ListN.{take}
 use Rattle.laws.specs.Sum.{sum}
 use Rattle.laws.specs.Tab.{tab}
-use Rattle.tasks.specs.TaskSet.{TaskSet, hyperperiod, share, surplus, counted, amount, row}
+use Rattle.tasks.specs.TaskSet.{TaskSet, hyperperiod, share, surplus, counted, amount, coreForEach, row}
 use Rattle.tasks.specs.Limits.{Limits}
 
 unfoldable pub uncovered : ℕ → ℕ → ℕ → List ℕ → List ℕ → ℕ → Bool
@@ -33,6 +33,7 @@ upto n f g i = cond (ltb i n) (f i) (g i)
 
 pub record ArraysOf (s : TaskSet) (shares budgets offsets : List ℕ) (h surpluses m n : ℕ) : Type 0 where
   pub limits : Limits s
+  pub more-tasks : s .cores < s .count
   pub cores : m ≡ s .cores
   pub tasks : n ≡ s .count
   pub multiple : h ≡ hyperperiod s
@@ -48,4 +49,4 @@ pub record Needs (s : TaskSet) (x : ℕ → ℕ) (names : List ℕ) (d : ℕ) : 
 
 pub record Had (s : TaskSet) (x : ℕ → ℕ) (slack names : List ℕ) : Type 0 where
   pub places : slack ≡ tab x 16
-  pub counts : take (s .cores - 1) names ≡ counted s x
+  pub counts : coreForEach (s .cores) (s .count) ≡ false → take (s .cores - 1) names ≡ counted s x

@@ -13,7 +13,7 @@ use mathlib.Core.Logic.{_≢_}
 use native.Mathlib.Omega.{arith}
 use lib.ListN.{length, getD}
 use lib.Dec.{ltb, eqb}
-use borrow.Author.Tests.{ltb-true, ltb-false, eqb-true, eqb-false, not-true, not-false}
+use borrow.Author.Tests.{ltb-true, ltb-false, eqb-true, eqb-false, not-true, not-false, lt-leb}
 use Rattle.laws.specs.First.{first}
 use Rattle.laws.specs.FirstLaws.{first-le, first-holds, first-none}
 use Rattle.laws.specs.Sum.{sum}
@@ -102,7 +102,7 @@ module _ {s : TaskSet} {shares budgets offsets : List ℕ} {h surpluses m n : �
 
       module _ (e : false ≡ changes n (row x) (λ k. lifted (d / m) (d % m) (row quotient k) (row rest k))) where
         settled : (k : ℕ) → k < s .count → row x k ≡ row (found s) k
-        settled = found-still s (g .limits) (row x) (row y) z turn-raised (turn-still e)
+        settled = found-still s (g .limits) (lt-leb _ _ (g .more-tasks)) (row x) (row y) z turn-raised (turn-still e)
 
         pub turn-over : ((k : ℕ) → n ≤ k → row x k ≡ 0) → y ≡ tab (row (found s)) 16
         turn-over p =

@@ -1,5 +1,5 @@
 -- What settles a plan's slack, from what the stages have worked out.
---     frame-passed, ranges-passed    what 3 to 8 and 28 leave
+--     Framed, frame-passed, ranges-passed    what 3 to 5, and 6 to 8 and 28, leave; 5 of `least` tasks at least
 --     arrays-of                    the rates and columns of a task set past 3 to 10
 --     cores-low … surplus-high       what ties the arrays to a task set keeps every number small
 --     counted-row                    the tasks that the code counts are those counted
@@ -31,29 +31,29 @@ use Rattle.tasks.specs.Tests.{lowest}
 use Rattle.tasks.specs.AnswerLaws.{refuse-passed, lowest-passed, lowest-found, lowest-none, firstMet-passed, outside-passed}
 use Rattle.slack.specs.declared.rates.Rates.{Rates}
 use Rattle.fields.specs.Columns.{setFrom}
-use Rattle.fields.specs.Stages.{frameTest, fieldsTest}
+use Rattle.fields.specs.Stages.{leastBy, frameTest, fieldsTest}
 use Rattle.slack.specs.Rates.{Ranges, Figures}
 use Rattle.slack.specs.RatesLaws.{row-filled}
 use Rattle.slack.specs.Weights.{weightRow, Few}
 use Rattle.slack.specs.Arrays.{uncovered, ArraysOf, Had}
 
-pub record Framed (m n : ℕ) : Type 0 where
+pub record Framed (least m n : ℕ) : Type 0 where
   pub cores-low : 2 ≤ m
   pub cores-high : m ≤ 8
-  pub more-tasks : m < n
+  pub tasks-low : least ≤ n
   pub tasks-high : n ≤ 16
 
-pub frame-passed : (m : ℕ) (label : ℕ → ℕ) (n : ℕ) → frameTest m label n ≡ Accepted → Framed m n
+pub frame-passed : (wishes : Bool) (m : ℕ) (label : ℕ → ℕ) (n : ℕ) → frameTest wishes m label n ≡ Accepted → Framed (leastBy wishes m) m n
 unfolding frameTest
-frame-passed m label n a =
+frame-passed wishes m label n a =
     let r3 = firstMet-passed _ _ a in
     let r4 = firstMet-passed _ _ (r3 .1) in
     let r5 = firstMet-passed _ _ (r4 .1) in
     let o3 = outside-passed 2 8 m (refuse-passed 3 _ (r3 .0)) in
-    let o5 = outside-passed (m + 1) 16 n (refuse-passed 5 _ (r5 .0)) in
-    record { cores-low = o3 .0; cores-high = o3 .1; more-tasks = omega arith; tasks-high = o5 .1 }
+    let o5 = outside-passed (leastBy wishes m) 16 n (refuse-passed 5 _ (r5 .0)) in
+    record { cores-low = o3 .0; cores-high = o3 .1; tasks-low = o5 .0; tasks-high = o5 .1 }
 
-pub ranges-passed : (e : ℕ) (s : TaskSet) → Framed (s .cores) (s .count) → fieldsTest e (s .task) (s .count) ≡ Accepted → Ranges s
+pub ranges-passed : {least : ℕ} (e : ℕ) (s : TaskSet) → Framed least (s .cores) (s .count) → fieldsTest e (s .task) (s .count) ≡ Accepted → Ranges s
 unfolding fieldsTest
 ranges-passed e s f a =
     let r6 = firstMet-passed _ _ a in
@@ -73,13 +73,14 @@ ranges-passed e s f a =
     }
 
 pub arrays-of :
-    (m n : ℕ) (separation budget offset : List ℕ) (r : Rates) → n ≤ 16 → Limits (setFrom m n separation budget offset) →
+    (m n : ℕ) (separation budget offset : List ℕ) (r : Rates) → n ≤ 16 → Limits (setFrom m n separation budget offset) → m < n →
     Figures (setFrom m n separation budget offset) r →
     ArraysOf (setFrom m n separation budget offset) (r .share) budget offset (r .multiple) (r .surplus) m n
 unfolding setFrom
-arrays-of m n separation budget offset r h L f =
+arrays-of m n separation budget offset r h L more f =
     record {
       limits = L;
+      more-tasks = more;
       cores = refl;
       tasks = refl;
       multiple = f .multiple;
@@ -109,7 +110,7 @@ module _ {s : TaskSet} {shares budgets offsets : List ℕ} {h surpluses m n : �
   cores-high = omega (arith, g .cores, g .limits .cores-high)
 
   pub more : m < n
-  more = omega (arith, g .cores, g .tasks, g .limits .more-tasks)
+  more = omega (arith, g .cores, g .tasks, g .more-tasks)
 
   pub tasks-high : n ≤ 16
   tasks-high = omega (arith, g .tasks, g .limits .tasks-high)
@@ -177,5 +178,5 @@ module _ {s : TaskSet} {shares budgets offsets : List ℕ} {h surpluses m n : �
       offered-had names e =
           record {
             places = rw (← g .tasks) eu;
-            counts = rw (g .cores) at (e ∙ counted-row used) ∙ ap (counted s) used-row;
+            counts = λ more. rw (g .cores) at (e ∙ counted-row used) ∙ ap (counted s) used-row;
           }

@@ -1,4 +1,5 @@
 use mathlib.Core.Path.{_≡_, sym, _∙_, ap}
+use mathlib.Core.Bool.{false}
 use mathlib.Core.List.{[], _∷_}
 use Prim.Native.Nat.{ℕ}
 use Rattle.tasks.specs.declared.Plan.{Plan}
@@ -28,7 +29,7 @@ use Rattle.analysis.proofs.slack_test.untested.Reads as untested-reads
 regroup : (a b c d : Answer) → orNext (orNext a (orNext b c)) d ≡ orNext a (orNext b (orNext c d))
 regroup a b c d = orNext-assoc a (orNext b c) d ∙ ap (orNext a) (orNext-assoc b c d)
 
-module _ (p : Plan) (k : ℕ) (a : Answer) (ea : a ≡ frameTest (p .cores) (row (p .labels)) (p .tasks)) where
+module _ (p : Plan) (k : ℕ) (a : Answer) (ea : a ≡ frameTest false (p .cores) (row (p .labels)) (p .tasks)) where
   framed : a ≡ firstMet (test3 (offering p k) ∷ test4 (offering p k) ∷ test5 (offering p k) ∷ [])
   framed = ea ∙ frame-tests p k
 
@@ -73,7 +74,7 @@ returns c =
     refused (s .args .plan) (s .args .offers) _ (c .before .before .before .frame .ensures) _ _ _ (c .before .enum-told2 .given .1) (c .untested .ensures)
 
 test-tasks-requires : tie.Need-test-tasks-requires
-test-tasks-requires c κs = frame-passed _ _ _ (sym (c .before .before .frame .ensures) ∙ c .enum-told .given .1)
+test-tasks-requires c κs = frame-passed false _ _ _ (sym (c .before .before .frame .ensures) ∙ c .enum-told .given .1)
 
 returns-2 : tie.Need-returns-2
 returns-2 c =

@@ -27,7 +27,7 @@ use Rattle.fields.proofs.ranges.task_ranges.Reads as task-ranges-reads
 use Rattle.analysis.proofs.slack_test.test_rated.Reads as test-rated-reads
 use Rattle.analysis.proofs.slack_test.untested.Reads as untested-reads
 
-module _ (p : Plan) (k : ℕ) (f : Framed (p .cores) (p .tasks)) (a : Answer) (ea : a ≡ fieldsTest (p .edition) (taskOf (p .task)) (p .tasks)) where
+module _ (p : Plan) (k : ℕ) (f : Framed 1 (p .cores) (p .tasks)) (a : Answer) (ea : a ≡ fieldsTest (p .edition) (taskOf (p .task)) (p .tasks)) where
   fielded : a ≡ firstMet (test6 (offering p k) ∷ test7 (offering p k) ∷ test8 (offering p k) ∷ test28 (offering p k) ∷ [])
   fielded = ea ∙ fields-tests p k
 

@@ -1,5 +1,5 @@
 -- `fields::bounds::first_over` meets its contract; the invariant says that no task before i meets the test.
-use Rattle.tasks.specs.TaskSet.{row, boundOf}
+use Rattle.tasks.specs.TaskSet.{row, boundBy}
 use Rattle.tasks.specs.Content.{taskOf, noTask}
 use Rattle.tasks.specs.Tests.{overBound}
 use Rattle.laws.specs.First.{first}
@@ -12,10 +12,10 @@ use Rattle.fields.proofs.bounds.first_over.Statement.{statement}
 use Rattle.fields.proofs.bounds.first_over.Tie as tie
 
 abbrev Inv-loop : tie.InvT-loop
-Inv-loop tasks task slack i₀ i = (i ≤ tasks) × (first (λ i. overBound (taskOf task i) (boundOf (taskOf task i) (row slack i))) i ≡ i)
+Inv-loop each tasks task slack i₀ i = (i ≤ tasks) × (first (λ i. overBound (taskOf task i) (boundBy each (taskOf task i) (row slack i))) i ≡ i)
 
 abbrev μ-loop : tie.MeasureT-loop
-μ-loop tasks task slack i₀ i = tasks - i
+μ-loop each tasks task slack i₀ i = tasks - i
 
 loop-holds : tie.Need-loop-holds Inv-loop μ-loop
 unfolding first

@@ -93,7 +93,7 @@ returns c =
     let done = sym (not-true _ (c .if1 .taken)) ∙ v .1 in
     record {
       places = turn-over k _ _ _ q r (l .slack) _ (v .0) (l .inv .3 t k) (d .needs) done (l .inv .1);
-      counts = d .counts ∙ turn-counted k _ _ _ q r (l .slack) _ (v .0) (l .inv .3 t k) (d .needs) done;
+      counts = λ more. d .counts ∙ turn-counted k _ _ _ q r (l .slack) _ (v .0) (l .inv .3 t k) (d .needs) done;
     }
 
 pub search-spec : {M : Type 1} → statement M
