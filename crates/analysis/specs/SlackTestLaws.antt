@@ -1,6 +1,6 @@
 -- The stages' answers joined: from the columns and the stages to document 01's tests of a plan.
 --     columns-set       the columns stand for the plan's tasks, by the numbers that the analysis reads; plain-ranges: whose ranges those have
---     frame-tests, fields-tests     3, 4 and 5, and 6, 7, 8 and 28, from the plan's own arrays
+--     frame-tests, fields-tests     3, 4 and 5, of a table or a wish sheet, and 6, 7, 8 and 28, from the plan's own arrays
 --     limits-split      3 to 10, and 28, are the three stages
 --     limits-from       what the three stages leave
 --     stopped, passed-on                           a refusal is passed on, and a passed test leaves the next
@@ -26,12 +26,12 @@ use Rattle.tasks.specs.PlainLaws.{plain-multiple, plain-shares, plain-counted, 
 use Rattle.tasks.specs.AmountLaws.{counted-ext}
 use Rattle.tasks.specs.FoundLaws.{found-zeros}
 use Rattle.tasks.specs.Content.{inEdition, Content, contentOf, taskOf, noTask}
-use Rattle.tasks.specs.Tests.{refuse, badLabel, firstMet, orNext, compliantTest, test3, test4, test5, test6, test7, test8, test28, test9, test10, test11}
+use Rattle.tasks.specs.Tests.{refuse, badLabel, badCount, firstMet, orNext, compliantTest, test3, test4, test5, test6, test7, test8, test28, test9, test10, test11}
 use Rattle.tasks.specs.AnswerLaws.{refuse-passed, lowest-ext, firstMet-append, firstMet-passed}
 use Rattle.tasks.specs.Limits.{Limits}
 use Rattle.tasks.specs.LimitsLaws.{limitTests}
 use Rattle.fields.specs.Columns.{columnsOf, setFrom}
-use Rattle.fields.specs.Stages.{frameTest, fieldsTest}
+use Rattle.fields.specs.Stages.{leastBy, frameTest, fieldsTest}
 use Rattle.fields.specs.StageLaws.{fields-scan}
 use Rattle.slack.specs.Rates.{Ranges, ratesTest}
 use Rattle.slack.specs.Arrays.{Had}
@@ -84,9 +84,12 @@ unfolding badLabel
 label-cut m label i h = rw (cut-below m label 0 i h, cut-below m label 0 (i - 1) (omega arith))
 
 module _ (p : Plan) (k : ℕ) where
-  pub frame-tests : frameTest false (p .cores) (row (p .labels)) (p .tasks) ≡ firstMet (test3 (offering p k) ∷ test4 (offering p k) ∷ test5 (offering p k) ∷ [])
-  unfolding frameTest test3 test4 test5 offering contentOf
-  frame-tests =
+  pub frame-tests :
+      (wishes : Bool)
+      → frameTest wishes (p .cores) (row (p .labels)) (p .tasks)
+      ≡ firstMet (test3 (offering p k) ∷ test4 (offering p k) ∷ refuse 5 (badCount (leastBy wishes (p .cores)) (p .tasks)) ∷ [])
+  unfolding frameTest test3 test4 offering contentOf
+  frame-tests wishes =
       rw (lowest-ext 4 (badLabel (cut (p .cores) (row (p .labels)) 0)) (badLabel (row (p .labels))) (p .cores) (label-cut (p .cores) (row (p .labels))))
 
   pub fields-tests :

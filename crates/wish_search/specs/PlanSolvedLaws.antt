@@ -2,7 +2,8 @@
 --     tests-staged      3 to 5, and then the others
 --     tasks-refused, tasks-solved    the answer past 3 to 5
 --     plan-refused, plan-solved      the whole answer
-use Prim.Native.Nat.{ℕ}
+use Prim.Native.Nat.{ℕ, _+_}
+use mathlib.Core.Bool.{true}
 use mathlib.Core.Path.{_≡_, refl, sym, subst, _∙_, ap, ap₂}
 use mathlib.Core.List.{[], _∷_}
 use Rattle.tasks.specs.declared.Plan.{Plan}
@@ -19,17 +20,17 @@ use Rattle.fields.specs.StageLaws.{not-both, wishes-scan}
 use Rattle.slack.specs.StageLaws.{Framed}
 use Rattle.analysis.specs.SlackTest.{offering}
 use Rattle.analysis.specs.SlackTestLaws.{columns-set, frame-tests, rates-tests, stopped, passed-on}
-use Rattle.wishes.specs.Wish.{largestOffset, test26, sheet11, test27, wishTests}
+use Rattle.wishes.specs.Wish.{largestOffset, sheet5, test26, sheet11, test27, wishTests}
 use Rattle.wishes.specs.PlainWishLaws.{plain-wished, plain-none}
 use Rattle.wish_search.specs.declared.solve.Solved.{Solved}
 use Rattle.wish_search.specs.Solved.{WishRanges, lastTests, FoundIn, RatesSolved, wishTaskTests, TasksSolved, PlanSolved}
 use Rattle.wish_search.specs.SolvedLaws.{wishes-passed}
 
-tests-staged : (c : Content) → wishTests c ≡ orNext (firstMet (test3 c ∷ test4 c ∷ test5 c ∷ [])) (wishTaskTests c)
+tests-staged : (c : Content) → wishTests c ≡ orNext (firstMet (test3 c ∷ test4 c ∷ sheet5 c ∷ [])) (wishTaskTests c)
 unfolding wishTests wishTaskTests
 tests-staged c =
-    firstMet-append (test3 c ∷ test4 c ∷ test5 c ∷ []) (test6 c ∷ test7 c ∷ test26 c ∷ test28 c ∷ test9 c ∷ test10 c ∷ sheet11 c ∷ test27 c ∷ [])
-    ∙ ap (orNext (firstMet (test3 c ∷ test4 c ∷ test5 c ∷ [])))
+    firstMet-append (test3 c ∷ test4 c ∷ sheet5 c ∷ []) (test6 c ∷ test7 c ∷ test26 c ∷ test28 c ∷ test9 c ∷ test10 c ∷ sheet11 c ∷ test27 c ∷ [])
+    ∙ ap (orNext (firstMet (test3 c ∷ test4 c ∷ sheet5 c ∷ [])))
     (firstMet-append (test6 c ∷ test7 c ∷ test26 c ∷ test28 c ∷ []) (test9 c ∷ test10 c ∷ sheet11 c ∷ test27 c ∷ [])
     ∙ ap (orNext (firstMet (test6 c ∷ test7 c ∷ test26 c ∷ test28 c ∷ []))) (firstMet-append (test9 c ∷ test10 c ∷ []) (sheet11 c ∷ test27 c ∷ [])))
 
@@ -63,7 +64,7 @@ module _ (p : Plan) (k : ℕ) where
   unfolding lastTests sheet11 test27 offering
   last-is = refl
 
-  module _ (f : Framed (p .cores) (p .tasks)) (a : Answer) (ea : a ≡ wishesTest (p .edition) (taskOf (p .task)) (p .tasks)) where
+  module _ (f : Framed (p .cores + 1) (p .cores) (p .tasks)) (a : Answer) (ea : a ≡ wishesTest (p .edition) (taskOf (p .task)) (p .tasks)) where
     fielded : a ≡ firstMet (test6 (offering p k) ∷ test7 (offering p k) ∷ test26 (offering p k) ∷ test28 (offering p k) ∷ [])
     unfolding test6 test7 test26 test28 offering contentOf wishesTest
     fielded = ea ∙ wishes-scan p
@@ -98,9 +99,10 @@ module _ (p : Plan) (k : ℕ) where
               ≡ firstMet (sheet11 (offering p k) ∷ test27 (offering p k) ∷ [])
           last = ap (λ (s : TaskSet). lastTests s k) stands ∙ plain-last (contentOf p .tasks) k ∙ last-is
 
-  module _ (a : Answer) (ea : a ≡ frameTest (p .cores) (row (p .labels)) (p .tasks)) where
-    framed : a ≡ firstMet (test3 (offering p k) ∷ test4 (offering p k) ∷ test5 (offering p k) ∷ [])
-    framed = ea ∙ frame-tests p k
+  module _ (a : Answer) (ea : a ≡ frameTest true (p .cores) (row (p .labels)) (p .tasks)) where
+    framed : a ≡ firstMet (test3 (offering p k) ∷ test4 (offering p k) ∷ sheet5 (offering p k) ∷ [])
+    unfolding sheet5 offering contentOf
+    framed = ea ∙ frame-tests p k true
 
     pub plan-refused : (t : Solved) (j i : ℕ) → a ≡ Refused j i → t .answer ≡ a → PlanSolved p k t
     plan-refused t j i e u =

@@ -7,6 +7,7 @@ use Prim.Native.Nat.{ℕ, _*_, _-_, _≤_, _<_}
 use mathlib.Core.Path.{_≡_, refl, _∙_}
 use mathlib.Core.List.{List}
 use native.Mathlib.Omega.{arith}
+use borrow.Author.Tests.{leb-false}
 use Rattle.laws.specs.Sum.{sum}
 use Rattle.laws.specs.SumLaws.{sum-ext}
 use Rattle.laws.specs.Tab.{tab, cut}
@@ -39,7 +40,7 @@ module _ {s : TaskSet} {shares separations budgets rooms : List ℕ} {h m n : �
 
   pub more : m < n
   unfolding atSlack withOffsets
-  more = omega (arith, g .cores, g .tasks, L .more-tasks)
+  more = omega (arith, g .cores, g .tasks, leb-false (s .count) (s .cores) (g .sheet .more-tasks))
 
   pub multiple-high : h ≤ 1000000
   unfolding atSlack withOffsets hyperperiod
@@ -86,6 +87,7 @@ module _ {s : TaskSet} {shares separations budgets rooms : List ℕ} {h m n : �
       at-arrays a ea =
           record {
             limits = g .sheet .limits (row x);
+            more-tasks = leb-false (s .count) (s .cores) (g .sheet .more-tasks);
             cores = g .cores;
             tasks = g .tasks;
             multiple = g .multiple;

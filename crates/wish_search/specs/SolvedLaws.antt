@@ -3,13 +3,13 @@
 --     sheet-of         past 9 and 10 the arrays are those of the sheet
 --     solve-refused, solve-offered, solve-none, solve-found    the answer by what was met
 --     wishes-passed    what 6, 7 and 26 leave
-use Prim.Native.Nat.{ℕ, _≤_, _<_}
+use Prim.Native.Nat.{ℕ, _+_, _≤_, _<_}
 use mathlib.Core.Path.{_≡_, refl, sym, _∙_, ap}
 use mathlib.Core.Bool.{false}
 use mathlib.Core.List.{List}
 use mathlib.Core.Logic.{⊎-elim}
 use native.Mathlib.Omega.{arith}
-use borrow.Author.Tests.{ltb-false, ne-eqb, eq-eqb}
+use borrow.Author.Tests.{ltb-false, lt-leb, ne-eqb, eq-eqb}
 use Rattle.laws.specs.First.{first}
 use Rattle.laws.specs.FirstLaws.{first-le, first-holds, first-none}
 use Rattle.laws.specs.EveryLaws.{below-or-not}
@@ -52,7 +52,7 @@ cut-same f g n i h =
     (λ (l : n ≤ i). cut-above n f 0 i l ∙ sym (cut-above n g 0 i l))
     (below-or-not i n)
 
-module _ (m n : ℕ) (separation budget wish : List ℕ) (f : Framed m n) (g : WishRanges (setFrom m n separation budget wish))
+module _ (m n : ℕ) (separation budget wish : List ℕ) (f : Framed (m + 1) m n) (g : WishRanges (setFrom m n separation budget wish))
     (room : List ℕ) (er : room ≡ tab (cut n (roomRow wish budget) 0) 16)
   where
     s : TaskSet
@@ -102,7 +102,7 @@ module _ (m n : ℕ) (separation budget wish : List ℕ) (f : Framed m n) (g : W
             record {
               cores-low = f .cores-low;
               cores-high = f .cores-high;
-              more-tasks = f .more-tasks;
+              tasks-low = omega (arith, f .tasks-low);
               tasks-high = f .tasks-high;
               separation-low = g .timed .separation-low;
               separation-high = g .separation;
@@ -117,7 +117,7 @@ module _ (m n : ℕ) (separation budget wish : List ℕ) (f : Framed m n) (g : W
         unfolding s setFrom hyperperiod share roomRow
         sheet-of =
             record {
-              sheet = record { limits = limits; wish-low = g .low; wish-high = g .high };
+              sheet = record { limits = limits; more-tasks = lt-leb n m (omega (arith, f .tasks-low)); wish-low = g .low; wish-high = g .high };
               cores = refl;
               tasks = refl;
               multiple = e .figures a .multiple;

@@ -12,6 +12,7 @@ use wish_offsets::first_past;
 use wish_offsets::offsets;
 use wish_offsets::rooms;
 ghost use mathlib.Core.Path.{_≡_};
+ghost use Prim.Native.Nat.{_+_};
 ghost use Rattle.fields.specs.Columns.{setFrom};
 ghost use Rattle.slack.specs.StageLaws.{Framed};
 ghost use Rattle.wish_search.specs.Solved.{WishRanges, RatesSolved, TasksSolved, PlanSolved};
@@ -42,7 +43,7 @@ fn solve(
     tasks: usize,
     offers: usize,
 ) -> Solved
-    requires { ⌜ Framed cores tasks × WishRanges (setFrom cores tasks (now separation) (now budget) (now wish)) ⌝ }
+    requires { ⌜ Framed (cores + 1) cores tasks × WishRanges (setFrom cores tasks (now separation) (now budget) (now wish)) ⌝ }
     ensures { λ r. ⌜ RatesSolved (setFrom cores tasks (now (separation .entry)) (now (budget .entry)) (now (wish .entry))) offers r ⌝ }
 {
     let room = rooms(wish, budget, tasks);
@@ -87,7 +88,7 @@ fn solve(
 
 // Tests 6, 7, 26, 28, 9, 10, 11 and 27.
 fn solve_tasks(plan: Plan, offers: usize) -> Solved
-    requires { ⌜ Framed (plan .cores) (plan .tasks) ⌝ }
+    requires { ⌜ Framed (plan .cores + 1) (plan .cores) (plan .tasks) ⌝ }
     ensures { λ r. ⌜ TasksSolved plan offers r ⌝ }
 {
     let tasks = plan.tasks;
@@ -108,7 +109,7 @@ pub fn solve_plan(plan: Plan, offers: usize) -> Solved
     ensures { λ r. ⌜ PlanSolved plan offers r ⌝ }
 {
     let labels = plan.labels;
-    let framed = frame(plan.cores, &labels, plan.tasks);
+    let framed = frame(plan.cores, &labels, plan.tasks, true);
     let Answer::Accepted = framed else {
         return unsolved(framed);
     };

@@ -6,9 +6,9 @@
 --     wished                   the slack raised from zeros, each time with the largest offsets that it leaves
 --     passes                   whether a slack is above W − C at a task
 --     noSolution               27: whether the wished slack is, at some task
---     test26, sheet11, test27, wishTests    the tests of what a sheet says, in their order
+--     sheet5, test26, sheet11, test27, wishTests    the tests of what a sheet says, in their order
 --     solved                   the content that is found
-use Prim.Native.Nat.{ℕ, suc, _-_, _*_, _≤_, _<_, min}
+use Prim.Native.Nat.{ℕ, suc, _+_, _-_, _*_, _≤_, _<_, min}
 use mathlib.Core.Bool.{Bool, not}
 use mathlib.Core.List.{List, [], _∷_}
 use lib.Dec.{ltb, eqb}
@@ -17,9 +17,9 @@ use Rattle.laws.specs.First.{first}
 use Rattle.laws.specs.Settle.{settle}
 use Rattle.tasks.specs.declared.Task.{Task}
 use Rattle.tasks.specs.declared.Answer.{Answer}
-use Rattle.tasks.specs.TaskSet.{TaskSet, Compliant, raise, ceiling, bound, row}
+use Rattle.tasks.specs.TaskSet.{TaskSet, Compliant, raise, ceiling, boundOf, row}
 use Rattle.tasks.specs.Content.{Content}
-use Rattle.tasks.specs.Tests.{refuse, lowest, firstMet, badWish, test3, test4, test5, test6, test7, test28, test9, test10}
+use Rattle.tasks.specs.Tests.{refuse, lowest, firstMet, badCount, badWish, test3, test4, test6, test7, test28, test9, test10}
 
 abbrev pub room : Task → ℕ
 room t = t .offset - t .budget
@@ -41,7 +41,7 @@ withOffsets s y =
 pub record Solution (s : TaskSet) (y x : ℕ → ℕ) : Type 0 where
   pub offsets : (i : ℕ) → i < s .count → y i ≤ s .task i .separation
   pub compliant : Compliant (withOffsets s y) x
-  pub kept : (i : ℕ) → i < s .count → bound (withOffsets s y) x i ≤ s .task i .offset
+  pub kept : (i : ℕ) → i < s .count → boundOf (withOffset (s .task i) (y i)) (x i) ≤ s .task i .offset
 
 -- the smaller of T and W − C − x
 unfoldable pub largestOffset : Task → ℕ → ℕ
@@ -64,6 +64,10 @@ unfoldable pub noSolution : TaskSet → Bool
 noSolution s = ltb (first (passes s (row (wished s))) (s .count)) (s .count)
 
 module _ (c : Content) where
+  -- "wish sheets keep the old 5": "Loops are fewer than cores + 1 or more than 16."
+  unfoldable pub sheet5 : Answer
+  sheet5 = refuse 5 (badCount (c .tasks .cores + 1) (c .tasks .count))
+
   -- 26, "tested where 8 was"
   unfoldable pub test26 : Answer
   test26 = lowest 26 (λ i. badWish (c .tasks .task i)) (c .tasks .count)
@@ -80,7 +84,7 @@ module _ (c : Content) where
   unfoldable pub wishTests : Answer
   wishTests =
       firstMet
-      (test3 c ∷ test4 c ∷ test5 c ∷ test6 c ∷ test7 c ∷ test26 ∷ test28 c ∷ test9 c ∷ test10 c ∷ sheet11 ∷ test27 ∷ [])
+      (test3 c ∷ test4 c ∷ sheet5 ∷ test6 c ∷ test7 c ∷ test26 ∷ test28 c ∷ test9 c ∷ test10 c ∷ sheet11 ∷ test27 ∷ [])
 
   -- the wished slack and the offsets that it leaves, marked as found. "A wish sheet may be of either edition", and what is found is of the
   -- sheet's.

@@ -21,12 +21,12 @@ use Rattle.laws.specs.Member.{member}
 use Rattle.laws.specs.LargestLaws.{largest-mono}
 use Rattle.laws.specs.SettleLaws.{Settled, settled}
 use Rattle.tasks.specs.declared.Task.{Task}
-use Rattle.tasks.specs.TaskSet.{TaskSet, hyperperiod, share, weight, surplus, counted, amount, cover, Compliant, needed, raise, ceiling, bound, row}
+use Rattle.tasks.specs.TaskSet.{TaskSet, hyperperiod, share, weight, surplus, counted, amount, cover, Compliant, needed, raise, ceiling, boundOf, row}
 use Rattle.tasks.specs.Limits.{Limits}
 use Rattle.tasks.specs.AmountLaws.{counted-few, amount-best, amount-is}
 use Rattle.tasks.specs.SlackLaws.{needed-mono, compliant-needed, needed-compliant}
 use Rattle.tasks.specs.CeilingLaws.{ceiling-compliant}
-use Rattle.wishes.specs.Wish.{room, withOffsets, Solution, largestOffset, atSlack, wished}
+use Rattle.wishes.specs.Wish.{room, withOffset, withOffsets, Solution, largestOffset, atSlack, wished}
 
 module _ (s : TaskSet) where
   -- A by slack and offsets: it does not fall as x + Y rises and Y falls
@@ -134,7 +134,7 @@ module _ (s : TaskSet) (L : Within s) where
 
 -- a solution's offsets are at most the largest that its slack leaves
 pub solution-offset : (s : TaskSet) (y x : ℕ → ℕ) → Solution s y x → (i : ℕ) → i < s .count → y i ≤ largestOffset (s .task i) (x i)
-unfolding largestOffset bound withOffsets
+unfolding largestOffset
 solution-offset s y x h i l = omega (arith, h .offsets i l, h .kept i l)
 
 pub solution-kept : (s : TaskSet) (y x : ℕ → ℕ) → Solution s y x → Kept s x
@@ -145,16 +145,15 @@ solution-kept s y x h k l =
     (h .compliant k l)
 
 pub solution-room : (s : TaskSet) (y x : ℕ → ℕ) → Solution s y x → (i : ℕ) → i < s .count → x i ≤ room (s .task i)
-unfolding bound withOffsets
 solution-room s y x h i l = omega (arith, h .kept i l)
 
 pub kept-solution :
     (s : TaskSet) (x : ℕ → ℕ) → ((i : ℕ) → i < s .count → s .task i .budget ≤ s .task i .offset) → Kept s x
     → ((i : ℕ) → i < s .count → x i ≤ room (s .task i))
     → Solution s (λ i. largestOffset (s .task i) (x i)) x
-unfolding Kept atSlack bound withOffsets largestOffset
+unfolding Kept atSlack largestOffset
 kept-solution s x low c h =
     record { offsets = λ i l. largest-low (s .task i) (x i); compliant = c; kept = λ i l. within i (low i l) (h i l) }
   where
-    within : (i : ℕ) → s .task i .budget ≤ s .task i .offset → x i ≤ room (s .task i) → bound (atSlack s x) x i ≤ s .task i .offset
+    within : (i : ℕ) → s .task i .budget ≤ s .task i .offset → x i ≤ room (s .task i) → boundOf (withOffset (s .task i) (largestOffset (s .task i) (x i))) (x i) ≤ s .task i .offset
     within i l r = omega arith

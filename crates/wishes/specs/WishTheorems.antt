@@ -6,7 +6,7 @@
 --     unsolved-exactly   27 is met exactly if no solution exists
 --     offered-exactly    11 is met exactly if the slack count is not 0
 --     solved-accepted    the plan found meets none of 3 to 13 and 28, its slack being the one found for its offsets
-use Prim.Native.Nat.{ℕ, _*_, _≤_, _<_}
+use Prim.Native.Nat.{ℕ, _+_, _*_, _≤_, _<_}
 use mathlib.Core.Path.{_≡_, refl, sym, _∙_, ap}
 use mathlib.Core.Bool.{Bool, true, false, not}
 use mathlib.Core.List.{[], _∷_}
@@ -14,29 +14,30 @@ use mathlib.Core.Logic.{_↔_, _≢_}
 use native.Mathlib.Nat.{le-antisymm, le-trans}
 use native.Mathlib.Omega.{arith}
 use lib.Dec.{eqb}
-use borrow.Author.Tests.{ltb-true, ltb-false, le-ltb, eq-eqb, ne-eqb}
+use borrow.Author.Tests.{ltb-true, ltb-false, le-ltb, lt-leb, eq-eqb, ne-eqb}
 use Rattle.laws.specs.First.{first}
 use Rattle.laws.specs.FirstLaws.{first-le, first-holds, first-none}
 use Rattle.tasks.specs.declared.Answer.{Answer}
 use Rattle.tasks.specs.declared.Answer.the-variants.{Accepted, Refused}
-use Rattle.tasks.specs.TaskSet.{TaskSet, hyperperiod, share, found, bound, row}
+use Rattle.tasks.specs.TaskSet.{TaskSet, hyperperiod, share, coreForEach, found, bound, row}
 use Rattle.tasks.specs.Content.{Content}
 use Rattle.tasks.specs.Tests.{refuse, orNext, firstMet, numberOf, test3, test4, test5, test6, test7, test8, test28, test9, test10, test11, test12, test13, tests}
-use Rattle.tasks.specs.AnswerLaws.{refuse-passed, refuse-met, pass-lowest, lowest-passed, orNext-passed, firstMet-passed, pass-firstMet, firstMet-append, outside-passed, firstMet-none}
+use Rattle.tasks.specs.AnswerLaws.{refuse-passed, refuse-met, pass-outside, pass-lowest, lowest-passed, orNext-passed, firstMet-passed, pass-firstMet, firstMet-append, outside-passed, firstMet-none}
 use Rattle.tasks.specs.LimitsLaws.{limitTests, slackTests, tests-split, limits-passed}
 use Rattle.tasks.specs.FoundLaws.{found-compliant, found-least}
-use Rattle.wishes.specs.Wish.{room, withOffsets, Solution, largestOffset, atSlack, wished, passes, noSolution, test26, sheet11, test27, wishTests, solved}
+use Rattle.tasks.specs.BoundLaws.{bound-more}
+use Rattle.wishes.specs.Wish.{room, withOffsets, Solution, largestOffset, atSlack, wished, passes, noSolution, sheet5, test26, sheet11, test27, wishTests, solved}
 use Rattle.wishes.specs.WishLaws.{Within, Kept, largest-low, wished-kept, wished-least, solution-offset, solution-kept, solution-room, kept-solution}
 
 unfoldable pub sheetLimits : Content → Answer
 sheetLimits c =
-    firstMet (test3 c ∷ test4 c ∷ test5 c ∷ test6 c ∷ test7 c ∷ test26 c ∷ test28 c ∷ test9 c ∷ test10 c ∷ [])
+    firstMet (test3 c ∷ test4 c ∷ sheet5 c ∷ test6 c ∷ test7 c ∷ test26 c ∷ test28 c ∷ test9 c ∷ test10 c ∷ [])
 
 pub wish-split : (c : Content) → wishTests c ≡ orNext (sheetLimits c) (firstMet (sheet11 c ∷ test27 c ∷ []))
 unfolding wishTests sheetLimits
 wish-split c =
     firstMet-append
-    (test3 c ∷ test4 c ∷ test5 c ∷ test6 c ∷ test7 c ∷ test26 c ∷ test28 c ∷ test9 c ∷ test10 c ∷ [])
+    (test3 c ∷ test4 c ∷ sheet5 c ∷ test6 c ∷ test7 c ∷ test26 c ∷ test28 c ∷ test9 c ∷ test10 c ∷ [])
     (sheet11 c ∷ test27 c ∷ [])
 
 -- the sheet's content with slack x and the largest offsets that it leaves
@@ -45,10 +46,18 @@ contentAt c x = record { edition = c .edition; tasks = atSlack (c .tasks) x; lab
 
 pub record Sheet (s : TaskSet) : Type 0 where
   pub limits : Within s
+  pub more-tasks : coreForEach (s .cores) (s .count) ≡ false
   pub wish-low : (i : ℕ) → i < s .count → s .task i .budget ≤ s .task i .offset
   pub wish-high : (i : ℕ) → i < s .count → s .task i .offset ≤ 16 * s .task i .separation
 
 module _ (c : Content) (a : sheetLimits c ≡ Accepted) where
+  enough-tasks : (c .tasks .cores + 1 ≤ c .tasks .count) × (c .tasks .count ≤ 16)
+  unfolding sheetLimits sheet5
+  enough-tasks =
+      let r3 = firstMet-passed _ _ a in
+      let r4 = firstMet-passed _ _ (r3 .1) in
+      outside-passed _ _ _ (refuse-passed 5 _ (firstMet-passed _ _ (r4 .1) .0))
+
   pub at-limits : (x : ℕ → ℕ) → limitTests (contentAt c x) ≡ Accepted
   unfolding sheetLimits limitTests contentAt test3 test4 test5 test6 test7 test8 test28 test9 test10 hyperperiod share atSlack withOffsets
   at-limits x =
@@ -63,7 +72,7 @@ module _ (c : Content) (a : sheetLimits c ≡ Accepted) where
       let r10 = firstMet-passed _ _ (r9 .1) in
       pass-firstMet _ _ (r3 .0)
       (pass-firstMet _ _ (r4 .0)
-      (pass-firstMet _ _ (r5 .0)
+      (pass-firstMet _ _ five
       (pass-firstMet _ _ (r6 .0)
       (pass-firstMet _ _ (r7 .0)
       (pass-firstMet _ _ eight
@@ -71,6 +80,9 @@ module _ (c : Content) (a : sheetLimits c ≡ Accepted) where
       (pass-firstMet _ _ (r9 .0)
       (pass-firstMet _ [] (r10 .0) firstMet-none))))))))
     where
+      five : test5 (contentAt c x) ≡ Accepted
+      five = rw (pass-outside 1 16 (c .tasks .count) (omega (arith, enough-tasks .0)) (enough-tasks .1))
+
       eight : test8 (contentAt c x) ≡ Accepted
       eight = pass-lowest 8 _ (c .tasks .count) (λ i h. le-ltb _ _ (largest-low (c .tasks .task i) (x i)))
 
@@ -85,6 +97,7 @@ module _ (c : Content) (a : sheetLimits c ≡ Accepted) where
       let r26 = firstMet-passed _ _ (r7 .1) in
       record {
         limits = λ x. limits-passed (contentAt c x) (at-limits x) .0;
+        more-tasks = lt-leb (c .tasks .count) (c .tasks .cores) (omega (arith, enough-tasks .0));
         wish-low = λ i h. outside-passed _ _ _ (lowest-passed 26 _ (c .tasks .count) (r26 .0) i h) .0;
         wish-high = λ i h. outside-passed _ _ _ (lowest-passed 26 _ (c .tasks .count) (r26 .0) i h) .1;
       }
@@ -176,13 +189,13 @@ module _ (c : Content) where
 -- with the offsets found, the found slack is the wished one: with them it is a solution's too
 module _ (s : TaskSet) (S : Sheet s) (e : noSolution s ≡ false) where
   again : Solution s (λ i. largestOffset (s .task i) (row (wished s) i)) (row (found (atSlack s (row (wished s)))))
-  unfolding bound withOffsets atSlack
+  unfolding withOffsets atSlack
   again =
       let b = within-best s S e .solution in
       let L = S .limits (row (wished s)) in
       record {
         offsets = b .offsets;
-        compliant = found-compliant (atSlack s (row (wished s))) L;
+        compliant = found-compliant (atSlack s (row (wished s))) L (S .more-tasks);
         kept =
             λ i l. omega (arith, found-least (atSlack s (row (wished s))) L (row (wished s)) (b .compliant) i l, b .kept i l);
       }
@@ -216,7 +229,10 @@ module _ (c : Content) (a : wishTests c ≡ Accepted) where
   unfolding test13 solved atSlack withOffsets
   thirteen =
       pass-lowest 13 _ (c .tasks .count)
-      (λ i l. le-ltb _ _ (le-trans (within-best (c .tasks) S (parts .1) .solution .kept i l) (S .wish-high i l)))
+      (λ i l.
+      le-ltb (16 * c .tasks .task i .separation) (bound (solved c .tasks) (solved c .slack) i)
+      (rw (bound-more (solved c .tasks) (solved c .slack) (S .more-tasks) i)
+      (le-trans (within-best (c .tasks) S (parts .1) .solution .kept i l) (S .wish-high i l))))
 
   limits : limitTests (solved c) ≡ Accepted
   unfolding solved contentAt

@@ -6,6 +6,7 @@ use Rattle.tasks.specs.declared.Plan.{Plan}
 use Rattle.tasks.specs.declared.Answer.{Answer}
 use Rattle.tasks.specs.declared.Answer.the-variants.{Accepted, Refused}
 use Rattle.tasks.specs.TaskSet.{row}
+use Rattle.tasks.specs.Content.{contentOf}
 use Rattle.tasks.specs.Tests.{firstMet, orNext, test3, test4, test5, test6, test7, test8, test28, test9, test10, test11}
 use Rattle.tasks.specs.AnswerLaws.{orNext-assoc}
 use Rattle.tasks.specs.LimitsLaws.{limitTests}
@@ -31,7 +32,8 @@ regroup a b c d = orNext-assoc a (orNext b c) d ∙ ap (orNext a) (orNext-assoc 
 
 module _ (p : Plan) (k : ℕ) (a : Answer) (ea : a ≡ frameTest false (p .cores) (row (p .labels)) (p .tasks)) where
   framed : a ≡ firstMet (test3 (offering p k) ∷ test4 (offering p k) ∷ test5 (offering p k) ∷ [])
-  framed = ea ∙ frame-tests p k
+  unfolding test5 offering contentOf
+  framed = ea ∙ frame-tests p k false
 
   -- 3 to 12 are 3 to 5, and then 6 to 12
   joined :

@@ -1,4 +1,5 @@
 -- `wish_search::solve::solve_plan` meets its contract.
+use mathlib.Core.Bool.{true}
 use mathlib.Core.Path.{sym, _∙_}
 use borrow.Author.Needs.{needs}
 use Rattle.slack.specs.StageLaws.{frame-passed}
@@ -25,5 +26,5 @@ solve-plan-spec =
     (λ c. search needs)
     (λ c κs. search needs)
     returns
-    (λ c κs. frame-passed _ _ _ (sym (c .before .before .frame .ensures) ∙ c .enum-told .given .1))
+    (λ c κs. frame-passed true _ _ _ (sym (c .before .before .frame .ensures) ∙ c .enum-told .given .1))
     returns-2)
