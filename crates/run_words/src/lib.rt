@@ -1,4 +1,4 @@
-// Fixed words of sentences, those between index and value: what would be right, for 14 to 30, of a log, the engine, lent buffers, wishes,
+// Fixed words of sentences, those between index and value: what would be right, for 14 to 31, of a log, the engine, lent buffers, wishes,
 // deadlines and the way between the editions.
 use decimal::put_words;
 ghost use Prim.Native.Nat.{_+_, _≤_};
@@ -108,9 +108,9 @@ fn put_wish_words(out: &mut [u8], at: usize, number: u32) -> usize
     }
 }
 
-// 28 to 30: a loop's deadline, and offset and deadline on the way from one edition to the other.
+// 28 to 31: a loop's deadline; offset, deadline and the number of loops on the way from one edition to the other.
 fn put_deadline_words(out: &mut [u8], at: usize, number: u32) -> usize
-    requires { ⌜ (28 ≤ number) × (number ≤ 30) × (at + 160 ≤ length (now out)) ⌝ }
+    requires { ⌜ (28 ≤ number) × (number ≤ 31) × (at + 160 ≤ length (now out)) ⌝ }
     ensures { λ r. ⌜ Stored (now (out .entry)) at (wording number .rule) r (now (out .exit)) ⌝ }
 {
     match number {
@@ -124,17 +124,22 @@ fn put_deadline_words(out: &mut [u8], at: usize, number: u32) -> usize
             at,
             b": on the way to edition 2, its offset must be at least 1 tick, not ",
         ),
-        _ => put_words(
+        30 => put_words(
             out,
             at,
             b": on the way to edition 1, its deadline must equal its offset, not ",
         ),
+        _ => put_words(
+            out,
+            at,
+            b" onwards: for a conversion the number of loops must be above the number of cores, not ",
+        ),
     }
 }
 
-// The words of 14 to 30, from `at` on.
+// The words of 14 to 31, from `at` on.
 pub fn put_run_words(out: &mut [u8], at: usize, number: u32) -> usize
-    requires { ⌜ (14 ≤ number) × (number ≤ 30) × (at + 160 ≤ length (now out)) ⌝ }
+    requires { ⌜ (14 ≤ number) × (number ≤ 31) × (at + 160 ≤ length (now out)) ⌝ }
     ensures { λ r. ⌜ Stored (now (out .entry)) at (wording number .rule) r (now (out .exit)) ⌝ }
 {
     match number {

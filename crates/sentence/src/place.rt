@@ -13,7 +13,7 @@ pub fn put_place(out: &mut [u8], at: usize, number: u32) -> usize
     match number {
         1..=2 | 24..=25 => put_words(out, at, b" for byte "),
         3..=4 => put_words(out, at, b" for core "),
-        5..=13 | 18..=19 | 26..=30 => put_words(out, at, b" for loop "),
+        5..=13 | 18..=19 | 26..=31 => put_words(out, at, b" for loop "),
         14..=17 => put_words(out, at, b" for entry "),
         20..=23 => put_words(out, at, b" for release "),
         _ => put_words(out, at, b" for place "),

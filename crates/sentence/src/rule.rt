@@ -14,7 +14,7 @@ pub fn put_rule(out: &mut [u8], at: usize, number: u32) -> usize
 {
     match number {
         1..=13 => put_table_words(out, at, number),
-        14..=30 => put_run_words(out, at, number),
+        14..=31 => put_run_words(out, at, number),
         _ => put_words(
             out,
             at,

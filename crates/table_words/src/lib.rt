@@ -34,7 +34,7 @@ fn put_frame_words(out: &mut [u8], at: usize, number: u32) -> usize
         _ => put_words(
             out,
             at,
-            b" onwards: the number of loops must be above the number of cores and at most 16, not ",
+            b" onwards: the number of loops must be at least 1, on a wish sheet above the number of cores, and at most 16, not ",
         ),
     }
 }
@@ -87,7 +87,7 @@ fn put_slack_words(out: &mut [u8], at: usize, number: u32) -> usize
         12 => put_words(
             out,
             at,
-            b": its slack must be compliant if it is offered and the smallest that is compliant if it is found, not ",
+            b": its slack must be compliant if it is offered and, if it is found, the smallest that is compliant, or 0 where loops are no more than cores, not ",
         ),
         _ => put_words(
             out,

@@ -19,7 +19,7 @@ fn run(script: &[u8]) {
 }
 
 fn main() {
-    let mut script = [0u8; 65536];
+    let mut script = [0u8; 131072];
     let length = io::read_full(STDIN_FILENO, &mut script);
     run(&script[..length]);
 }

@@ -20,21 +20,21 @@ pub record Wording : Type 0 where
 abbrev pub fixed : String → String → Wording
 fixed place rule = record { place = words place; rule = words rule }
 
--- document 01's numbers, and 25 to 30: what the index counts, and what would be right. Where document 01 gives no index, 0 is where the count begins
+-- document 01's numbers, and 25 to 31: what the index counts, and what would be right. Where document 01 gives no index, 0 is where the count begins
 unfoldable pub wordings : List Wording
 wordings =
     fixed " for byte " ": the edition must be 1 or 2, in a conversion the one that the table is not in, not "
     ∷ fixed " for byte " " onwards: the table must have 4 bytes and 1 more for each core, 12 for each loop (16 in edition 2) and 4 for each entry of slack, not "
     ∷ fixed " for core " " onwards: the number of cores must be 2 to 8, not "
     ∷ fixed " for core " ": its label must be 0 to 63 and above the label of the core before, not "
-    ∷ fixed " for loop " " onwards: the number of loops must be above the number of cores and at most 16, not "
+    ∷ fixed " for loop " " onwards: the number of loops must be at least 1, on a wish sheet above the number of cores, and at most 16, not "
     ∷ fixed " for loop " ": its separation must be 1 to 100,000 ticks, not "
     ∷ fixed " for loop " ": its budget must be at least 1 tick and at most its separation, not "
     ∷ fixed " for loop " ": its offset must be at most its separation, not "
     ∷ fixed " for loop " " onwards: the least common multiple of all separations must be 1 to 1,000,000, not "
     ∷ fixed " for loop " " onwards: the shares must add up to at least 1 and at most the number of cores times the least common multiple of all separations, not "
     ∷ fixed " for loop " " onwards: the slack count must be 0 or, where slack may be offered, the number of loops, not "
-    ∷ fixed " for loop " ": its slack must be compliant if it is offered and the smallest that is compliant if it is found, not "
+    ∷ fixed " for loop " ": its slack must be compliant if it is offered and, if it is found, the smallest that is compliant, or 0 where loops are no more than cores, not "
     ∷ fixed " for loop " ": its bound must be at most 16 times its separation, not "
     ∷ fixed " for entry " " onwards: the log must have 2 bytes and 9 more for each entry that it counts, not "
     ∷ fixed " for entry " ": its tick must be at most 1,000,000,000, not "
@@ -53,6 +53,7 @@ wordings =
     ∷ fixed " for loop " ": its deadline must be 1 to 1,600,000 ticks, not "
     ∷ fixed " for loop " ": on the way to edition 2, its offset must be at least 1 tick, not "
     ∷ fixed " for loop " ": on the way to edition 1, its deadline must equal its offset, not "
+    ∷ fixed " for loop " " onwards: for a conversion the number of loops must be above the number of cores, not "
     ∷ []
 
 -- "A number outside the table … gets a sentence with the word `unknown`"
@@ -61,7 +62,7 @@ otherWording = fixed " for place " ": the meaning of this number is unknown here
 
 -- "the table, which 25 and each later number joins"
 abbrev pub lastKnown : ℕ
-lastKnown = 30
+lastKnown = 31
 
 abbrev pub Known : ℕ → Type 0
 Known k = (1 ≤ k) × (k ≤ lastKnown)

@@ -31,14 +31,14 @@ byte k =
     (λ h. places (words " for byte ") 1 2 tt k (h .0) (h .1))
     (λ h. places (words " for byte ") 24 2 tt k (h .0) (h .1))
 
-loop : (k : ℕ) → ((5 ≤ k) × (k < 14)) ⊎ (((18 ≤ k) × (k < 20)) ⊎ ((26 ≤ k) × (k < 31))) → wording k .place ≡ words " for loop "
+loop : (k : ℕ) → ((5 ≤ k) × (k < 14)) ⊎ (((18 ≤ k) × (k < 20)) ⊎ ((26 ≤ k) × (k < 32))) → wording k .place ≡ words " for loop "
 unfolding wording wordings words first sameList
 loop k =
     ⊎-elim
     (λ h. places (words " for loop ") 5 9 tt k (h .0) (h .1))
     (⊎-elim
     (λ h. places (words " for loop ") 18 2 tt k (h .0) (h .1))
-    (λ h. places (words " for loop ") 26 5 tt k (h .0) (h .1)))
+    (λ h. places (words " for loop ") 26 6 tt k (h .0) (h .1)))
 
 other : (k : ℕ) → (Known k → ⊥) → wording k .place ≡ words " for place "
 unfolding wording
