@@ -53,8 +53,8 @@ fn of_table(number: u32, index: u32, value: u64) -> Option<String> {
              before, not {value}."
         ),
         5 => format!(
-            "Refusal 5 for loop {index} onwards: the number of loops must be above the number of \
-             cores and at most 16, not {value}."
+            "Refusal 5 for loop {index} onwards: the number of loops must be at least 1, on a wish \
+             sheet above the number of cores, and at most 16, not {value}."
         ),
         _ => return None,
     };
@@ -88,8 +88,9 @@ fn of_loops(number: u32, index: u32, value: u64) -> Option<String> {
              may be offered, the number of loops, not {value}."
         ),
         12 => format!(
-            "Refusal 12 for loop {index}: its slack must be compliant if it is offered and the \
-             smallest that is compliant if it is found, not {value}."
+            "Refusal 12 for loop {index}: its slack must be compliant if it is offered and, if it \
+             is found, the smallest that is compliant, or 0 where loops are no more than cores, \
+             not {value}."
         ),
         13 => format!(
             "Refusal 13 for loop {index}: its bound must be at most 16 times its separation, not \
@@ -190,7 +191,7 @@ fn of_wish(number: u32, index: u32, value: u64) -> Option<String> {
     Some(sentence)
 }
 
-/// 29 and 30: a loop on the way from one edition to the other.
+/// 29 to 31: loops on the way from one edition to the other.
 fn of_conversion(number: u32, index: u32, value: u64) -> Option<String> {
     let sentence = match number {
         29 => format!(
@@ -200,6 +201,10 @@ fn of_conversion(number: u32, index: u32, value: u64) -> Option<String> {
         30 => format!(
             "Refusal 30 for loop {index}: on the way to edition 1, its deadline must equal its \
              offset, not {value}."
+        ),
+        31 => format!(
+            "Refusal 31 for loop {index} onwards: for a conversion the number of loops must be \
+             above the number of cores, not {value}."
         ),
         _ => return None,
     };
