@@ -2,6 +2,7 @@
 
 use crate::conversions::needed;
 use crate::counts::Counts;
+use crate::few_names::has_few;
 use crate::tables::Answer;
 use reference::{Refusal, Table, Task, convert};
 
@@ -110,6 +111,7 @@ impl ConversionTally {
         count(length == needed, "buffer exactly long enough");
         count(length > needed, "buffer longer");
         count(table.tasks.len() == 16, "16 loops");
+        count(table.tasks.len() == table.labels.len() + 1, "n = m + 1");
         let any = |met: fn(&Task) -> bool| table.tasks.iter().any(met);
         count(any(|task| task.offset == 1), "some offset 1");
         count(any(|task| task.offset == task.separation), "some offset T");
@@ -135,6 +137,9 @@ impl ConversionTally {
         self.count_name(before && failing > 0, &format!("refused {number}, and {way} after it"));
         self.count_name(before && failing == 0, &format!("refused {number}, and not {way}"));
         self.count_name(number != 24 && short, &format!("refused {number}, and 24 after it"));
+        let few = has_few(table.labels.len(), table.tasks.len());
+        self.count_name(few, "few loops");
+        self.count_name(few && number != 31, &format!("refused {number}, and 31 after it"));
         if number == way {
             self.count_name(failing > 1, &format!("refused {way}, at several loops"));
             self.count_name(index > 0, &format!("refused {way}, index above 0"));
