@@ -3,8 +3,8 @@
 //! buffer and around it, of a release or a step the answer and every field that it hands back. A
 //! log run is held to demand 3 as well, and a sentence, a wish and a conversion to what document 02
 //! says of them. Tables with few loops, that is no more than cores, are counted by names of their
-//! own. All but sentences are of either edition, and what must not depend on it is
-//! compared between the two.
+//! own. All but sentences are of either edition, and what must not depend on it is compared between
+//! the two.
 
 #![forbid(unsafe_code)]
 

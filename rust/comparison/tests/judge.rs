@@ -2,9 +2,10 @@
 //! same ones on every run.
 
 use comparison::{EDITIONS_AT_LEAST, TableTally, compare_table};
+use reference::Table;
 use samples::{
     Random, any_tight, damaged_table, faulty_few, faulty_table, few, few_offering, long, mixed,
-    noise_table, offered, one_more, overfull, steep, table_with_bad_deadlines,
+    noise_table, offered, one_more, overfull, steep, table_with_bad_deadlines, with_deadlines,
 };
 
 /// A way to make tables, and how many of them are compared.
@@ -140,6 +141,28 @@ fn many_tables_with_few_loops() {
     }
     // A table of these does not meet 5: a wish sheet does.
     assert_eq!(tally.named("refused 5, few loops"), 0);
+}
+
+/// Up to 9 cores, 17 loops and 18 entries of slack, all 0, in both editions.
+#[test]
+fn every_number_of_cores_loops_and_entries() {
+    let random = &mut Random::new(136);
+    let mut tally = TableTally::default();
+    for (cores, tasks) in (0..=9).flat_map(|cores| (0..=17).map(move |tasks| (cores, tasks))) {
+        for entries in 0..=18 {
+            let first = Table::of(cores, &vec![(16, 1, 16); tasks]);
+            let first = Table { slack: vec![0; entries], ..first };
+            compare_table(random, &first.bytes(), &mut tally);
+            let second = with_deadlines(random, first);
+            compare_table(random, &second.bytes(), &mut tally);
+        }
+    }
+    // Of 0, 1 and 9 cores all; of 2 to 8 cores, those of 0 and 17 loops.
+    assert_eq!(tally.refused(3), 3 * 18 * 19 * 2);
+    assert_eq!(tally.refused(5), 7 * 2 * 19 * 2);
+    // Of n up to m loops those with entries; of more loops, those with entries that are not n.
+    let (few, more) = (2 + 3 + 4 + 5 + 6 + 7 + 8, 14 + 13 + 12 + 11 + 10 + 9 + 8);
+    assert_eq!(tally.refused(11), few * 18 * 2 + more * 17 * 2);
 }
 
 #[test]

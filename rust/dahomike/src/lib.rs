@@ -4,10 +4,12 @@
 //! The first byte of a show table is its edition. A count m and m core labels of a byte follow; a
 //! count n and n tasks, each with separation T, budget C and priority offset Y and, in edition 2,
 //! the deadline D; a count, n or 0, and as many entries of slack. A number has 4 bytes, low byte
-//! first, so a task has 12 bytes in edition 1 and 16 in edition 2. With n at most m, no slack may be
-//! offered: the slack of each task is 0, its bound is C, and no task is counted. What the functions answer and
+//! first, so a task has 12 bytes in edition 1 and 16 in edition 2. What the functions answer and
 //! write depends on neither edition nor deadlines, but that 28 refuses a deadline that is not 1 to
 //! 1,600,000, and that `convert` takes a table from one edition to the other.
+//!
+//! With n at most m no slack may be offered: each task has slack 0 and C as its bound, and none is
+//! counted. Such a table is no wish sheet and is not converted.
 
 pub use records::Refusal;
 
@@ -88,8 +90,8 @@ pub fn counted(table: &[u8], out: &mut [u8]) -> Result<usize, Refusal> {
     decode(answer).map(|tasks| tasks as usize)
 }
 
-/// Finds offsets and slack for a wish sheet: a show table with more tasks than cores, the wished
-/// bound W in the offset's place and slack count 0. Where it has a solution, offset, slack and bound of each of its n tasks
+/// Finds offsets and slack for a wish sheet: a show table with the wished bound W in the offset's
+/// place and slack count 0. Where it has a solution, offset, slack and bound of each of its n tasks
 /// stand in `out` (offset 0, slack 0, bound 0, offset 1 and so on, 4 bytes each, low byte first),
 /// the slack the least and each offset the largest of all solutions, no bound above its wish; later
 /// bytes of `out` stay, and n comes back. Where it is refused, `out` stays as it is.
@@ -146,8 +148,8 @@ pub fn sentence(number: u32, index: u32, value: u64) -> String {
     String::from_utf8(text).expect("a sentence is ASCII")
 }
 
-/// Converts a show table with more tasks than cores to the wanted edition: to 2 with each offset as
-/// deadline, and to 1 where every deadline equals its offset. Where the call is not refused, the converted table stands in
+/// Converts a show table to the wanted edition: to 2 with each offset as deadline, and to 1 where
+/// every deadline equals its offset. Where the call is not refused, the converted table stands in
 /// `out`, later bytes of `out` stay, and its length comes back, which is at most 332. Labels, T, C,
 /// Y and offered slack are as they were, and slack that was to be found still is. Both tables have
 /// the same slack, bounds and late, as `plan` prints them, and the second converted back is the

@@ -41,6 +41,7 @@ pub fn few_convertible(random: &mut Random) -> Table {
     if random.once_in(2) { with_29_or_30(random, table) } else { table }
 }
 
+/// The table with one to three loops changed so that they meet 29 or 30.
 fn with_29_or_30(random: &mut Random, mut table: Table) -> Table {
     let zeros = random.once_in(16);
     let change = if table.edition == 1 || zeros { zero_offset } else { other_deadline };

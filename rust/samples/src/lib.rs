@@ -2,12 +2,13 @@
 //! but the sentences timed on, made from a fixed seed.
 //!
 //! Show tables: valid ones, tight ones, ones with an H near its limit, ones that offer slack around
-//! compliance, ones with no more loops than cores, faulty ones and damaged bytes. Engine states: sound ones, and ones damaged in one
-//! clause of soundness. Release logs: ones that keep their table, ones that do not, and damaged
-//! bytes. Refusals to be told: of known and of unknown numbers, and pairs that differ in little.
+//! compliance, ones with no more loops than cores, faulty ones and damaged bytes. Engine states:
+//! sound ones, and ones damaged in one clause of soundness. Release logs: ones that keep their
+//! table, ones that do not, and damaged bytes. Refusals to be told: of known and of unknown
+//! numbers, and pairs that differ in little.
 //! Wish sheets: ones with room, ones at the edge of having a solution, ones with wishes at the ends
 //! of their range, faulty ones, and the slowest that were found. Tables to be converted: ones that
-//! can be, ones that meet 29 or 30, and faulty ones; with the editions wanted of them. Of tables,
+//! can be, ones that meet 29, 30 or 31, and faulty ones; with the editions wanted of them. Of tables,
 //! and of what is made from them, about half are of edition 1 and half of edition 2; what is timed
 //! is of edition 1, but for tables that are converted to it.
 
