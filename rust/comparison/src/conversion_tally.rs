@@ -54,6 +54,10 @@ impl ConversionTally {
         }
         let table = Table::read(bytes).expect("1 and 2 are passed");
         let needed = needed(&table, wanted);
+        if has_few(table.labels.len(), table.tasks.len()) {
+            self.count_name(true, "few loops");
+            self.count_name(number != 31, &format!("refused {number}, and 31 after it"));
+        }
         match answer {
             Ok(_) => self.count_converted(&table, wanted, needed, length),
             Err(refusal) => self.count_refused(&table, wanted, refusal, needed, length),
@@ -137,9 +141,6 @@ impl ConversionTally {
         self.count_name(before && failing > 0, &format!("refused {number}, and {way} after it"));
         self.count_name(before && failing == 0, &format!("refused {number}, and not {way}"));
         self.count_name(number != 24 && short, &format!("refused {number}, and 24 after it"));
-        let few = has_few(table.labels.len(), table.tasks.len());
-        self.count_name(few, "few loops");
-        self.count_name(few && number != 31, &format!("refused {number}, and 31 after it"));
         if number == way {
             self.count_name(failing > 1, &format!("refused {way}, at several loops"));
             self.count_name(index > 0, &format!("refused {way}, index above 0"));

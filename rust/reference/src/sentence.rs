@@ -9,6 +9,7 @@ use records::Refusal;
 pub fn sentence(number: u32, index: u32, value: u64) -> String {
     of_table(number, index, value)
         .or_else(|| of_loops(number, index, value))
+        .or_else(|| of_slack(number, index, value))
         .or_else(|| of_log(number, index, value))
         .or_else(|| of_engine(number, index, value))
         .or_else(|| of_buffer(number, index, value))
@@ -61,7 +62,7 @@ fn of_table(number: u32, index: u32, value: u64) -> Option<String> {
     Some(sentence)
 }
 
-/// 6 to 13 and 28: the loops, each by itself or all together, and their slack.
+/// 6 to 10 and 28: the loops, each by itself or all together.
 fn of_loops(number: u32, index: u32, value: u64) -> Option<String> {
     let sentence = match number {
         6 => format!(
@@ -83,6 +84,17 @@ fn of_loops(number: u32, index: u32, value: u64) -> Option<String> {
              most the number of cores times the least common multiple of all separations, not \
              {value}."
         ),
+        28 => format!(
+            "Refusal 28 for loop {index}: its deadline must be 1 to 1,600,000 ticks, not {value}."
+        ),
+        _ => return None,
+    };
+    Some(sentence)
+}
+
+/// 11 to 13: the slack, and the bounds that it gives.
+fn of_slack(number: u32, index: u32, value: u64) -> Option<String> {
+    let sentence = match number {
         11 => format!(
             "Refusal 11 for loop {index} onwards: the slack count must be 0 or, where slack \
              may be offered, the number of loops, not {value}."
@@ -95,9 +107,6 @@ fn of_loops(number: u32, index: u32, value: u64) -> Option<String> {
         13 => format!(
             "Refusal 13 for loop {index}: its bound must be at most 16 times its separation, not \
              {value}."
-        ),
-        28 => format!(
-            "Refusal 28 for loop {index}: its deadline must be 1 to 1,600,000 ticks, not {value}."
         ),
         _ => return None,
     };
