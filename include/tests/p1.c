@@ -1,6 +1,7 @@
 /*
  * The header and the static library from C: P1 and P4 judged, P1's and P3's counted loops named, offsets found for P1's loops and their
- * wishes, P11 run, two refusals told, P1 converted to edition 2 and back. .ci/run compiles and runs it where there is a C compiler.
+ * wishes, P11 run, two refusals told, P1 converted to edition 2 and back, and a table with one loop judged, which is not converted.
+ * .ci/run compiles and runs it where there is a C compiler.
  */
 #include "../dahomike.h"
 
@@ -23,6 +24,13 @@ static const uint8_t p3[] = {
     2, 0, 0, 0, 1, 0, 0, 0, 2, 0, 0, 0,
     2, 0, 0, 0, 1, 0, 0, 0, 2, 0, 0, 0,
     3, 0, 0, 0, 3, 0, 0, 0, 0, 0, 0, 0,
+    0,
+};
+
+/* P1's first loop alone. */
+static const uint8_t one_loop[] = {
+    1, 2, 0, 1, 1,
+    10, 0, 0, 0, 9, 0, 0, 0, 10, 0, 0, 0,
     0,
 };
 
@@ -163,6 +171,18 @@ static void convert_p1(void) {
     expect_bytes("P1 back", out, sizeof out, p1, sizeof p1);
 }
 
+static void judge_one_loop(void) {
+    static const uint8_t slack_and_bound[] = {0, 0, 0, 0, 9, 0, 0, 0};
+    uint8_t out[16];
+    memset(out, 0xee, sizeof out);
+    expect_answer("one loop counted", dahomike_counted(one_loop, sizeof one_loop, out, 0), 0);
+    expect_answer("one loop to edition 2", dahomike_convert(one_loop, sizeof one_loop, 2, out, sizeof out), REFUSED(31, 0));
+    expect_answer("one loop wishing", dahomike_wish(one_loop, sizeof one_loop, out, sizeof out), REFUSED(5, 0));
+    expect_bytes("one loop, refused", out, sizeof out, out, 0);
+    expect_answer("one loop", dahomike_judge(one_loop, sizeof one_loop, out, sizeof out), 1);
+    expect_bytes("one loop", out, sizeof out, slack_and_bound, sizeof slack_and_bound);
+}
+
 int main(void) {
     judge_p1();
     name_counted();
@@ -170,6 +190,7 @@ int main(void) {
     run_p11();
     tell_refusals();
     convert_p1();
+    judge_one_loop();
     if (failures == 0) {
         puts("the C functions from C: ok");
     }

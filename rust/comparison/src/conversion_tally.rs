@@ -2,6 +2,7 @@
 
 use crate::conversions::needed;
 use crate::counts::Counts;
+use crate::few_names::has_few;
 use crate::tables::Answer;
 use reference::{Refusal, Table, Task, convert};
 
@@ -53,6 +54,10 @@ impl ConversionTally {
         }
         let table = Table::read(bytes).expect("1 and 2 are passed");
         let needed = needed(&table, wanted);
+        if has_few(table.labels.len(), table.tasks.len()) {
+            self.count_name(true, "few loops");
+            self.count_name(number != 31, &format!("refused {number}, and 31 after it"));
+        }
         match answer {
             Ok(_) => self.count_converted(&table, wanted, needed, length),
             Err(refusal) => self.count_refused(&table, wanted, refusal, needed, length),
@@ -110,6 +115,7 @@ impl ConversionTally {
         count(length == needed, "buffer exactly long enough");
         count(length > needed, "buffer longer");
         count(table.tasks.len() == 16, "16 loops");
+        count(table.tasks.len() == table.labels.len() + 1, "n = m + 1");
         let any = |met: fn(&Task) -> bool| table.tasks.iter().any(met);
         count(any(|task| task.offset == 1), "some offset 1");
         count(any(|task| task.offset == task.separation), "some offset T");

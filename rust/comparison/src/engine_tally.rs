@@ -1,6 +1,7 @@
 //! What the compared releases and steps met, so that a run can show that it was not empty.
 
 use crate::counts::Counts;
+use crate::few_names::has_few;
 use reference::{
     Clause, IDLE, LAST_TICK, MOST_JOBS, Refusal, State, Stepped, broken, known, points,
 };
@@ -118,6 +119,9 @@ impl EngineTally {
         self.named.count_if(finished > 0, "stepped, a job finishes");
         self.named.count_if(finished > 1, "stepped, several jobs finish");
         self.named.count_if(stepped.state.clock == LAST_TICK, "stepped to the clock's end");
+        let few = has_few(state.cores, state.tasks.count);
+        self.named.count_if(few, "few tasks, stepped");
+        self.named.count_if(few && running == points.len(), "few tasks, stepped, each job runs");
     }
 
     pub(crate) fn count_steps(&mut self, state: &State, more: usize, last: &Stepped) {
@@ -132,16 +136,44 @@ impl EngineTally {
         let taken = answer.is_ok();
         self.named.count_if(taken && state.edition == 1, "taken or stepped, edition 1");
         self.named.count_if(taken && state.edition == 2, "taken or stepped, edition 2");
+        self.named.count_if(has_few(state.cores, state.tasks.count), "few tasks");
+        if taken && let Some(name) = few_name(state) {
+            self.named.count(name);
+        }
         if let Err(Refusal { number, .. }) = answer {
             self.refused.count(number);
             if number == 18 {
                 self.unsound.count(broken(state));
-                if let Some(name) = edition_name(state) {
+                for name in [edition_name(state), mark_name(state)].into_iter().flatten() {
                     self.named.count(name);
                 }
             }
         }
     }
+}
+
+fn few_name(state: &State) -> Option<&'static str> {
+    match (state.tasks.count, state.cores) {
+        (1, _) => Some("taken or stepped, few tasks, n = 1"),
+        (tasks, cores) if tasks < cores => Some("taken or stepped, few tasks, 1 < n < m"),
+        (tasks, cores) if tasks == cores => Some("taken or stepped, few tasks, n = m"),
+        _ => None,
+    }
+}
+
+/// What is wrong with the mark or the slack of a state with few tasks, where nothing else is.
+fn mark_name(state: &State) -> Option<&'static str> {
+    let mut mended = state.clone();
+    (mended.offered, mended.slack) = (false, [0; 16]);
+    let zeros = mended.slack == state.slack;
+    if !has_few(state.cores, state.tasks.count) || !broken(&mended).is_empty() {
+        return None;
+    }
+    Some(match (state.offered, zeros) {
+        (true, true) => "few tasks, refused 18, marked as offered, zeros",
+        (true, false) => "few tasks, refused 18, marked as offered, some slack not 0",
+        (false, _) => "few tasks, refused 18, some slack not 0",
+    })
 }
 
 /// What is wrong with the edition or the deadlines of a state, where nothing else is.

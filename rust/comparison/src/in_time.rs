@@ -30,10 +30,13 @@ pub fn check(plan: &Plan, log: &Log, outcomes: &[Outcome]) -> bool {
         assert_eq!(taken, expected, "taken by the four conditions: {entry:?} of {log:?}");
         if let Outcome::Finished(finish) = outcome {
             last[usize::from(entry.task)] = Some(entry.tick);
-            let bound = plan.bound(usize::from(entry.task));
+            let most = most_ticks(plan, usize::from(entry.task));
             let took = u128::from(*finish) - u128::from(entry.tick);
-            assert!(took <= bound, "took {took} of {bound} ticks: {entry:?} of {log:?}");
-            assert!(took >= u128::from(entry.demand), "too early: {entry:?} of {log:?}");
+            assert!(took <= most, "took {took} of {most} ticks: {entry:?} of {log:?}");
+            let demand = u128::from(entry.demand);
+            assert!(took >= demand, "too early: {entry:?} of {log:?}");
+            // Each loop with work runs at every step, and has none left when it is released again.
+            assert!(took == demand || !plan.is_few(), "waits: {entry:?} of {log:?}");
         }
         all_in_time &= taken;
         largest = largest.max(entry.tick);
@@ -41,6 +44,12 @@ pub fn check(plan: &Plan, log: &Log, outcomes: &[Outcome]) -> bool {
     let keeps = keeps_table(plan, log);
     assert_eq!(all_in_time, keeps, "all taken and in time if the log keeps the table: {log:?}");
     keeps
+}
+
+/// Within how many ticks a taken entry of a loop finishes: its bound or, where loops are no more
+/// than cores, "the budget alone".
+fn most_ticks(plan: &Plan, task: usize) -> u128 {
+    if plan.is_few() { u128::from(plan.tasks[task].budget) } else { plan.bound(task) }
 }
 
 /// No earlier entry has a larger tick, the loop is in the table, its last taken release is at least

@@ -2,8 +2,9 @@
 //! judgement, a log run, a sentence, a wish and a conversion the answer and every byte of the lent
 //! buffer and around it, of a release or a step the answer and every field that it hands back. A
 //! log run is held to demand 3 as well, and a sentence, a wish and a conversion to what document 02
-//! says of them. All but sentences are of either edition, and what must not depend on it is
-//! compared between the two.
+//! says of them. Tables with few loops, that is no more than cores, are counted by names of their
+//! own. All but sentences are of either edition, and what must not depend on it is compared between
+//! the two.
 
 #![forbid(unsafe_code)]
 
@@ -13,6 +14,7 @@ mod counts;
 mod edition_names;
 mod engine;
 mod engine_tally;
+mod few_names;
 mod in_time;
 mod lent;
 mod log_families;
@@ -32,7 +34,7 @@ pub use conversions::{compare_conversion, compare_conversion_at};
 pub use edition_names::EDITIONS_AT_LEAST;
 pub use engine::{compare_release, compare_step, compare_steps};
 pub use engine_tally::EngineTally;
-pub use log_families::{FAR, Family, NEAR, compare_logs};
+pub use log_families::{FAR, FEW_FAR, FEW_NEAR, Family, NEAR, compare_logs};
 pub use log_tally::LogTally;
 pub use logs::{LogAnswer, LogForm, Logs};
 pub use sentence_tally::SentenceTally;

@@ -3,8 +3,8 @@
 use crate::{LogForm, LogTally, Logs};
 use reference::Table;
 use samples::{
-    LogKind, Random, any_accepted, damaged_log, damaged_table, faulty_table, log, noise_log,
-    short_accepted,
+    LogKind, Random, any_accepted, damaged_log, damaged_table, faulty_table, few_accepted,
+    few_short, log, noise_log, short_accepted,
 };
 
 /// Parts that are run side by side, each with numbers of its own.
@@ -34,6 +34,20 @@ pub const FAR: [Family; 4] = [
     Family { tables: 500, logs: 10, table: accepted_short, log: far },
     Family { tables: 500, logs: 5, table: accepted_any, log: far_damaged },
     Family { tables: 500, logs: 10, table: accepted_any, log: |random, _| noise_log(random) },
+];
+
+/// Near logs on tables with few loops.
+pub const FEW_NEAR: [Family; 3] = [
+    Family { tables: 50, logs: 4, table: accepted_few, log: near },
+    Family { tables: 1_500, logs: 10, table: short_few, log: near },
+    Family { tables: 300, logs: 5, table: short_few, log: near_damaged },
+];
+
+/// Far logs on tables with few loops.
+pub const FEW_FAR: [Family; 3] = [
+    Family { tables: 500, logs: 10, table: accepted_few, log: far },
+    Family { tables: 100, logs: 10, table: accepted_few, log: far_damaged },
+    Family { tables: 100, logs: 10, table: short_few, log: |random, _| noise_log(random) },
 ];
 
 /// Compares the forms on one in `fewer` of the tables of each family.
@@ -72,6 +86,16 @@ fn accepted_short(random: &mut Random) -> (Vec<u8>, Table) {
 
 fn accepted_any(random: &mut Random) -> (Vec<u8>, Table) {
     let table = any_accepted(random);
+    (table.bytes(), table)
+}
+
+fn accepted_few(random: &mut Random) -> (Vec<u8>, Table) {
+    let table = few_accepted(random);
+    (table.bytes(), table)
+}
+
+fn short_few(random: &mut Random) -> (Vec<u8>, Table) {
+    let table = few_short(random);
     (table.bytes(), table)
 }
 

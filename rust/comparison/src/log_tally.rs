@@ -84,6 +84,9 @@ impl LogTally {
         self.named.count_if(plan.edition == 1, "run, edition 1");
         self.named.count_if(plan.edition == 2, "run, edition 2");
         self.named.count_if(entries.is_empty(), "run, log empty");
+        if plan.is_few() {
+            self.count_few(plan, keeps);
+        }
         let largest = entries.iter().map(|entry| entry.tick).max();
         self.named.count_if(largest == Some(1_000_000_000), "run, largest tick 1,000,000,000");
         self.named.count_if(largest >= Some(5_000), "run, largest tick from 5,000");
@@ -106,8 +109,19 @@ impl LogTally {
         }
     }
 
+    fn count_few(&mut self, plan: &Plan, keeps: bool) {
+        let (cores, tasks) = (plan.labels.len(), plan.tasks.len());
+        self.named.count("few loops, run");
+        self.named.count_if(tasks == 1, "few loops, run, n = 1");
+        self.named.count_if(1 < tasks && tasks < cores, "few loops, run, 1 < n < m");
+        self.named.count_if(tasks == cores, "few loops, run, n = m");
+        self.named.count_if(keeps, "few loops, run, log keeps the table");
+        self.named.count_if(!keeps, "few loops, run, log does not keep the table");
+    }
+
     fn count_refused_entry(&mut self, plan: &Plan, past: &[Past], entry: &Entry, number: u32) {
         self.entries.count(number);
+        self.named.count_if(plan.is_few(), "few loops, entry refused");
         let task = usize::from(entry.task);
         match number {
             20 => self.named.count_if(task == plan.tasks.len(), "refused 20, first loop outside"),
@@ -138,6 +152,11 @@ impl LogTally {
         let took = u128::from(finish) - u128::from(entry.tick);
         self.named
             .count_if(took > u128::from(entry.demand), "taken, waits for a core or its own loop");
+        let few = plan.is_few();
+        self.named.count_if(few, "few loops, taken");
+        let at_once = took == u128::from(entry.demand);
+        self.named.count_if(few && at_once, "few loops, taken, finishes after its demand");
+        self.named.count_if(few && took == plan.bound(place), "few loops, taken, takes its bound");
         let near = took + 2 >= plan.bound(place);
         self.named.count_if(near, "taken, finishes within 2 ticks of its bound");
         past.last = Some(entry.tick);

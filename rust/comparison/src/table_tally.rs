@@ -2,6 +2,7 @@
 
 use crate::counts::Counts;
 use crate::edition_names::edition_names;
+use crate::few_names::few_names;
 use crate::tables::Answer;
 use reference::{Analysis, Refusal, Table, judge};
 
@@ -43,6 +44,7 @@ impl TableTally {
             self.refused.count(number);
         }
         edition_names(bytes, answer).into_iter().for_each(|name| self.named.count(name));
+        few_names(bytes, answer).into_iter().for_each(|name| self.named.count(name));
         if matches!(answer, Err(Refusal { number: 1..=8 | 28, .. })) {
             return;
         }
@@ -76,6 +78,11 @@ impl TableTally {
         self.named.count_if(buffer.len() == count, "named, buffer exactly long enough");
         self.named.count_if(buffer.len() > count, "named, buffer longer");
         let plan = judge(bytes).expect("the table is accepted");
+        if plan.is_few() {
+            self.named.count("few loops, none named");
+            self.named.count_if(buffer.is_empty(), "few loops, none named, buffer empty");
+            return;
+        }
         let analysis = Analysis::new(plan.labels.len(), &plan.tasks).expect("9 is passed");
         let slack: Vec<u128> = plan.slack.iter().map(|&x| u128::from(x)).collect();
         let names: Vec<usize> = buffer[..count].iter().map(|&k| usize::from(k)).collect();

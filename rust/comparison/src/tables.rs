@@ -3,7 +3,7 @@
 
 use crate::TableTally;
 use crate::lent::{Held, Lent, same_bytes};
-use reference::{Refusal, Table};
+use reference::{Refusal, Table, is_few};
 use samples::Random;
 
 /// How many tasks were judged or named, or the refusal.
@@ -44,7 +44,8 @@ pub fn compare_table(random: &mut Random, table: &[u8], tally: &mut TableTally) 
         sections.map_or((2, 3), |table| (table.labels.len().max(1), table.tasks.len()));
     let (answer, mut lent) = compare(random, table, 8 * tasks.min(16), &JUDGE);
     tally.count(table, answer, lent.buffer());
-    let (answer, mut lent) = compare(random, table, cores.min(8) - 1, &COUNTED);
+    let names = if is_few(cores, tasks) { 0 } else { cores.min(8) - 1 };
+    let (answer, mut lent) = compare(random, table, names, &COUNTED);
     tally.count_names(table, answer, lent.buffer());
 }
 

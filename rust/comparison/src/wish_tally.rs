@@ -2,6 +2,7 @@
 
 use crate::counts::Counts;
 use crate::edition_names::edition_names;
+use crate::few_names::few_names;
 use crate::tables::Answer;
 use crate::wishes::numbers;
 use reference::{Analysis, Refusal, Table, Task};
@@ -50,6 +51,7 @@ impl WishTally {
             self.refused.count(number);
         }
         edition_names(bytes, answer).into_iter().for_each(|name| self.named.count(name));
+        few_names(bytes, answer).into_iter().for_each(|name| self.named.count(name));
         if matches!(answer, Err(Refusal { number: 1..=6, .. })) {
             return;
         }

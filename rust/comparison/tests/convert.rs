@@ -4,8 +4,9 @@
 use comparison::{ConversionTally, compare_conversion, compare_conversion_at};
 use reference::Table;
 use samples::{
-    Random, any_tight, convertible, damaged_table, faulty_convertible, faulty_table, inconvertible,
-    long, mixed, noise_table, offered, overfull, steep, table_with_bad_deadlines, wanted_edition,
+    Random, any_tight, convertible, damaged_table, faulty_convertible, faulty_few, faulty_table,
+    few_convertible, few_offering, inconvertible, long, mixed, noise_table, offered, overfull,
+    steep, table_with_bad_deadlines, wanted_edition,
 };
 
 /// A way to make tables, and how many of them are converted.
@@ -20,6 +21,28 @@ const FAMILIES: [Family; 8] = [
     (10_000, |random| table_with_bad_deadlines(random).bytes()),
     (30_000, any_damaged),
     (10_000, noise_table),
+];
+
+/// Few loops, that is no more than cores, and one more beside them.
+const FEW_FAMILIES: [Family; 3] = [
+    (30_000, |random| few_convertible(random).bytes()),
+    (5_000, |random| few_offering(random).bytes()),
+    (10_000, |random| faulty_few(random).bytes()),
+];
+
+/// How often each of these is met, at least, by the tables of these families.
+const FEW_AT_LEAST: [(u64, &str); 11] = [
+    (20_000, "few loops"),
+    (3_000, "refused 31, and 29 after it"),
+    (3_000, "refused 31, and not 29"),
+    (3_000, "refused 31, and 30 after it"),
+    (3_000, "refused 31, and not 30"),
+    (3_000, "refused 31, and 24 after it"),
+    (700, "refused 9, and 31 after it"),
+    (3_000, "refused 11, and 31 after it"),
+    (300, "refused 28, and 31 after it"),
+    (1_000, "to edition 1, n = m + 1"),
+    (1_000, "to edition 2, n = m + 1"),
 ];
 
 /// How often each refusal number is met, at least.
@@ -104,19 +127,34 @@ fn any_damaged(random: &mut Random) -> Vec<u8> {
     damaged_table(random, table.bytes())
 }
 
-#[test]
-fn many_conversions() {
+/// Compares conversions of the tables of all these families, the first of them made from this seed.
+fn compare_all(first_seed: u64, families: &[Family]) -> ConversionTally {
     let mut tally = ConversionTally::default();
-    for (seed, (tables, make)) in (111..).zip(FAMILIES) {
+    for (seed, (tables, make)) in (first_seed..).zip(families) {
         let random = &mut Random::new(seed);
-        for _ in 0..tables {
+        for _ in 0..*tables {
             let table = make(random);
             let wanted = wanted_edition(random, &table);
             compare_conversion(random, &table, wanted, &mut tally);
         }
     }
     tally.print();
-    check(&tally);
+    tally
+}
+
+#[test]
+fn many_conversions() {
+    check(&compare_all(111, &FAMILIES));
+}
+
+#[test]
+fn many_conversions_with_few_loops() {
+    let tally = compare_all(141, &FEW_FAMILIES);
+    let met = tally.refused(31);
+    assert!(met >= 10_000, "refused 31: {met} calls");
+    for (least, name) in FEW_AT_LEAST {
+        check_named(&tally, least, name);
+    }
 }
 
 /// Holds a tally to how often each number and each edge is to be met.

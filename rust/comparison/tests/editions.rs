@@ -6,20 +6,20 @@ use comparison::{TwinTally, Twins};
 use reference::Table;
 use samples::{
     LogKind, Random, any_accepted, any_sheet, any_tight, damaged_log, end_sheet, faulty_sheet,
-    faulty_table, log, long, mixed, offered, offering_sheet, overfull, roomy_sheet, short_accepted,
-    steep, tight_sheet,
+    faulty_table, few, few_accepted, log, long, mixed, offered, offering_sheet, overfull,
+    roomy_sheet, short_accepted, steep, tight_sheet,
 };
 
 type Maker = fn(&mut Random) -> Table;
 
 /// What twins are made from, and how many of each kind.
-const TABLES: [Maker; 7] = [mixed, long, steep, any_tight, overfull, offered, faulty_table];
+const TABLES: [Maker; 8] = [mixed, long, steep, any_tight, overfull, offered, faulty_table, few];
 const SHEETS: [Maker; 6] =
     [roomy_sheet, any_sheet, tight_sheet, end_sheet, offering_sheet, faulty_sheet];
 const TWINS: u64 = 15_000;
 
 /// What logs are run on, how many of each kind, and how many logs on each.
-const LOG_TABLES: [Maker; 3] = [any_accepted, short_accepted, faulty_table];
+const LOG_TABLES: [Maker; 4] = [any_accepted, short_accepted, faulty_table, few_accepted];
 const LOG_TWINS: u64 = 2_000;
 const LOGS: u64 = 8;
 

@@ -3,7 +3,7 @@
 
 use comparison::{EngineTally, compare_release, compare_step, compare_steps};
 use reference::{Clause, Plan, State, open};
-use samples::{Random, accepted_plan, busy, damaged_state, sound, tied};
+use samples::{Random, accepted_plan, busy, damaged_state, few_plan, sound, tied};
 
 /// How many plans, sound states of each, runs from an opening, and calls of each run.
 const PLANS: u64 = 8_000;
@@ -60,6 +60,24 @@ const AT_LEAST: [(u64, &str); 39] = [
     (100, "several steps, the first refused"),
 ];
 
+/// The same of plans with few tasks, that is no more than cores.
+const FEW_PLANS: u64 = 2_000;
+const FEW_RUNS: u64 = 100;
+
+/// How often each of these is met, at least, by the states of these plans.
+const FEW_AT_LEAST: [(u64, &str); 10] = [
+    (80_000, "few tasks"),
+    (20_000, "few tasks, stepped"),
+    (8_000, "taken or stepped, few tasks, n = 1"),
+    (6_000, "taken or stepped, few tasks, 1 < n < m"),
+    (8_000, "taken or stepped, few tasks, n = m"),
+    (5_000, "taken"),
+    (2_000, "stepped, every core runs"),
+    (1_000, "few tasks, refused 18, marked as offered, zeros"),
+    (1_000, "few tasks, refused 18, marked as offered, some slack not 0"),
+    (1_000, "few tasks, refused 18, some slack not 0"),
+];
+
 /// A release to try: of a task of the table mostly, with a demand around 1 to C.
 fn any_release(random: &mut Random, state: &State) -> (usize, u32) {
     let task = match random.index(12) {
@@ -103,29 +121,47 @@ fn run(random: &mut Random, plan: &Plan, tally: &mut EngineTally) {
     }
 }
 
-#[test]
-fn many_states() {
-    let mut random = Random::new(3);
+/// Calls on states of so many plans of this making, and so many runs.
+fn compare_states(seed: u64, make: fn(&mut Random) -> Plan, plans: u64, runs: u64) -> EngineTally {
+    let mut random = Random::new(seed);
     let mut tally = EngineTally::default();
-    for _ in 0..PLANS {
-        let plan = accepted_plan(&mut random);
+    for _ in 0..plans {
+        let plan = make(&mut random);
         for _ in 0..STATES {
             let state = sound(&mut random, &plan);
             both_calls(&mut random, &state, &mut tally);
             let state = damaged_state(&mut random, state);
             both_calls(&mut random, &state, &mut tally);
         }
-        for make in [tied, busy] {
-            let state = make(&mut random, &plan);
+        for make_state in [tied, busy] {
+            let state = make_state(&mut random, &plan);
             both_calls(&mut random, &state, &mut tally);
         }
     }
-    for _ in 0..RUNS {
-        let plan = accepted_plan(&mut random);
+    for _ in 0..runs {
+        let plan = make(&mut random);
         run(&mut random, &plan, &mut tally);
     }
     tally.print();
-    check(&tally);
+    tally
+}
+
+#[test]
+fn many_states() {
+    check(&compare_states(3, accepted_plan, PLANS, RUNS));
+}
+
+#[test]
+fn many_states_with_few_tasks() {
+    let tally = compare_states(4, few_plan, FEW_PLANS, FEW_RUNS);
+    for (least, name) in FEW_AT_LEAST {
+        let met = tally.named(name);
+        assert!(met >= least, "{name}: {met} calls");
+    }
+    // "the engine as it stands runs each loop with work at every step".
+    let stepped = tally.named("few tasks, stepped");
+    assert_eq!(tally.named("few tasks, stepped, each job runs"), stepped);
+    assert_eq!(tally.named("stepped, some tasks wait"), 0);
 }
 
 fn check(tally: &EngineTally) {

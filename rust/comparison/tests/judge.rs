@@ -2,9 +2,10 @@
 //! same ones on every run.
 
 use comparison::{EDITIONS_AT_LEAST, TableTally, compare_table};
+use reference::Table;
 use samples::{
-    Random, any_tight, damaged_table, faulty_table, long, mixed, noise_table, offered, overfull,
-    steep, table_with_bad_deadlines,
+    Random, any_tight, damaged_table, faulty_few, faulty_table, few, few_offering, long, mixed,
+    noise_table, offered, one_more, overfull, steep, table_with_bad_deadlines, with_deadlines,
 };
 
 /// A way to make tables, and how many of them are compared.
@@ -21,6 +22,37 @@ const FAMILIES: [Family; 10] = [
     (30_000, |random| table_with_bad_deadlines(random).bytes()),
     (80_000, any_damaged),
     (20_000, noise_table),
+];
+
+/// Few loops, that is no more than cores, and one more beside them.
+const FEW_FAMILIES: [Family; 5] = [
+    (40_000, |random| few(random).bytes()),
+    (15_000, |random| few_offering(random).bytes()),
+    (10_000, |random| one_more(random).bytes()),
+    (15_000, |random| faulty_few(random).bytes()),
+    (10_000, |random| {
+        let table = few(random);
+        damaged_table(random, table.bytes())
+    }),
+];
+
+/// How often each of these is met, at least, by the tables of these families.
+const FEW_AT_LEAST: [(u64, &str); 15] = [
+    (60_000, "few loops"),
+    (8_000, "few loops, accepted, n = 1"),
+    (5_000, "few loops, accepted, 1 < n < m"),
+    (8_000, "few loops, accepted, n = m"),
+    (4_000, "accepted, n = m + 1"),
+    (300, "refused 5, no loops"),
+    (600, "refused 5, more than 16 loops"),
+    (3_000, "few loops, refused 11, n zeros"),
+    (3_000, "few loops, refused 11, n entries, not all 0"),
+    (5_000, "few loops, refused 11, another count"),
+    (1_000, "few loops, refused 9, no slack offered"),
+    (500, "few loops, refused 9, and 11 after it"),
+    (5_000, "few loops, refused 24"),
+    (30_000, "few loops, none named"),
+    (15_000, "few loops, none named, buffer empty"),
 ];
 
 /// How often each refusal number is met, at least.
@@ -68,17 +100,23 @@ fn any_damaged(random: &mut Random) -> Vec<u8> {
     damaged_table(random, table.bytes())
 }
 
-#[test]
-fn many_tables() {
+/// Compares the tables of all these families, the first of them made from this seed.
+fn compare_all(first_seed: u64, families: &[Family]) -> TableTally {
     let mut tally = TableTally::default();
-    for (seed, (tables, make)) in (1..).zip(FAMILIES) {
+    for (seed, (tables, make)) in (first_seed..).zip(families) {
         let mut random = Random::new(seed);
-        for _ in 0..tables {
+        for _ in 0..*tables {
             let table = make(&mut random);
             compare_table(&mut random, &table, &mut tally);
         }
     }
     tally.print();
+    tally
+}
+
+#[test]
+fn many_tables() {
+    let tally = compare_all(1, &FAMILIES);
     assert!(tally.tables() >= 300_000);
     for number in (1..=13).chain([28, 24]) {
         let met = tally.refused(number);
@@ -88,6 +126,43 @@ fn many_tables() {
         let met = tally.named(name);
         assert!(met >= least, "{name}: {met} tables");
     }
+}
+
+#[test]
+fn many_tables_with_few_loops() {
+    let tally = compare_all(131, &FEW_FAMILIES);
+    for number in (1..=9).chain([11, 28, 24]) {
+        let met = tally.refused(number);
+        assert!(met >= 500, "refused {number}: {met} tables");
+    }
+    for (least, name) in FEW_AT_LEAST {
+        let met = tally.named(name);
+        assert!(met >= least, "{name}: {met} tables");
+    }
+    // A table of these does not meet 5: a wish sheet does.
+    assert_eq!(tally.named("refused 5, few loops"), 0);
+}
+
+/// Up to 9 cores, 17 loops and 18 entries of slack, all 0, in both editions.
+#[test]
+fn every_number_of_cores_loops_and_entries() {
+    let random = &mut Random::new(136);
+    let mut tally = TableTally::default();
+    for (cores, tasks) in (0..=9).flat_map(|cores| (0..=17).map(move |tasks| (cores, tasks))) {
+        for entries in 0..=18 {
+            let first = Table::of(cores, &vec![(16, 1, 16); tasks]);
+            let first = Table { slack: vec![0; entries], ..first };
+            compare_table(random, &first.bytes(), &mut tally);
+            let second = with_deadlines(random, first);
+            compare_table(random, &second.bytes(), &mut tally);
+        }
+    }
+    // Of 0, 1 and 9 cores all; of 2 to 8 cores, those of 0 and 17 loops.
+    assert_eq!(tally.refused(3), 3 * 18 * 19 * 2);
+    assert_eq!(tally.refused(5), 7 * 2 * 19 * 2);
+    // Of n up to m loops those with entries; of more loops, those with entries that are not n.
+    let (few, more) = (2 + 3 + 4 + 5 + 6 + 7 + 8, 14 + 13 + 12 + 11 + 10 + 9 + 8);
+    assert_eq!(tally.refused(11), few * 18 * 2 + more * 17 * 2);
 }
 
 #[test]

@@ -1,7 +1,7 @@
 //! The proved log run against the reference, tick by tick, on hundreds of thousands of logs, and
 //! against the fast form on logs with ticks up to 1,000,000,000; the same ones on every run.
 
-use comparison::{FAR, LogForm, LogTally, Logs, NEAR, compare_logs};
+use comparison::{FAR, FEW_FAR, FEW_NEAR, LogForm, LogTally, Logs, NEAR, compare_logs};
 use reference::{Entry, Log, Table};
 use samples::Random;
 
@@ -40,6 +40,18 @@ const AT_LEAST: [(u64, u64, &str); 29] = [
     (10_000, 1_000, "taken, finishes within 2 ticks of its bound"),
     (0, 50_000, "taken, after 100,000 idle ticks"),
     (0, 500, "taken, demand above 65,535"),
+];
+
+/// The same on tables with few loops, that is no more than cores.
+const FEW_AT_LEAST: [(u64, u64, &str); 8] = [
+    (20_000, 7_000, "few loops, run"),
+    (6_000, 2_000, "few loops, run, n = 1"),
+    (4_000, 1_500, "few loops, run, 1 < n < m"),
+    (6_000, 2_000, "few loops, run, n = m"),
+    (10_000, 3_000, "few loops, run, log keeps the table"),
+    (6_000, 2_500, "few loops, run, log does not keep the table"),
+    (300_000, 80_000, "few loops, taken, takes its bound"),
+    (50_000, 20_000, "few loops, entry refused"),
 ];
 
 /// Prints a tally and holds it to how often each refusal number is to be met.
@@ -82,6 +94,33 @@ fn far_logs_by_events() {
     assert!(tally.logs() >= 60_000);
     check_numbers(&tally);
     for (_, far, name) in AT_LEAST {
+        check_named(&tally, far, name);
+    }
+}
+
+/// Every taken entry finishes after its demand, and never meets 23.
+fn check_few(tally: &LogTally) {
+    tally.print();
+    assert_eq!(tally.entries(23), 0);
+    let taken = tally.named("few loops, taken");
+    assert_eq!(tally.named("few loops, taken, finishes after its demand"), taken);
+    assert_eq!(tally.named("taken"), taken);
+}
+
+#[test]
+fn near_logs_with_few_loops() {
+    let tally = compare_logs(&[REFERENCE, PROVED, FAST], &FEW_NEAR, 1);
+    check_few(&tally);
+    for (near, _, name) in FEW_AT_LEAST {
+        check_named(&tally, near, name);
+    }
+}
+
+#[test]
+fn far_logs_with_few_loops() {
+    let tally = compare_logs(&[FAST, PROVED], &FEW_FAR, 1);
+    check_few(&tally);
+    for (_, far, name) in FEW_AT_LEAST {
         check_named(&tally, far, name);
     }
 }

@@ -1,7 +1,7 @@
 //! The plain forms of the log run with each other, without the proved one: the reference, tick by
 //! tick, and the fast one, by events and tick by tick, on a part of the logs of the whole test.
 
-use comparison::{FAR, LogForm, NEAR, compare_logs};
+use comparison::{FAR, FEW_FAR, FEW_NEAR, LogForm, NEAR, compare_logs};
 
 const REFERENCE: LogForm = ("reference", reference::run_log);
 const FAST: LogForm = ("fast", fast::run_log);
@@ -23,4 +23,13 @@ fn far_logs() {
     tally.print();
     assert!(tally.logs() >= 6_000);
     assert_eq!(tally.entries(23), 0);
+}
+
+/// Tables with no more loops than cores, near and far.
+#[test]
+fn logs_with_few_loops() {
+    let near = compare_logs(&[REFERENCE, FAST, FAST_BY_TICKS], &FEW_NEAR, 10);
+    let far = compare_logs(&[FAST], &FEW_FAR, 10);
+    assert!(near.logs() >= 3_000 && far.logs() >= 1_000);
+    assert_eq!(near.entries(23) + far.entries(23), 0);
 }

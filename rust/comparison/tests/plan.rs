@@ -3,8 +3,8 @@
 
 use reference::{Plan, Table, judge, text};
 use samples::{
-    Random, any_tight, damaged_table, faulty_table, long, mixed, noise_table, offered, steep,
-    table_with_bad_deadlines,
+    Random, any_tight, damaged_table, faulty_table, few, few_offering, long, mixed, noise_table,
+    offered, steep, table_with_bad_deadlines,
 };
 use std::collections::BTreeMap;
 use std::fs;
@@ -16,7 +16,7 @@ use std::process::{Command, Stdio};
 const RUNS: usize = 120;
 
 /// How many tables, and how many of their loops, are to be of each of these kinds, at least.
-const AT_LEAST: [(usize, &str); 7] = [
+const AT_LEAST: [(usize, &str); 12] = [
     (RUNS, "accepted, edition 1"),
     (RUNS, "accepted, edition 2"),
     (RUNS, "D below the bound"),
@@ -24,6 +24,11 @@ const AT_LEAST: [(usize, &str); 7] = [
     (RUNS, "D the bound"),
     (RUNS, "D one above the bound"),
     (RUNS, "D above the bound"),
+    (RUNS, "few loops, accepted"),
+    (RUNS / 4, "few loops, edition 1, late 0"),
+    (RUNS / 4, "few loops, edition 1, late above 0"),
+    (RUNS / 4, "few loops, edition 2, late 0"),
+    (RUNS / 4, "few loops, edition 2, late above 0"),
 ];
 
 fn root() -> PathBuf {
@@ -63,7 +68,20 @@ fn compare(table: &[u8], met: &mut Met) {
         Ok(plan) => {
             *met.entry(format!("accepted, edition {}", plan.edition)).or_default() += 1;
             count_late(&plan, met);
+            if plan.is_few() {
+                count_few(&plan, met);
+            }
         }
+    }
+}
+
+/// Counts few loops, that is no more than cores, and whether late is cut at 0.
+fn count_few(plan: &Plan, met: &mut Met) {
+    *met.entry("few loops, accepted".to_string()).or_default() += 1;
+    for k in 0..plan.tasks.len() {
+        let late = if plan.late(k) == 0 { "0" } else { "above 0" };
+        let kind = format!("few loops, edition {}, late {late}", plan.edition);
+        *met.entry(kind).or_default() += 1;
     }
 }
 
@@ -98,6 +116,14 @@ fn the_texts_of_the_documents() {
         counted 2\n";
     assert_eq!(printed(&p1(9).bytes()), p1_text);
     assert_eq!(printed(&p1(11).bytes()), "refused 7 at 1\n");
+    // With a third core `counted` is printed alone.
+    let third_core = Table { labels: vec![0, 1, 2], ..p1(9) };
+    let few_text = "cores 3 loops 3\n\
+        loop 0 slack 0 bound 9 late 0\n\
+        loop 1 slack 0 bound 9 late 0\n\
+        loop 2 slack 0 bound 20 late 0\n\
+        counted\n";
+    assert_eq!(printed(&third_core.bytes()), few_text);
 }
 
 /// "late is the larger of 0 and bound − D": P1 with D below, at and above its bounds.
@@ -147,6 +173,8 @@ fn tables_of_every_kind() {
         compare(&offered(random).bytes(), &mut met);
         compare(&faulty_table(random).bytes(), &mut met);
         compare(&table_with_bad_deadlines(random).bytes(), &mut met);
+        compare(&few(random).bytes(), &mut met);
+        compare(&few_offering(random).bytes(), &mut met);
         let table = mixed(random).bytes();
         compare(&damaged_table(random, table), &mut met);
         compare(&noise_table(random), &mut met);

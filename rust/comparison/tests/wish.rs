@@ -5,7 +5,7 @@ use comparison::{EDITIONS_AT_LEAST, WishTally, compare_edge, compare_wish, compa
 use reference::{Plan, Refusal, Table, wish_by_trying};
 use samples::{
     Random, any_sheet, damaged_table, deep_sheets, edge_sheets, either, end_sheet, faulty_sheet,
-    noise_table, offering_sheet, roomy_sheet, sheet_with_bad_deadlines, slow_sheets,
+    few_sheet, noise_table, offering_sheet, roomy_sheet, sheet_with_bad_deadlines, slow_sheets,
     tight_edge_sheets, tight_sheet, tiny_sheet, with_deadlines,
 };
 
@@ -33,7 +33,10 @@ const EDGES: [Edges; 2] = [(20_000, edge_sheets), (10_000, tight_edge_sheets)];
 const REFUSED_AT_LEAST: u64 = 2_000;
 
 /// How often each of these is met, at least.
-const AT_LEAST: [(u64, &str); 42] = [
+const AT_LEAST: [(u64, &str); 45] = [
+    (1_000, "refused 5, no loops"),
+    (2_000, "refused 5, few loops"),
+    (2_000, "refused 5, more than 16 loops"),
     (40_000, "accepted"),
     (15_000, "accepted, shares exactly m × H"),
     (20_000, "accepted, buffer exactly long enough"),
@@ -112,6 +115,22 @@ fn many_sheets() {
         assert_eq!(tally.refused(number), 0, "refused {number}");
     }
     for (least, name) in AT_LEAST.into_iter().chain(EDITIONS_AT_LEAST) {
+        let met = tally.named(name);
+        assert!(met >= least, "{name}: {met} sheets");
+    }
+}
+
+/// "wish sheets keep the old 5": loops no more than cores are refused, one more is not.
+#[test]
+fn sheets_with_few_loops() {
+    let (random, mut tally) = (&mut Random::new(84), WishTally::default());
+    for _ in 0..20_000 {
+        let sheet = few_sheet(random).bytes();
+        compare_wish(random, &sheet, &mut tally);
+    }
+    tally.print();
+    assert_eq!(tally.named("refused 5, few loops"), tally.named("few loops"));
+    for (least, name) in [(10_000, "refused 5, few loops"), (500, "accepted, n = m + 1")] {
         let met = tally.named(name);
         assert!(met >= least, "{name}: {met} sheets");
     }

@@ -7,6 +7,9 @@
 //! first, so a task has 12 bytes in edition 1 and 16 in edition 2. What the functions answer and
 //! write depends on neither edition nor deadlines, but that 28 refuses a deadline that is not 1 to
 //! 1,600,000, and that `convert` takes a table from one edition to the other.
+//!
+//! With n at most m no slack may be offered: each task has slack 0 and C as its bound, and none is
+//! counted. Such a table is no wish sheet and is not converted.
 
 pub use records::Refusal;
 
@@ -78,8 +81,8 @@ pub fn judge(table: &[u8], out: &mut [u8]) -> Result<usize, Refusal> {
 
 /// Names the tasks that a judgement counted: those of the m − 1 largest weights at its slack. Where
 /// the table is accepted, they stand in `out`, largest weight first, equal weights by lower task, a
-/// byte each, later bytes of `out` stay, and their number m − 1 comes back. Where it is refused,
-/// `out` stays as it is.
+/// byte each, later bytes of `out` stay, and their number m − 1 comes back; with n at most m there
+/// are none, and 0 comes back. Where it is refused, `out` stays as it is.
 pub fn counted(table: &[u8], out: &mut [u8]) -> Result<usize, Refusal> {
     // SAFETY: as in `judge`.
     let answer =

@@ -10,9 +10,9 @@ const STACK: usize = 64 * 1024;
 const ENTRIES: u32 = 65_535;
 
 /// The longest sentence, of the largest index and value.
-const LONGEST: &[u8] = b"Refusal 10 for loop 4294967295 onwards: the shares must add up to \
-    at least 1 and at most the number of cores times the least common multiple of all separations, \
-    not 18446744073709551615.";
+const LONGEST: &[u8] = b"Refusal 12 for loop 4294967295: its slack must be compliant if it is \
+    offered and, if it is found, the smallest that is compliant, or 0 where loops are no more than \
+    cores, not 18446744073709551615.";
 
 /// Eight cores and sixteen tasks (16, 8, 16), which fill the cores, with deadlines; no slack.
 fn table() -> Vec<u8> {
@@ -80,7 +80,7 @@ fn every_call_but_the_conversion_on_a_stack_of_64_kib() {
         let named = counted(&table, &mut names);
         let wished = wish(&sheet, &mut offsets);
         let run = run_log(&table, &log, &mut answer);
-        let told = sentence_into(10, u32::MAX, u64::MAX, &mut text);
+        let told = sentence_into(12, u32::MAX, u64::MAX, &mut text);
         ((judged, named, wished, run, told), (plan, names, offsets, answer, text))
     };
     let ((judged, named, wished, run, told), (plan, names, offsets, answer, text)) =

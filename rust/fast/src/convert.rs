@@ -1,4 +1,4 @@
-//! A table of one edition written as a table of the other: 1 to 13, 28, 29, 30 and 24.
+//! A table of one edition written as a table of the other: 1 to 13, 28, 31, 29 or 30, and 24.
 //!
 //! Where it is not refused, all that the editions share is copied as it stands: the labels, the
 //! first 12 bytes of each entry, and the slack.
@@ -17,6 +17,9 @@ pub fn convert(table: &[u8], edition: u32, out: &mut [u8]) -> Result<usize, Refu
     }
     let judged = Judged::of(table)?;
     black_box(&judged.names);
+    if judged.is_few() {
+        return refuse(31, 0);
+    }
     if edition == 2 {
         test(29, &judged.tasks, |tasks, k| tasks.offset[k] != 0)?;
         write::<12, 16>(2, table, &judged, out)

@@ -24,7 +24,7 @@ use std::hint::black_box;
 
 use records::{Refusal, Tasks};
 use slack::{Names, Rates};
-use table::{Sections, TASKS, read_tasks};
+use table::{Sections, TASKS, is_few, read_tasks};
 
 /// Judges a table and writes slack and bound of each task to `out`, as the C judgement does. The
 /// judgement names the counted tasks too, and they are not worked out in vain: it is timed.
@@ -37,7 +37,7 @@ pub fn judge(table: &[u8], out: &mut [u8]) -> Result<usize, Refusal> {
 /// Judges a table and writes the names of the counted tasks to `out`, as the C function does.
 pub fn counted(table: &[u8], out: &mut [u8]) -> Result<usize, Refusal> {
     let judged = Judged::of(table)?;
-    let count = judged.cores - 1;
+    let count = if judged.is_few() { 0 } else { judged.cores - 1 };
     let Some(out) = out.get_mut(..count) else {
         return refuse(24, 0);
     };
@@ -60,11 +60,15 @@ impl Judged {
         let sections = Sections::split(table)?;
         let cores = sections.cores()?;
         let mut tasks = Tasks::zeros(0);
-        read_tasks(sections.tasks, cores, &mut tasks)?;
+        read_tasks(sections.tasks, &mut tasks)?;
         let rates = Rates::of(&tasks, cores)?;
         let (slack, names) = slack(&rates, &tasks, sections.slack)?;
-        let bound = bounds(&tasks, &slack)?;
+        let bound = bounds(&tasks, &slack, cores)?;
         Ok(Judged { cores, tasks, slack, names, bound })
+    }
+
+    fn is_few(&self) -> bool {
+        is_few(self.cores, self.tasks.count)
     }
 }
 
@@ -74,10 +78,11 @@ fn slack(
     tasks: &Tasks,
     offer: &[[u8; 4]],
 ) -> Result<([u32; TASKS], Names), Refusal> {
+    let few = is_few(rates.cores, tasks.count);
     if offer.is_empty() {
-        return Ok(rates.search());
+        return Ok(if few { ([0; TASKS], [0; TASKS]) } else { rates.search() });
     }
-    if offer.len() != tasks.count {
+    if few || offer.len() != tasks.count {
         return refuse(11, 0);
     }
     let mut slack = [0; TASKS];
@@ -91,10 +96,12 @@ fn slack(
 }
 
 /// The bound of each task: 13.
-fn bounds(tasks: &Tasks, slack: &[u32; TASKS]) -> Result<[u64; TASKS], Refusal> {
+fn bounds(tasks: &Tasks, slack: &[u32; TASKS], cores: usize) -> Result<[u64; TASKS], Refusal> {
+    let few = is_few(cores, tasks.count);
     let mut bounds = [0; TASKS];
     for k in 0..tasks.count {
-        bounds[k] = u64::from(tasks.offset[k]) + u64::from(slack[k]) + u64::from(tasks.budget[k]);
+        let wait = if few { 0 } else { u64::from(tasks.offset[k]) + u64::from(slack[k]) };
+        bounds[k] = wait + u64::from(tasks.budget[k]);
         if bounds[k] > 16 * u64::from(tasks.separation[k]) {
             return refuse(13, k);
         }

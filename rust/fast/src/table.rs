@@ -73,29 +73,34 @@ pub fn cores_of(labels: &[u8]) -> Result<usize, Refusal> {
     Ok(labels.len())
 }
 
-/// 5 to 8, and 28.
-pub fn read_tasks(entries: Entries, cores: usize, tasks: &mut Tasks) -> Result<(), Refusal> {
-    read_either(entries, cores, tasks, 8, |separation, _, offset| offset > separation)
+/// Whether there are no more tasks than cores: each with work then runs in every tick.
+pub fn is_few(cores: usize, tasks: usize) -> bool {
+    tasks <= cores
 }
 
-/// 5 to 7, 26 and 28: the offsets are wishes.
+/// 5 to 8, and 28.
+pub fn read_tasks(entries: Entries, tasks: &mut Tasks) -> Result<(), Refusal> {
+    read_either(entries, 1, tasks, 8, |separation, _, offset| offset > separation)
+}
+
+/// 5 to 7, 26 and 28: the offsets are wishes, and there are more tasks than cores.
 pub fn read_wishes(entries: Entries, cores: usize, tasks: &mut Tasks) -> Result<(), Refusal> {
     // Where a separation is so long that 16 × T does not fit, 6 is met before.
-    read_either(entries, cores, tasks, 26, |separation, budget, wish| {
+    read_either(entries, cores + 1, tasks, 26, |separation, budget, wish| {
         wish < budget || wish > separation.saturating_mul(16)
     })
 }
 
 fn read_either(
     entries: Entries,
-    cores: usize,
+    fewest: usize,
     tasks: &mut Tasks,
     third: u32,
     fails: impl Fn(u32, u32, u32) -> bool,
 ) -> Result<(), Refusal> {
     match entries {
-        Entries::One(entries) => read_fields(entries, cores, tasks, third, fails),
-        Entries::Two(entries) => read_fields(entries, cores, tasks, third, fails),
+        Entries::One(entries) => read_fields(entries, fewest, tasks, third, fails),
+        Entries::Two(entries) => read_fields(entries, fewest, tasks, third, fails),
     }
 }
 
@@ -104,13 +109,13 @@ fn read_either(
 /// that carried them would be copied more than once.
 fn read_fields<const SIZE: usize>(
     entries: &[[u8; SIZE]],
-    cores: usize,
+    fewest: usize,
     tasks: &mut Tasks,
     third: u32,
     fails: impl Fn(u32, u32, u32) -> bool,
 ) -> Result<(), Refusal> {
     let count = entries.len();
-    if count <= cores || count > TASKS {
+    if count < fewest || count > TASKS {
         return refuse(5, 0);
     }
     tasks.count = count;
@@ -144,9 +149,9 @@ fn deadline_passes(deadline: u32) -> bool {
 
 /// Whether tasks that are not read from bytes pass 5 to 8, and 28 in edition 2, with zeros past
 /// `count` and for every deadline of edition 1.
-pub fn tasks_pass(tasks: &Tasks, edition: u8, cores: usize) -> bool {
+pub fn tasks_pass(tasks: &Tasks, edition: u8) -> bool {
     let count = tasks.count;
-    if count <= cores || count > TASKS {
+    if count == 0 || count > TASKS {
         return false;
     }
     (0..TASKS).all(|i| {

@@ -1,11 +1,11 @@
-//! Document 02, §6: a table of one edition as a table of the other.
+//! Document 02, §6: a table of one edition as a table of the other; and 31 of §7.
 
 use crate::plan::test_each;
-use crate::{Table, judge};
+use crate::{Table, is_few, judge};
 use records::{Refusal, Task};
 
-/// The bytes of a table in the wanted edition, or which of 1 to 8, 28, 9 to 13, and 29 or 30, in
-/// this order, the call meets.
+/// The bytes of a table in the wanted edition, or which of 1 to 8, 28, 9 to 13, 31, and 29 or 30,
+/// in this order, the call meets.
 pub fn convert(bytes: &[u8], wanted: u32) -> Result<Vec<u8>, Refusal> {
     // 1: "A table already in the wanted edition, or a wanted edition other than 1 and 2".
     if wanted != 1 && wanted != 2 {
@@ -17,6 +17,10 @@ pub fn convert(bytes: &[u8], wanted: u32) -> Result<Vec<u8>, Refusal> {
     // 29 and 30 come "both after the table's own checks".
     judge(bytes)?;
     let table = Table::read(bytes)?;
+    // 31: "the converter is given such a table, tested before 29 and 30".
+    if is_few(table.labels.len(), table.tasks.len()) {
+        return Err(Refusal::whole(31));
+    }
     let converted = if wanted == 2 { to_edition_2(table)? } else { to_edition_1(table)? };
     Ok(converted.bytes())
 }

@@ -30,6 +30,6 @@ pub use plan::{Plan, counted_into, judge, judge_into, write};
 pub use sentence::{sentence, sentence_into};
 pub use slack::Analysis;
 pub use state::{Clause, Job, LAST_TICK, MOST_JOBS, broken, known, open, queue, set_queue};
-pub use table::Table;
+pub use table::{Table, is_few};
 pub use text::text;
 pub use wish::{wish, wish_by_trying, wish_into};

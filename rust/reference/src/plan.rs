@@ -3,7 +3,7 @@
 //! that were counted.
 
 use crate::slack::wide;
-use crate::{Analysis, Table};
+use crate::{Analysis, Table, is_few};
 use records::{Refusal, Task};
 
 /// "The plan keeps the table's entries, the slack, and whether it was offered or found; bounds are
@@ -19,35 +19,47 @@ pub struct Plan {
 }
 
 impl Plan {
-    /// "The *bound* of a loop is Y + x + C, counted from release."
+    /// "The *bound* of a loop is Y + x + C, counted from release." With few loops "its slack is 0
+    /// and its bound is its budget".
     pub fn bound(&self, k: usize) -> u128 {
         let task = &self.tasks[k];
+        if self.is_few() {
+            return wide(task.budget);
+        }
         wide(task.offset) + wide(self.slack[k]) + wide(task.budget)
     }
 
     /// "A judgement hands the names back beside the plan, by the weights at its slack, offered or
-    /// found alike".
+    /// found alike". With few loops it "names no loop".
     pub fn counted(&self) -> Vec<usize> {
+        if self.is_few() {
+            return Vec::new();
+        }
         let slack: Vec<u128> = self.slack.iter().map(|&x| wide(x)).collect();
         let analysis = Analysis::new(self.labels.len(), &self.tasks);
         analysis.expect("9 is passed").counted(&slack)
     }
 
-    /// "*Late* is x + C, counted from the priority point". In edition 2 "late is the larger of 0
-    /// and bound − D".
+    /// "*Late* is x + C, counted from the priority point": the bound minus the offset. In edition 2
+    /// "late is the larger of 0 and bound − D". With few loops it is "the larger of 0 and bound
+    /// minus offset, or minus deadline in edition 2".
     pub fn late(&self, k: usize) -> u128 {
         let task = &self.tasks[k];
-        if self.edition == 2 {
-            return self.bound(k).saturating_sub(wide(task.deadline));
-        }
-        wide(self.slack[k]) + wide(task.budget)
+        let from = if self.edition == 2 { task.deadline } else { task.offset };
+        self.bound(k).saturating_sub(wide(from))
+    }
+
+    /// Whether its loops are no more than its cores.
+    pub fn is_few(&self) -> bool {
+        is_few(self.labels.len(), self.tasks.len())
     }
 }
 
 /// The plan of a table's bytes, or which of 1 to 13 and 28 they meet.
 pub fn judge(bytes: &[u8]) -> Result<Plan, Refusal> {
     let table = Table::read(bytes)?;
-    test_entries(&table)?;
+    // "Number 5 now meets 0 loops or more than 16".
+    test_entries(&table, 1)?;
     // 8: "An offset is above its separation."
     test_each(8, &table.tasks, |_, task| task.offset <= task.separation)?;
     test_deadlines(&table)?;
@@ -99,10 +111,10 @@ pub fn write(plan: &Plan) -> Vec<u8> {
     table.bytes()
 }
 
-/// 3 to 7, which a wish sheet is tested by as well.
-pub fn test_entries(table: &Table) -> Result<(), Refusal> {
+/// 3 to 7, which a wish sheet is tested by as well; by 5 loops are at least `fewest`.
+pub fn test_entries(table: &Table, fewest: usize) -> Result<(), Refusal> {
     test_cores(table)?;
-    test_tasks(table)
+    test_tasks(table, fewest)
 }
 
 /// 3 and 4.
@@ -118,10 +130,10 @@ fn test_cores(table: &Table) -> Result<(), Refusal> {
 }
 
 /// 5 to 7.
-fn test_tasks(table: &Table) -> Result<(), Refusal> {
+fn test_tasks(table: &Table, fewest: usize) -> Result<(), Refusal> {
     let tasks = &table.tasks;
-    // 5: "Loops are fewer than cores + 1 or more than 16."
-    if tasks.len() < table.labels.len() + 1 || tasks.len() > 16 {
+    // 5: loops are fewer than these "or more than 16".
+    if tasks.len() < fewest || tasks.len() > 16 {
         return Err(Refusal::whole(5));
     }
     // 6: "A separation is not 1 to 100,000."
@@ -152,15 +164,22 @@ pub fn test_shares(table: &Table) -> Result<Analysis<'_>, Refusal> {
 /// 9 to 12: the table with its slack, offered or found.
 fn with_slack(table: Table) -> Result<Plan, Refusal> {
     let analysis = test_shares(&table)?;
-    // 11: "The slack count is neither 0 nor n."
-    if !table.slack.is_empty() && table.slack.len() != table.tasks.len() {
-        return Err(Refusal::whole(11));
-    }
+    let few = is_few(table.labels.len(), table.tasks.len());
     // "Count 0 means that no slack is offered, and slack is then found. It doesn't mean zeros: an
     // offered 0 is a number and is tested."
     let offered = !table.slack.is_empty();
-    let slack =
-        if offered { test_offer(&analysis, &table.slack)? } else { narrow(analysis.found()) };
+    // 11: "The slack count is neither 0 nor n." With few loops "offered slack [..] is refused 11".
+    if offered && (few || table.slack.len() != table.tasks.len()) {
+        return Err(Refusal::whole(11));
+    }
+    let slack = if offered {
+        test_offer(&analysis, &table.slack)?
+    } else if few {
+        // "its slack is 0".
+        vec![0; table.tasks.len()]
+    } else {
+        narrow(analysis.found())
+    };
     Ok(Plan { edition: table.edition, labels: table.labels, tasks: table.tasks, slack, offered })
 }
 

@@ -9,6 +9,7 @@ use records::Refusal;
 pub fn sentence(number: u32, index: u32, value: u64) -> String {
     of_table(number, index, value)
         .or_else(|| of_loops(number, index, value))
+        .or_else(|| of_slack(number, index, value))
         .or_else(|| of_log(number, index, value))
         .or_else(|| of_engine(number, index, value))
         .or_else(|| of_buffer(number, index, value))
@@ -53,15 +54,15 @@ fn of_table(number: u32, index: u32, value: u64) -> Option<String> {
              before, not {value}."
         ),
         5 => format!(
-            "Refusal 5 for loop {index} onwards: the number of loops must be above the number of \
-             cores and at most 16, not {value}."
+            "Refusal 5 for loop {index} onwards: the number of loops must be at least 1, on a wish \
+             sheet above the number of cores, and at most 16, not {value}."
         ),
         _ => return None,
     };
     Some(sentence)
 }
 
-/// 6 to 13 and 28: the loops, each by itself or all together, and their slack.
+/// 6 to 10 and 28: the loops, each by itself or all together.
 fn of_loops(number: u32, index: u32, value: u64) -> Option<String> {
     let sentence = match number {
         6 => format!(
@@ -83,20 +84,29 @@ fn of_loops(number: u32, index: u32, value: u64) -> Option<String> {
              most the number of cores times the least common multiple of all separations, not \
              {value}."
         ),
+        28 => format!(
+            "Refusal 28 for loop {index}: its deadline must be 1 to 1,600,000 ticks, not {value}."
+        ),
+        _ => return None,
+    };
+    Some(sentence)
+}
+
+/// 11 to 13: the slack, and the bounds that it gives.
+fn of_slack(number: u32, index: u32, value: u64) -> Option<String> {
+    let sentence = match number {
         11 => format!(
             "Refusal 11 for loop {index} onwards: the slack count must be 0 or, where slack \
              may be offered, the number of loops, not {value}."
         ),
         12 => format!(
-            "Refusal 12 for loop {index}: its slack must be compliant if it is offered and the \
-             smallest that is compliant if it is found, not {value}."
+            "Refusal 12 for loop {index}: its slack must be compliant if it is offered and, if it \
+             is found, the smallest that is compliant, or 0 where loops are no more than cores, \
+             not {value}."
         ),
         13 => format!(
             "Refusal 13 for loop {index}: its bound must be at most 16 times its separation, not \
              {value}."
-        ),
-        28 => format!(
-            "Refusal 28 for loop {index}: its deadline must be 1 to 1,600,000 ticks, not {value}."
         ),
         _ => return None,
     };
@@ -190,7 +200,7 @@ fn of_wish(number: u32, index: u32, value: u64) -> Option<String> {
     Some(sentence)
 }
 
-/// 29 and 30: a loop on the way from one edition to the other.
+/// 29 to 31: loops on the way from one edition to the other.
 fn of_conversion(number: u32, index: u32, value: u64) -> Option<String> {
     let sentence = match number {
         29 => format!(
@@ -200,6 +210,10 @@ fn of_conversion(number: u32, index: u32, value: u64) -> Option<String> {
         30 => format!(
             "Refusal 30 for loop {index}: on the way to edition 1, its deadline must equal its \
              offset, not {value}."
+        ),
+        31 => format!(
+            "Refusal 31 for loop {index} onwards: for a conversion the number of loops must be \
+             above the number of cores, not {value}."
         ),
         _ => return None,
     };

@@ -88,7 +88,8 @@ fn every_job(state: &State, holds: impl Fn(usize, Job) -> bool) -> bool {
 
 /// "its table part passes 3 to 13"; "A plan marked as found meets 12 where its slack differs from
 /// the found one […]; a state's table part fails likewise". "a plan of another edition meets 1 too,
-/// a state of one 18", and 28 is tested "in plans and states too".
+/// a state of one 18", and 28 is tested "in plans and states too". So with few loops a state that
+/// is marked as offered fails by 11, and one marked as found by 12 where some slack is not 0.
 fn table_passes(state: &State) -> bool {
     match table_part(state).map(|table| judge(&table.bytes())) {
         Some(Ok(plan)) => plan.slack == state.slack[..state.tasks.count],

@@ -58,6 +58,11 @@ impl Table {
     }
 }
 
+/// Document 02, §7: "Where loops are no more than cores". Such a table has *few* loops.
+pub fn is_few(cores: usize, tasks: usize) -> bool {
+    tasks <= cores
+}
+
 /// The three sections, each after its count, and nothing after them; or nothing where a count is
 /// absent or the length is another.
 fn read_sections(edition: u8, bytes: &[u8]) -> Option<Table> {

@@ -36,7 +36,8 @@ pub fn wish_into(bytes: &[u8], out: &mut [u8]) -> Result<usize, Refusal> {
 /// The sheet of some bytes, if it meets no number before 27.
 fn passed(bytes: &[u8]) -> Result<Table, Refusal> {
     let sheet = Table::read(bytes)?;
-    test_entries(&sheet)?;
+    // "wish sheets keep the old 5": "Loops are fewer than cores + 1 or more than 16."
+    test_entries(&sheet, sheet.labels.len() + 1)?;
     // 26: "W is not C to 16 × T, tested where 8 was".
     test_each(26, &sheet.tasks, |_, task| {
         (wide(task.budget)..=16 * wide(task.separation)).contains(&wide(task.offset))

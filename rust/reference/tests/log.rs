@@ -90,7 +90,7 @@ fn an_empty_log_is_a_run() {
 
 #[test]
 fn a_call_is_refused_by_table_length_tick_and_answer_in_this_order() {
-    let (good, bad) = (table(&P3), table(&P3[..2]));
+    let (good, bad) = (table(&P3), table(&[]));
     let late = log(&[(1_000_000_000, 0, 1), (1_000_000_001, 0, 1), (u32::MAX, 0, 1)]);
     let cut = &late[..late.len() - 1];
     assert_eq!(refused(&bad, cut, 0), Refusal { number: 5, index: 0 });

@@ -49,17 +49,19 @@ fn cores_before_labels_before_tasks() {
     assert_eq!(changed(|t| t.labels = vec![0, 64]), (4, 1));
     assert_eq!(changed(|t| t.labels = vec![64, 0]), (4, 0));
     assert_eq!(changed(|t| t.labels = vec![5, 5]), (4, 1));
-    // The fourth label is below the one before, and three tasks are too few for four cores.
-    assert_eq!(changed(|t| t.labels = vec![1, 2, 3, 2]), (4, 3));
-    assert_eq!(changed(|t| t.labels = vec![1, 2, 3]), (5, 0));
+    // The last label is not above the one before, and there is no task.
+    let no_task = |labels: &[u8]| Table { labels: labels.to_vec(), tasks: vec![], ..p1() };
+    assert_eq!(met(&no_task(&[1, 2, 3, 2]).bytes()), (4, 3));
+    assert_eq!(met(&no_task(&[1, 2, 3]).bytes()), (5, 0));
     assert_eq!(changed(|t| t.tasks = vec![t.tasks[0]; 17]), (5, 0));
 }
 
 #[test]
 fn tasks_before_separations() {
     let zero = Task::new(0, 0, 1);
-    assert_eq!(changed(|t| t.tasks = vec![zero; 2]), (5, 0));
-    assert_eq!(changed(|t| t.tasks = vec![zero; 3]), (6, 0));
+    assert_eq!(changed(|t| t.tasks = vec![zero; 17]), (5, 0));
+    assert_eq!(changed(|t| t.tasks = vec![zero; 16]), (6, 0));
+    assert_eq!(changed(|t| t.tasks = vec![zero]), (6, 0));
 }
 
 #[test]

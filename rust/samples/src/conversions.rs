@@ -4,7 +4,7 @@ use crate::editions::LONGEST_DEADLINE;
 use crate::faulty_tables::{change_task, with_faults};
 use crate::log_tables::accepted;
 use crate::offering_tables::with_offer;
-use crate::{Random, Shape, any_tight, brisk, long, mixed, steep};
+use crate::{Random, Shape, any_tight, brisk, few, long, mixed, one_more, steep};
 use reference::{Table, Task, judge};
 
 /// An accepted table that can be converted: of edition 1 with no offset 0, or of edition 2 with
@@ -27,7 +27,22 @@ fn any_brisk(random: &mut Random) -> Table {
 /// The same with one to three loops that meet 29 or 30, by which it may meet 12 or 13 before them;
 /// in some, deadline and offset are both 0, which 28 meets and 30 does not.
 pub fn inconvertible(random: &mut Random) -> Table {
-    let mut table = convertible(random);
+    let table = convertible(random);
+    with_29_or_30(random, table)
+}
+
+/// A table with few loops: most meet 31, alone or with 29 or 30 after it. Or the same with one loop
+/// more than cores, for which many meet 29 or 30 or can be converted.
+pub fn few_convertible(random: &mut Random) -> Table {
+    let make = random.pick(&[few, few, few, one_more]);
+    let table = make(random);
+    let table = without_zero_offsets(random, table);
+    let table = dated_or_not(random, table);
+    if random.once_in(2) { with_29_or_30(random, table) } else { table }
+}
+
+/// The table with one to three loops changed so that they meet 29 or 30.
+fn with_29_or_30(random: &mut Random, mut table: Table) -> Table {
     let zeros = random.once_in(16);
     let change = if table.edition == 1 || zeros { zero_offset } else { other_deadline };
     for _ in 0..random.between(1, 3) {

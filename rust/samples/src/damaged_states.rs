@@ -6,12 +6,16 @@ use reference::{LAST_TICK, MOST_JOBS, State, Task};
 
 type Damage = fn(&mut Random, &mut State);
 
-const DAMAGES: [Damage; 23] = [
+const DAMAGES: [Damage; 24] = [
     edition,
     deadline_in_table,
     |random, state| state.tasks.deadline[outside(random, state)] = deadline(random),
     |random, state| state.slack[in_table(random, state)] ^= 1,
     |_, state| state.offered ^= true,
+    |random, state| {
+        state.offered = true;
+        state.slack[in_table(random, state)] ^= 1;
+    },
     |random, state| {
         let core = random.index(state.cores.max(1));
         state.labels[core] = random.pick(&[0, 63, 64, 255]);

@@ -100,13 +100,15 @@ pub fn change_label(random: &mut Random, labels: &mut [u8]) {
     };
 }
 
+/// Another number of tasks. By as many as cores or fewer, but for none, only a sheet meets 5.
 pub fn change_tasks(random: &mut Random, table: &mut Table) {
     // In edition 1 the deadline is not written.
     let any = Task { separation: 10, budget: 1, offset: 10, deadline: 10 };
-    let count = match random.index(4) {
+    let count = match random.index(6) {
         0 => table.labels.len(),
         1 => random.index(table.labels.len() + 1),
-        2 => 17,
+        2 => 0,
+        3 | 4 => 17,
         _ => random.between(1, 40) as usize,
     };
     table.tasks.resize(count, any);

@@ -2,12 +2,13 @@
 //! but the sentences timed on, made from a fixed seed.
 //!
 //! Show tables: valid ones, tight ones, ones with an H near its limit, ones that offer slack around
-//! compliance, faulty ones and damaged bytes. Engine states: sound ones, and ones damaged in one
-//! clause of soundness. Release logs: ones that keep their table, ones that do not, and damaged
-//! bytes. Refusals to be told: of known and of unknown numbers, and pairs that differ in little.
+//! compliance, ones with no more loops than cores, faulty ones and damaged bytes. Engine states:
+//! sound ones, and ones damaged in one clause of soundness. Release logs: ones that keep their
+//! table, ones that do not, and damaged bytes. Refusals to be told: of known and of unknown
+//! numbers, and pairs that differ in little.
 //! Wish sheets: ones with room, ones at the edge of having a solution, ones with wishes at the ends
 //! of their range, faulty ones, and the slowest that were found. Tables to be converted: ones that
-//! can be, ones that meet 29 or 30, and faulty ones; with the editions wanted of them. Of tables,
+//! can be, ones that meet 29, 30 or 31, and faulty ones; with the editions wanted of them. Of tables,
 //! and of what is made from them, about half are of edition 1 and half of edition 2; what is timed
 //! is of edition 1, but for tables that are converted to it.
 
@@ -20,6 +21,7 @@ mod damaged_tables;
 mod editions;
 mod faulty_sheets;
 mod faulty_tables;
+mod few_tables;
 mod log_tables;
 mod logs;
 mod offering_tables;
@@ -32,7 +34,8 @@ mod tight_tables;
 mod wish_sheets;
 
 pub use conversions::{
-    convertible, faulty_convertible, inconvertible, wanted_edition, without_zero_offsets,
+    convertible, faulty_convertible, few_convertible, inconvertible, wanted_edition,
+    without_zero_offsets,
 };
 pub use damaged_logs::{damaged_log, noise_log};
 pub use damaged_states::damaged_state;
@@ -40,6 +43,7 @@ pub use damaged_tables::{damaged_table, noise_table};
 pub use editions::{either, with_deadlines};
 pub use faulty_sheets::{faulty_sheet, offering_sheet, sheet_with_bad_deadlines};
 pub use faulty_tables::{faulty_table, table_with_bad_deadlines};
+pub use few_tables::{faulty_few, few, few_accepted, few_offering, few_plan, few_short, one_more};
 pub use log_tables::{any_accepted, short_accepted};
 pub use logs::{LogKind, log};
 pub use offering_tables::offered;
@@ -53,6 +57,6 @@ pub use slow_sheets::{deep_sheets, slow_sheets};
 pub use sound_states::{accepted_plan, brisk, busy, sound, tied};
 pub use tight_tables::{any_tight, overfull, tight};
 pub use wish_sheets::{
-    any_sheet, edge_sheets, end_sheet, roomy_sheet, tight_edge_sheets, tight_sheet, tiny_sheet,
-    wishing,
+    any_sheet, edge_sheets, end_sheet, few_sheet, roomy_sheet, tight_edge_sheets, tight_sheet,
+    tiny_sheet, wishing,
 };

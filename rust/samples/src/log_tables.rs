@@ -49,9 +49,14 @@ fn short_tight(random: &mut Random) -> Table {
 
 fn short_loaded(random: &mut Random) -> Table {
     let shape = Shape::any(random);
-    let choices = random.pick(&SHORT);
-    let separations: Vec<u32> = (0..shape.tasks).map(|_| random.pick(&choices)).collect();
+    let separations = short_separations(random, shape.tasks);
     loaded(random, shape.cores, &separations)
+}
+
+/// Separations of at most 72 ticks.
+pub fn short_separations(random: &mut Random, count: usize) -> Vec<u32> {
+    let choices = random.pick(&SHORT);
+    (0..count).map(|_| random.pick(&choices)).collect()
 }
 
 fn short_offered(random: &mut Random) -> Table {

@@ -18,46 +18,62 @@ pub struct Shape {
 }
 
 impl Shape {
-    /// Any shape that 3 and 5 allow.
+    /// Any shape that 3 and, on a wish sheet, 5 allow: more tasks than cores.
     pub fn any(random: &mut Random) -> Shape {
         let cores = random.between(2, 8) as usize;
         let tasks = random.between(cores as u32 + 1, 16) as usize;
         Shape { cores, tasks }
     }
+
+    /// No more tasks than cores: often one alone, or as many.
+    pub fn few(random: &mut Random) -> Shape {
+        let cores = random.between(2, 8) as usize;
+        let any = random.between(1, cores as u32) as usize;
+        Shape { cores, tasks: random.pick(&[1, any, any, cores]) }
+    }
 }
 
-/// Tasks with a random load, often just below or above what the cores can carry. The separations
-/// of some tables divide a common number and differ widely; those of others are within a factor
-/// of six, so that most bounds are short enough.
+/// Tasks with a random load, often just below or above what the cores can carry.
 pub fn mixed(random: &mut Random) -> Table {
     let shape = Shape::any(random);
+    let separations = mixed_separations(random, shape.tasks);
+    loaded(random, shape.cores, &separations)
+}
+
+/// The separations of some tables divide a common number and differ widely; those of others are
+/// within a factor of six, so that most bounds are short enough.
+pub fn mixed_separations(random: &mut Random, count: usize) -> Vec<u32> {
     let common = composite(random, 1_000_000);
     let base = random.between(1, 1_000_000 / 60);
     let alike = !random.once_in(4);
-    let separations: Vec<u32> = (0..shape.tasks)
+    (0..count)
         .map(|_| if alike { base * random.between(1, 6) } else { divisor(random, common) })
-        .collect();
+        .collect()
+}
+
+/// Tasks with a random load, and with an H near 1,000,000.
+pub fn long(random: &mut Random) -> Table {
+    let shape = Shape::any(random);
+    let separations = long_separations(random, shape.tasks);
     loaded(random, shape.cores, &separations)
 }
 
 /// Separations whose H is near 1,000,000, on either side.
-pub fn long(random: &mut Random) -> Table {
-    let shape = Shape::any(random);
+pub fn long_separations(random: &mut Random, count: usize) -> Vec<u32> {
     let (first, second) = if random.once_in(4) {
         random.pick(&AT_LIMIT)
     } else {
         let first = random.between(10, 1000);
         (first, random.between(999_000, 1_001_000) / first)
     };
-    let separations: Vec<u32> = (0..shape.tasks)
+    (0..count)
         .map(|_| match random.index(4) {
             0 => first,
             1 => second,
             2 => divisor(random, first),
             _ => divisor(random, second),
         })
-        .collect();
-    loaded(random, shape.cores, &separations)
+        .collect()
 }
 
 /// One short task among long ones of nearly the same budget: its bound is near 16 times its

@@ -8,7 +8,7 @@ use std::str::FromStr;
 pub type Told = (u32, u32, u64);
 
 /// The last number in the table of refusals. Each later one joins it.
-pub const LAST_NUMBER: u32 = 30;
+pub const LAST_NUMBER: u32 = 31;
 
 /// A refusal of a number in the table.
 pub fn known_refusal(random: &mut Random) -> Told {

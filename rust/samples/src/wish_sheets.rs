@@ -2,7 +2,9 @@
 
 use crate::plain_tables::without_slack;
 use crate::tight_tables::tight_with;
-use crate::{Random, Shape, any_tight, either, long, mixed, steep, tight};
+use crate::{
+    Random, Shape, any_tight, either, few, few_offering, long, mixed, one_more, steep, tight,
+};
 use reference::{Table, Task, judge};
 
 /// Separations of sheets that may take as many rounds as m × T.
@@ -38,6 +40,14 @@ pub fn wishing(random: &mut Random, shape: Shape) -> Table {
 /// A sheet with wishes from C to 16 × T, whether there is a solution or not.
 pub fn any_sheet(random: &mut Random) -> Table {
     let table = any_loops(random);
+    wishing_anything(random, table)
+}
+
+/// A sheet with no more loops than cores, some with slack, or with one loop more than cores; its
+/// wishes are from C to 16 × T.
+pub fn few_sheet(random: &mut Random) -> Table {
+    let make = random.pick(&[few, few, few_offering, one_more]);
+    let table = make(random);
     wishing_anything(random, table)
 }
 
