@@ -4,17 +4,18 @@
 --     counts-refused    a table that meets 1 or 2
 use Prim.Native.Nat.{ℕ, _≤_}
 use mathlib.Core.Path.{_≡_, refl, sym, _∙_, ap}
-use mathlib.Core.Bool.{Bool, true, false, _||_}
+use mathlib.Core.Bool.{Bool, true, false, cond, not, _&&_, _||_}
 use mathlib.Core.List.{List, [], _∷_}
 use lib.Dec.{eqb}
 use lib.ListN.{length}
 use borrow.Author.Tests.{eqb-true, eqb-false, eq-eqb, ne-eqb, not-false}
 use Rattle.laws.specs.Tab.{tab}
 use Rattle.laws.specs.TabLaws.{tab-ext}
+use Rattle.laws.specs.EveryLaws.{both}
 use Rattle.tasks.specs.declared.Plan.{Plan}
 use Rattle.tasks.specs.declared.Answer.{Answer}
 use Rattle.tasks.specs.declared.Answer.the-variants.{Accepted, Refused}
-use Rattle.tasks.specs.TaskSet.{TaskSet, counted, found, row}
+use Rattle.tasks.specs.TaskSet.{TaskSet, counted, coreForEach, found, row}
 use Rattle.tasks.specs.AmountLaws.{counted-ext}
 use Rattle.tasks.specs.Content.{Content, countedOf, contentOf, planOf, zeroPlan}
 use Rattle.tasks.specs.Tests.{firstMet, orNext, test3, test4, test5, test6, test7, test8, test28, test9, test10, test11, tests, unlessRefused}
@@ -37,9 +38,9 @@ judgedAnswer p k =
     orNext (orNext (limitTests (offering p k)) (firstMet (test11 (offering p k) ∷ offeredTest (offering p k) ∷ [])))
     (boundsOf p (tab (hadSlack (offering p k)) 16))
 
--- the loops counted at the slack that the plan has
+-- the loops counted at the slack that the plan has, none where loops are no more than cores
 unfoldable pub judgedNames : Plan → ℕ → List ℕ
-judgedNames p k = counted (offering p k .tasks) (hadSlack (offering p k))
+judgedNames p k = cond (coreForEach (p .cores) (p .tasks)) [] (counted (offering p k .tasks) (hadSlack (offering p k)))
 
 pub record Judges (p : Plan) (k : ℕ) (r : Judgement) : Type 0 where
   pub answer : r .answer ≡ judgedAnswer p k
@@ -99,8 +100,8 @@ module _ (t : List ℕ) where
   two-counts : test11 (contentIn t) ≡ Accepted → (slackCount t ≡ 0 → ⊥) → slackCount t ≡ taskCount t
   unfolding test11 contentIn taskSetIn
   two-counts e z =
-      let q : eqb (slackCount t) 0 || eqb (slackCount t) (taskCount t) ≡ true = not-false _ (refuse-passed 11 _ e) in
-      eqb-true (slackCount t) (taskCount t) (rw (ne-eqb (slackCount t) 0 z) at q)
+      let q : eqb (slackCount t) 0 || (not (coreForEach (coreCount t) (taskCount t)) && eqb (slackCount t) (taskCount t)) ≡ true = not-false _ (refuse-passed 11 _ e) in
+      eqb-true (slackCount t) (taskCount t) (both (not (coreForEach (coreCount t) (taskCount t))) _ (rw (ne-eqb (slackCount t) 0 z) at q) .1)
 
   within : limitTests (contentIn t) ≡ Accepted → (coreCount t ≤ 8) × (taskCount t ≤ 16)
   unfolding contentIn taskSetIn
@@ -157,10 +158,11 @@ module _ (t : List ℕ) where
   plan-in e = ap (withSlack (planOf (contentIn t))) (tab-ext (hadSlack said) (contentIn t .slack) 16 (λ i h. had-said e i))
 
   names-in : tests (contentIn t) ≡ Accepted → judgedNames (loaded t) (slackCount t) ≡ countedOf (contentIn t)
-  unfolding judgedNames countedOf said
+  unfolding judgedNames countedOf said loaded withSlack planOf
   names-in e =
-      ap (λ (s : TaskSet). counted s (hadSlack said)) (said-tasks (within (eleven-passed e .0) .1))
-      ∙ counted-ext (contentIn t .tasks) _ _ (λ i h. had-said e i)
+      ap (cond (coreForEach (contentIn t .tasks .cores) (contentIn t .tasks .count)) [])
+      (ap (λ (s : TaskSet). counted s (hadSlack said)) (said-tasks (within (eleven-passed e .0) .1))
+      ∙ counted-ext (contentIn t .tasks) _ _ (λ i h. had-said e i))
 
   past-two : countsTest t ≡ Accepted → verdict t ≡ tests (contentIn t)
   unfolding verdict countsTest

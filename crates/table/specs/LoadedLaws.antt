@@ -91,7 +91,7 @@ module _ (t : List ℕ) where
 
   tasks-over : coreCount t ≤ 8 → 16 < taskCount t → limitTests (contentOf (loaded t)) ≡ limitTests (contentIn t)
   unfolding limitTests test3 test4 test5 firstMet contentOf loaded withSlack planOf contentIn taskSetIn
-  tasks-over m h = rw (outside-past (coreCount t + 1) 16 (taskCount t) h, labels-in t m)
+  tasks-over m h = rw (outside-past 1 16 (taskCount t) h, labels-in t m)
 
   pub limits-all : limitTests (contentOf (loaded t)) ≡ limitTests (contentIn t)
   limits-all = go (ltb 8 (coreCount t)) refl (ltb 16 (taskCount t)) refl

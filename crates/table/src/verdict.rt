@@ -11,9 +11,13 @@ use reader::load_tasks;
 use reader::read_counts;
 use tasks::Answer;
 use tasks::Plan;
+use tasks::bound::core_for_each;
 use tidy::no_plan;
 use tidy::tidy_bytes;
 ghost use mathlib.Core.Path.{_≡_};
+ghost use mathlib.Core.Bool.{cond};
+ghost use Prim.Native.Nat.{_-_, _≤_};
+ghost use Rattle.tasks.specs.TaskSet.{coreForEach};
 ghost use Rattle.table.specs.Judged.{judged, refusedWith, slackPart};
 ghost use Rattle.reader.specs.Counted.{answerOfCounts};
 ghost use Rattle.reader.specs.CountedLaws.{CountsIn};
@@ -52,6 +56,17 @@ pub fn load(table: &[u8], edition: u8, cores: usize, tasks: usize, offers: usize
     }
 }
 
+// How many loops a judgement names: m − 1, and none where loops are no more than cores.
+fn named(cores: usize, tasks: usize) -> usize
+    requires { ⌜ 1 ≤ cores ⌝ }
+    ensures { λ r. ⌜ r ≡ cond (coreForEach cores tasks) 0 (cores - 1) ⌝ }
+{
+    if core_for_each(cores, tasks) {
+        return 0;
+    }
+    cores - 1
+}
+
 // Tests 3 to 13 and 28, of a table that meets neither 1 nor 2.
 fn judge_plan(plan: Plan, offers: usize) -> Judgement
     ensures { λ r. ⌜ Judges plan offers r ⌝ }
@@ -67,7 +82,7 @@ fn judge_plan(plan: Plan, offers: usize) -> Judgement
         return refused(bounded);
     };
     let names = tested.names;
-    let count = plan.cores - 1;
+    let count = named(plan.cores, plan.tasks);
     let counted = tidy_bytes(&names, count);
     let mut accepted = plan;
     accepted.slack = slack;

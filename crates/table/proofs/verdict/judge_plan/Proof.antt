@@ -1,12 +1,14 @@
 -- `table::verdict::judge_plan` meets its contract.
 use Prim.Native.Nat.{ℕ, _-_, _≤_}
-use mathlib.Core.Path.{_≡_, sym, _∙_, ap}
-use mathlib.Core.List.{List}
+use mathlib.Core.Path.{_≡_, refl, sym, _∙_, ap}
+use mathlib.Core.Bool.{Bool, true, false, cond}
+use mathlib.Core.List.{List, []}
 use native.Mathlib.Omega.{arith}
-use lib.ListN.{length, getD}
+use lib.ListN.{length, getD, take}
+use borrow.Author.Tests.{leb-false}
 use Rattle.laws.specs.Tab.{tab, cut}
 use Rattle.laws.specs.TabLaws.{tab-ext, getD-first}
-use Rattle.tasks.specs.TaskSet.{row}
+use Rattle.tasks.specs.TaskSet.{counted, coreForEach, row}
 use Rattle.tasks.specs.Limits.{Limits}
 use Rattle.tasks.specs.AmountLaws.{counted-length}
 use Rattle.tasks.specs.declared.Plan.{Plan}
@@ -49,24 +51,50 @@ module _ (p : Plan) (k : ℕ) (t : Tested) (g : PlanTested p k t) where
     unfolding judgedAnswer
     bounded b q = q ∙ rw (g .had e .places) (sym (passed-on _ _ (sym (g .answer) ∙ e)))
 
-    count-is : p .cores - 1 ≡ length (judgedNames p k)
-    unfolding judgedNames offering contentOf
-    count-is = sym (counted-length (offering p k .tasks) (hadSlack (offering p k)) (limits .more-tasks))
+    each : Bool
+    each = coreForEach (p .cores) (p .tasks)
 
-    names-are : (i : ℕ) → cut (p .cores - 1) (row (t .names)) 0 i ≡ row (judgedNames p k) i
-    unfolding row judgedNames offering contentOf
-    names-are i = sym (getD-first (p .cores - 1) (t .names) i 0) ∙ ap (λ (l : List ℕ). getD l i 0) (g .had e .counts)
+    names-are : take (cond (coreForEach (p .cores) (p .tasks)) 0 (p .cores - 1)) (t .names) ≡ judgedNames p k
+    unfolding judgedNames offering contentOf each
+    names-are = go each refl
+      where
+        go :
+            (b : Bool) → each ≡ b
+            → take (cond b 0 (p .cores - 1)) (t .names) ≡ cond b [] (counted (offering p k .tasks) (hadSlack (offering p k)))
+        go true q = refl
+        go false q = g .had e .counts q
+
+    count-is : cond (coreForEach (p .cores) (p .tasks)) 0 (p .cores - 1) ≡ length (judgedNames p k)
+    unfolding judgedNames offering contentOf each
+    count-is = go each refl
+      where
+        go :
+            (b : Bool) → each ≡ b
+            → cond b 0 (p .cores - 1) ≡ length (cond b [] (counted (offering p k .tasks) (hadSlack (offering p k))))
+        go true q = refl
+        go false q = sym (counted-length (offering p k .tasks) (hadSlack (offering p k)) (leb-false (p .tasks) (p .cores) q))
 
     accepted :
-        (b : Answer) → b ≡ boundsOf p (t .slack) → b ≡ Accepted → (l : List ℕ) → l ≡ tab (cut (p .cores - 1) (row (t .names)) 0) 8
-        → Judges p k (record { answer = Accepted; plan = withSlack p (t .slack); count = p .cores - 1; counted = l })
-    accepted b q v l el =
+        (b : Answer) → b ≡ boundsOf p (t .slack) → b ≡ Accepted → (n : ℕ) → n ≡ cond (coreForEach (p .cores) (p .tasks)) 0 (p .cores - 1)
+        → (l : List ℕ) → l ≡ tab (cut n (row (t .names)) 0) 8
+        → Judges p k (record { answer = Accepted; plan = withSlack p (t .slack); count = n; counted = l })
+    unfolding row
+    accepted b q v n en l el =
+        let named : take n (t .names) ≡ judgedNames p k = rw en names-are in
         record {
           answer = sym v ∙ bounded b q;
           plan = ap (withSlack p) (g .had e .places);
-          count = count-is;
-          counted = el ∙ tab-ext _ _ 8 (λ i h. names-are i);
+          count = en ∙ count-is;
+          counted = el ∙ tab-ext _ _ 8 (λ i h. sym (getD-first n (t .names) i 0) ∙ ap (λ (l : List ℕ). getD l i 0) named);
         }
+
+    pub named-few : (n : ℕ) → n ≡ cond (coreForEach (p .cores) (p .tasks)) 0 (p .cores - 1) → n ≤ 8
+    unfolding each
+    named-few n en = go each en
+      where
+        go : (b : Bool) → n ≡ cond b 0 (p .cores - 1) → n ≤ 8
+        go true q = omega arith
+        go false q = omega (arith, few .1)
 
 test-slack-requires : tie.Need-test-slack-requires
 test-slack-requires c κs = search needs
@@ -106,25 +134,28 @@ returns-2 c =
     refused (s .args .plan) (s .args .offers) _ g _ _ _ _ (c .refused2 .ensures) (c .before .enum-told4 .given .1)
     (bounded (s .args .plan) (s .args .offers) _ g (c .before .before .before .before .before .enum-told .given .1) _ (c .before .before .before .plan-bounds .ensures))
 
-sub-count : tie.Need-sub-count
-sub-count c =
-    let s = c .before .before .before .before .before .before .before .before .before in
-    omega (arith, few (s .args .plan) (s .args .offers) _ (c .before .before .before .before .before .before .before .before .test-slack .ensures) (c .before .before .before .before .before .before .enum-told .given .1))
+named-requires : tie.Need-named-requires
+named-requires c κs =
+    let t = c .before .before .before .before .before .before .before in
+    omega (arith, few (t .before .args .plan) (t .before .args .offers) _ (t .test-slack .ensures) (c .before .before .before .before .before .enum-told .given .1))
 
 slice-aggregate-tidy-bytes : tie.Need-slice-aggregate-tidy-bytes
 slice-aggregate-tidy-bytes c = search needs
 
 tidy-bytes-requires : tie.Need-tidy-bytes-requires
 tidy-bytes-requires c κs =
-    let s = c .before .before .before .before .before .before .before .before .before .before in
-    let long : length (c .before .before .before .before .before .before .before .before .before .test-slack .result .names) ≡ 16 = search needs in
-    omega (arith, few (s .args .plan) (s .args .offers) _ (c .before .before .before .before .before .before .before .before .before .test-slack .ensures) (c .before .before .before .before .before .before .before .enum-told .given .1))
+    let d = c .before .before in
+    let t = d .before .before .before .before .before .before .before in
+    let long : length (t .test-slack .result .names) ≡ 16 = search needs in
+    omega (arith, named-few (t .before .args .plan) (t .before .args .offers) _ (t .test-slack .ensures) (d .before .before .before .before .before .enum-told .given .1) _ (c .before .named .ensures))
 
 returns-3 : tie.Need-returns-3
 unfolding withSlack
 returns-3 c =
-    let s = c .before .before .before .before .before .before .before .before .before .before .before in
-    accepted (s .args .plan) (s .args .offers) _ (c .before .before .before .before .before .before .before .before .before .before .test-slack .ensures) (c .before .before .before .before .before .before .before .before .enum-told .given .1) _ (c .before .before .before .before .before .before .plan-bounds .ensures) (c .before .before .before .before .enum-told3 .given .1) _ (c .tidy-bytes .ensures)
+    let d = c .before .before .before in
+    let t = d .before .before .before .before .before .before .before in
+    accepted (t .before .args .plan) (t .before .args .offers) _ (t .test-slack .ensures) (d .before .before .before .before .before .enum-told .given .1) _
+    (d .before .before .before .plan-bounds .ensures) (d .before .enum-told3 .given .1) _ (c .before .before .named .ensures) _ (c .tidy-bytes .ensures)
 
 pub judge-plan-spec : {M : Type 1} → statement M
 judge-plan-spec =
@@ -140,7 +171,7 @@ judge-plan-spec =
     enum-told-4
     refused-requires-2
     returns-2
-    sub-count
+    named-requires
     slice-aggregate-tidy-bytes
     tidy-bytes-requires
     returns-3)
