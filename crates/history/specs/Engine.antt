@@ -86,7 +86,7 @@ module _ (E : Engine) where
 -- Of every history with fewer than B steps. A release of loop i with demand c is asked after the calls h, it is taken, and the calls g follow it:
 -- the demands of the loop's releases up to and with it are `demanded E (ask i c ∷ h) i`.
 pub record HistoryClaim (E : Engine) (s : TaskSet) (x : ℕ → ℕ) (B : ℕ) : Type 0 where
-  -- where it has ended, it did so within Y + x + C ticks
+  -- where it has ended, it did so within its bound: Y + x + C ticks, or C where loops are no more than cores
   pub in-time :
       (g h : List Call) (i c f : ℕ) → clock (g ++ ask i c ∷ h) < B → verdict E h i c ≡ taken
       → Ends E (g ++ ask i c ∷ h) i (demanded E (ask i c ∷ h) i) f → f ≤ clock h + bound s x i

@@ -15,8 +15,8 @@ use mathlib.Core.List.{List, [], _∷_, _++_}
 use native.Mathlib.Omega.{arith}
 use lib.Dec.{leb, eqb}
 use borrow.Author.Tests.{eq-eqb, leb-false}
-use Rattle.tasks.specs.TaskSet.{TaskSet, Compliant, bound}
-use Rattle.tasks.specs.Limits.{Limits, Bounded}
+use Rattle.tasks.specs.TaskSet.{TaskSet, bound}
+use Rattle.tasks.specs.Limits.{Limits, Enough, Bounded}
 use Rattle.tasks.specs.Tests.{refuse, firstMet, outside}
 use Rattle.machine.specs.Machine.{Job, job, Machine, tooSoon, full, joined, admitted, runs, served, advanced, tick}
 use Rattle.machine.specs.Admission.{joinTests, admitTests}
@@ -72,7 +72,7 @@ pub data Life (s : TaskSet) (x : ℕ → ℕ) (h : List Call) (i d r : ℕ) : Ty
       → Life s x h i d r
   ended : (f : ℕ) → Ends (machineEngine s) h i d f → f ≤ r + bound s x i → Life s x h i d r
 
-module _ (s : TaskSet) (x : ℕ → ℕ) (L : Limits s) (C : Compliant s x) where
+module _ (s : TaskSet) (x : ℕ → ℕ) (L : Limits s) (C : Enough s x) where
   in-time : (h : List Call) (i r k : ℕ) → i < s .count → Upto r k (state (machineEngine s) h .lane i .queue) → clock h + k ≤ r + bound s x i
   in-time h i r k l u =
       rw (sym (machine-clock s h))
@@ -137,7 +137,7 @@ module _ (s : TaskSet) (x : ℕ → ℕ) (L : Limits s) (C : Compliant s x) wher
       life-step (g ++ ask i c ∷ h) i _ _ (answer-allowed s (state (machineEngine s) h) i c e .0 .in-table) (life g h i c e)
   life (ask j a ∷ g) h i c e = life-ask (g ++ ask i c ∷ h) j a i _ _ (life g h i c e)
 
-module _ (s : TaskSet) (x : ℕ → ℕ) (L : Limits s) (C : Compliant s x) (B : Bounded s x) where
+module _ (s : TaskSet) (x : ℕ → ℕ) (L : Limits s) (C : Enough s x) (B : Bounded s x) where
   pub free : (M : Machine) → Reached s M → (i c : ℕ) → answerOf s M i c ≡ refused 23 → ⊥
   unfolding answerOf admitTests joinTests firstMet tooSoon full
   free M r i c e = go (leb (s .count) i) refl (outside 1 (s .task i .budget) c) (tooSoon s M i) refl (full M i) refl e

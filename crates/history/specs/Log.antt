@@ -118,7 +118,8 @@ pub record Keeps (s : TaskSet) (l : List Entry) : Type 0 where
   pub demand-high : (e : ℕ) → e < length l → demandAt l e ≤ s .task (loopAt l e) .budget
 
 module _ (E : Engine) (s : TaskSet) (x : ℕ → ℕ) (l : List Entry) where
-  -- "it finishes within d ticks of release when finish tick minus entry tick is at most d", for d = Y + x + C
+  -- "it finishes within d ticks of release when finish tick minus entry tick is at most d", for d = the bound: Y + x + C, or C where loops
+  -- are no more than cores
   abbrev pub InTime : ℕ → Type 0
   InTime e = (f : ℕ) × Finishes E l e f × (f ≤ tickAt l e + bound s x (loopAt l e))
 

@@ -18,8 +18,8 @@ use lib.Dec.{leb}
 use borrow.Author.Tests.{leb-true, leb-false}
 use Rattle.laws.specs.First.{first}
 use Rattle.laws.specs.FirstLaws.{first-before}
-use Rattle.tasks.specs.TaskSet.{TaskSet, Compliant, bound}
-use Rattle.tasks.specs.Limits.{Limits, Bounded}
+use Rattle.tasks.specs.TaskSet.{TaskSet, bound}
+use Rattle.tasks.specs.Limits.{Limits, Enough, Bounded}
 use Rattle.machine.specs.Machine.{Job, job, pending, waiting}
 use Rattle.machine.specs.Reached.{AllInTime}
 use Rattle.machine.specs.Theorem.{bound-theorem}
@@ -52,7 +52,7 @@ spent :
 spent T C t n b last [] c e p h late = refl
 spent T C t n b last (job a w ∷ q) c e p h late = absurd (omega (arith, head-past T C t 0 n a w last q c e p))
 
-module _ (s : TaskSet) (x : ℕ → ℕ) (L : Limits s) (C : Compliant s x) (B : Bounded s x) where
+module _ (s : TaskSet) (x : ℕ → ℕ) (L : Limits s) (C : Enough s x) (B : Bounded s x) where
   bound-high : (i : ℕ) → i < s .count → bound s x i ≤ longest
   unfolding Bounded
   bound-high i h = omega (arith, B i h, L .separation-high i h)

@@ -7,8 +7,8 @@ use mathlib.Core.Path.{_≡_, sym, ap, subst, _∙_}
 use mathlib.Core.List.{List, [], _∷_, _++_}
 use native.Mathlib.Omega.{arith}
 use lib.ListN.{length}
-use Rattle.tasks.specs.TaskSet.{TaskSet, Compliant, bound}
-use Rattle.tasks.specs.Limits.{Limits, Bounded}
+use Rattle.tasks.specs.TaskSet.{TaskSet, bound}
+use Rattle.tasks.specs.Limits.{Limits, Enough, Bounded}
 use Rattle.machine.specs.Machine.{Job, pending, waiting}
 use Rattle.history.specs.Engine.{Call, ask, state, verdict, demanded, Ends}
 use Rattle.history.specs.Log.{Entry, tickAt, loopAt, demandAt, until, calls, Taken, owed, whole, InTime, Claim}
@@ -23,7 +23,7 @@ no-job : (r k : ℕ) (q : List Job) → pending q ≡ false → Upto r k q → �
 no-job r k [] e u = u
 no-job r k (j ∷ q) e u = true≢false e
 
-module _ (s : TaskSet) (x : ℕ → ℕ) (L : Limits s) (C : Compliant s x) (B : Bounded s x) (l : List Entry) where
+module _ (s : TaskSet) (x : ℕ → ℕ) (L : Limits s) (C : Enough s x) (B : Bounded s x) (l : List Entry) where
   -- where nothing is pending a release has ended
   has-ended :
       (h : List Call) (i d r : ℕ) → i < s .count → quietOf s (state (machineEngine s) h) ≡ true → Life s x h i d r

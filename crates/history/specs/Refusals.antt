@@ -16,8 +16,8 @@ use native.Mathlib.Nat.{le-refl, not-suc-le-zero, eq-or-lt-of-le, le-of-suc-le-s
 use native.Mathlib.Omega.{arith}
 use lib.Dec.{ltb, leb, eqb}
 use borrow.Author.Tests.{ltb-false, le-ltb, leb-false, lt-leb, eqb-true, eq-eqb}
-use Rattle.tasks.specs.TaskSet.{TaskSet, Compliant}
-use Rattle.tasks.specs.Limits.{Limits, Bounded}
+use Rattle.tasks.specs.TaskSet.{TaskSet}
+use Rattle.tasks.specs.Limits.{Limits, Enough, Bounded}
 use Rattle.tasks.specs.Tests.{refuse, firstMet, outside}
 use Rattle.machine.specs.Machine.{Machine, opened, within, tooSoon, full, joined, admitted, advanced, tick}
 use Rattle.machine.specs.Admission.{joinTests, admitTests}
@@ -174,7 +174,7 @@ module _ (s : TaskSet) (l : List Entry) where
           (λ t. more (eqb i (loopAt l e)) (machine-clock s (until (tickAt l e) (calls l e)) ∙ clock-entry l e b) q)
           (λ k t. same (eqb i (loopAt l e)) q)
 
-module _ (s : TaskSet) (x : ℕ → ℕ) (L : Limits s) (C : Compliant s x) (B : Bounded s x) (l : List Entry) where
+module _ (s : TaskSet) (x : ℕ → ℕ) (L : Limits s) (C : Enough s x) (B : Bounded s x) (l : List Entry) where
   pub machine-met : (e : ℕ) → outcome (machineEngine s) l e ≡ met (machineEngine s) s l e
   unfolding outcome met verdict answerOf admitTests joinTests firstMet tooSoon full
   machine-met e = go (back l e) refl

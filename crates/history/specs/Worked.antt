@@ -1,5 +1,5 @@
--- Document 01's P10 in both forms and P11, and logs that meet 17, 20, 21 and 22, as theorems of the definitions: what a run on the abstract machine
--- writes of each entry.
+-- Document 01's P10 in both forms and P11, logs that meet 17, 20, 21 and 22, and one of no more loops than cores, as theorems of the definitions: what
+-- a run on the abstract machine writes of each entry.
 --     Case, cases       a table, a log, and what is written of each entry
 --     worked            the definitions say so of every case
 use Prim.Native.Nat.{ℕ, suc}
@@ -17,7 +17,7 @@ use Rattle.tasks.specs.Content.{noTask, taskOf}
 use Rattle.tasks.specs.Tests.{firstMet, outside}
 use Rattle.machine.specs.Admission.{joinTests, admitTests}
 use Rattle.machine.specs.Machine.{opened, joined, admitted, waiting, point, before, chosen, runs, served, advanced, tick}
-use Rattle.machine.specs.Met.{p3}
+use Rattle.machine.specs.Met.{p3, pair}
 use Rattle.history.specs.Engine.{Engine, verdict, demanded, namedTicks}
 use Rattle.history.specs.Log.{Entry, largest, back, until, calls, outcome, owed, allOwed, rest, whole}
 use Rattle.history.specs.OnMachine.{answerOf, handedOf, quietOf, machineEngine}
@@ -77,6 +77,12 @@ cases =
     ∷ [])
     4
     8
+    -- P3's first and third loop on its two cores: each finishes after its demand, in a log that isn't kept too
+    ∷ case pair
+    (entry 0 0 1 ∷ entry 0 1 3 ∷ entry 1 0 1 ∷ entry 1 2 1 ∷ entry 3 1 2 ∷ entry 3 0 1 ∷ [])
+    (finished 1 ∷ finished 3 ∷ refusal 22 ∷ refusal 20 ∷ finished 5 ∷ finished 4 ∷ [])
+    4
+    2
     ∷ []
 
 pub same : Report → Report → Bool
@@ -101,5 +107,5 @@ agreeAll [] = true
 agreeAll (c ∷ l) = agrees c && agreeAll l
 
 pub worked : T (agreeAll cases)
-unfolding cases same agree agrees agreeAll p3 first sum count tab place ranked member noTask taskOf outside firstMet opened joinTests admitTests joined admitted waiting point before chosen runs served advanced tick verdict demanded namedTicks largest back until calls outcome owed allOwed rest whole answerOf handedOf quietOf finishTick report takenCount refusedCount
+unfolding cases same agree agrees agreeAll p3 pair first sum count tab place ranked member noTask taskOf outside firstMet opened joinTests admitTests joined admitted waiting point before chosen runs served advanced tick verdict demanded namedTicks largest back until calls outcome owed allOwed rest whole answerOf handedOf quietOf finishTick report takenCount refusedCount
 worked = tt

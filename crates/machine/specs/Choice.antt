@@ -2,6 +2,7 @@
 --     earlyAt s M y i     whether loop i has a head with a priority point of at most y
 --     early-waits, early-point, point-early      that, in words of the choice
 --     left-out            where a head is left out, m loops run
+--     each-runs           so where loops are no more than cores, every head runs
 --     busy-run            where at least m heads have a priority point of at most y, m of those run
 --     calm-run            where fewer have one, all of those run
 --     earliest            document 01's choice has the three facts
@@ -16,7 +17,7 @@ use borrow.Author.Tests.{leb-true, le-leb, ltb-false, not-true, not-false}
 use Rattle.laws.specs.Sum.{sum, count}
 use Rattle.laws.specs.First.{first}
 use Rattle.laws.specs.FirstLaws.{first-or-none, first-holds, first-none}
-use Rattle.laws.specs.SumLaws.{sum-less, count-mono}
+use Rattle.laws.specs.SumLaws.{sum-less, count-mono, count-le, count-full}
 use Rattle.laws.specs.RankLaws.{order-less, chosen-in, chosen-count, chosen-best}
 use Rattle.tasks.specs.TaskSet.{TaskSet}
 use Rattle.machine.specs.Machine.{Job, job, Machine, pending, waiting, headRelease, point, before, chosen, runs, tick}
@@ -66,6 +67,14 @@ module _ (s : TaskSet) (M : Machine) where
         fewer : sum (λ i. cond (run i) 1 0) (s .count) < sum (λ i. cond (waiting M i) 1 0) (s .count)
         fewer =
             sum-less _ _ _ (λ i l. part (run i) (waiting M i) (λ e. E .heads i e .1)) j h (differ (run j) (waiting M j) idle wait)
+
+    -- "Where loops are no more than cores, the engine as it stands runs each loop with work at every step"
+    pub each-runs : s .count ≤ s .cores → (j : ℕ) → j < s .count → waiting M j ≡ true → run j ≡ true
+    each-runs few j h wait = go (run j) refl
+      where
+        go : (b : Bool) → run j ≡ b → run j ≡ true
+        go true p = p
+        go false p = count-full run (s .count) (omega (arith, left-out j h wait p, count-le run (s .count))) j h
 
     -- a head that is left out with a priority point of at most y leaves nobody with a later one to run
     only-early : (y j : ℕ) → j < s .count → earlyAt y j ≡ true → run j ≡ false → (i : ℕ) → run i ≡ true → earlyAt y i ≡ true

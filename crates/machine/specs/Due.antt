@@ -1,6 +1,6 @@
--- D after a tick: every head is in time still. A head that is left out just in time would make A larger than its loop's side of the
+-- D after a tick of a head that is left out: it is in time still. Left out just in time, it would make A larger than its loop's side of the
 -- condition of compliant slack.
---     ticked-in-time     D after a tick
+--     left-in-time     a head that is left out in a tick is in time after it
 use Prim.Native.Nat.{ℕ, suc, _+_, _-_, _*_, _≤_, _<_}
 use mathlib.Core.Bool.{Bool, true, false, cond}
 use mathlib.Core.Path.{_≡_, refl, ap}
@@ -11,13 +11,12 @@ use lib.Dec.{leb, eqb}
 use borrow.Author.Tests.{leb-true, leb-false, le-leb, eqb-true, eq-eqb, ne-eqb}
 use Rattle.laws.specs.Sum.{sum, count}
 use Rattle.laws.specs.SumLaws.{sum-mono, sum-add, sum-mul, sum-zero, sum-but-one, count-mono}
-use Rattle.tasks.specs.TaskSet.{TaskSet, hyperperiod, amount, cover, Compliant, bound}
-use Rattle.machine.specs.Machine.{Job, job, Machine, waiting, point, served, advanced}
+use Rattle.tasks.specs.TaskSet.{TaskSet, hyperperiod, amount, cover, Compliant}
+use Rattle.machine.specs.Machine.{Job, job, Machine, waiting, point}
 use Rattle.machine.specs.Reached.{EarliestFirst}
-use Rattle.machine.specs.Queue.{in-time-served}
 use Rattle.machine.specs.Owed.{served-owed}
 use Rattle.machine.specs.Choice.{earlyAt, point-early, left-out}
-use Rattle.machine.specs.Invariant.{Setting, nextOf, potentialOf, potential, Due, Invariant, overdue}
+use Rattle.machine.specs.Invariant.{Setting, nextOf, potentialOf, potential, sharedBound, Due, Invariant, overdue}
 
 -- m running heads and the one left out with w to do, d ticks after its priority point, against the loop's side of the condition
 clash :
@@ -75,7 +74,7 @@ module _ (s : TaskSet) (x : ℕ → ℕ) (S : Setting s x) (M : Machine) (I : In
               arith,
               rw (all-early i e) at
                   (served-owed (s .task i .separation) (s .task i .budget) (hyperperiod s) (s .task i .offset) (point s M j) (nextOf s M i) 0
-                  true (M .lane i .queue) (I .chain i l)),
+                  true (M .lane i .queue) (I .timely .chain i l)),
             )
         go false e = omega arith
 
@@ -101,10 +100,10 @@ module _ (s : TaskSet) (x : ℕ → ℕ) (S : Setting s x) (M : Machine) (I : In
         )
 
     head-in-time : Due s x (M .clock) j (job a w ∷ q)
-    head-in-time = rw here at (I .in-time j h)
+    head-in-time = rw here at (I .timely .in-time j h)
 
     head-small : w ≤ s .task j .budget
-    head-small = (rw here at (I .chain j h)) .2
+    head-small = (rw here at (I .timely .chain j h)) .2
 
     stuck : (d : ℕ) → point s M j + d ≡ M .clock → w + d ≡ x j + s .task j .budget → ⊥
     unfolding cover Compliant
@@ -122,26 +121,21 @@ module _ (s : TaskSet) (x : ℕ → ℕ) (S : Setting s x) (M : Machine) (I : In
             )
 
     in-time-idle : Due s x (suc (M .clock)) j (job a w ∷ q)
-    unfolding bound
-    in-time-idle = go (leb (suc (M .clock) + w) (a + bound s x j)) refl
+    in-time-idle = go (leb (suc (M .clock) + w) (a + sharedBound s x j)) refl
       where
-        go : (b : Bool) → leb (suc (M .clock) + w) (a + bound s x j) ≡ b → suc (M .clock) + w ≤ a + bound s x j
-        go true e = leb-true (suc (M .clock) + w) (a + bound s x j) e
+        go : (b : Bool) → leb (suc (M .clock) + w) (a + sharedBound s x j) ≡ b → suc (M .clock) + w ≤ a + sharedBound s x j
+        go true e = leb-true (suc (M .clock) + w) (a + sharedBound s x j) e
         go false e =
             absurd
             (stuck (M .clock - point s M j) (omega (arith, late, at-point, head-in-time, head-small))
             (omega (arith, late, at-point, head-in-time, head-small)))
           where
-            late : a + bound s x j < suc (M .clock) + w
-            late = leb-false (suc (M .clock) + w) (a + bound s x j) e
+            late : a + sharedBound s x j < suc (M .clock) + w
+            late = leb-false (suc (M .clock) + w) (a + sharedBound s x j) e
 
-  pub ticked-in-time : (j : ℕ) → j < s .count → Due s x (suc (M .clock)) j (advanced run M .lane j .queue)
-  unfolding advanced
-  ticked-in-time j h = go (run j) refl (M .lane j .queue) refl
+  pub left-in-time : (j : ℕ) → j < s .count → run j ≡ false → Due s x (suc (M .clock)) j (M .lane j .queue)
+  left-in-time j h idle = go (M .lane j .queue) refl
     where
-      go : (b : Bool) → run j ≡ b → (q : List Job) → M .lane j .queue ≡ q → Due s x (suc (M .clock)) j (cond b (served q) q)
-      go true e q here =
-          in-time-served (s .task j .separation) (s .task j .budget) _ (nextOf s M j) (S .budget-high j h) (M .clock) 0 q
-          (rw here at (I .chain j h)) (rw here at (I .in-time j h))
-      go false e [] here = tt
-      go false e (job a w ∷ q) here = in-time-idle j a w q h here e
+      go : (q : List Job) → M .lane j .queue ≡ q → Due s x (suc (M .clock)) j q
+      go [] here = tt
+      go (job a w ∷ q) here = in-time-idle j a w q h here idle

@@ -1,6 +1,9 @@
--- The invariant of the machine's state that carries the bound, and that the opening has it.
+-- The invariant of the machine's state that carries the bound where loops are more than cores, and that the opening has it.
 --     Setting s x          what is used of a task set within the limits and of compliant slack
 --     nextOf, potential    the next release of a loop; the work owed by a threshold y, times H, with a straight line for future releases
+--     Timely s b M         the loops' chains, and every head in time for the bound b of its loop: all that being on time rests on
+--     opening-timely       the opening has these, whatever the bounds
+--     sharedBound, Due     Y + x + C; a loop's head is in time for it
 --     Invariant s x M      the loops' chains, D, I1 and I2
 --     overdue              I1 and I2 in one, at every threshold up to the clock
 --     spread               the lines and surpluses of all loops
@@ -13,7 +16,7 @@ use native.Mathlib.Nat.{le-refl, mul-le-mul-left}
 use native.Mathlib.Omega.{arith}
 use Rattle.laws.specs.Sum.{sum, count}
 use Rattle.laws.specs.SumLaws.{sum-ext, sum-add, sum-mul, sumIn, count-none}
-use Rattle.tasks.specs.TaskSet.{TaskSet, hyperperiod, share, weight, surplus, amount, Compliant, bound}
+use Rattle.tasks.specs.TaskSet.{TaskSet, hyperperiod, share, weight, surplus, amount, Compliant, boundOf}
 use Rattle.machine.specs.Machine.{Job, Machine, opened}
 use Rattle.machine.specs.Queue.{next, Chain, InTime}
 use Rattle.machine.specs.Owed.{owed, line}
@@ -48,14 +51,25 @@ potential s M y = sum (potentialOf s M y) (s .count)
 abbrev pub Chained : TaskSet → Machine → ℕ → Type 0
 Chained s M i = Chain (s .task i .separation) (s .task i .budget) (nextOf s M i) 0 (M .lane i .queue)
 
+pub record Timely (s : TaskSet) (b : ℕ → ℕ) (M : Machine) : Type 0 where
+  pub chain : (i : ℕ) → i < s .count → Chained s M i
+  pub in-time : (i : ℕ) → i < s .count → InTime (M .clock) (b i) (M .lane i .queue)
+
+pub opening-timely : (s : TaskSet) (b : ℕ → ℕ) → Timely s b opened
+unfolding opened nextOf
+opening-timely s b = record { chain = λ i h. le-refl 0; in-time = λ i h. tt }
+
+-- the bound of loops that are more than the cores they share
+abbrev pub sharedBound : TaskSet → (ℕ → ℕ) → ℕ → ℕ
+sharedBound s x i = boundOf (s .task i) (x i)
+
 -- the head of loop i's queue q is in time at t
 abbrev pub Due : TaskSet → (ℕ → ℕ) → ℕ → ℕ → List Job → Type 0
-Due s x t i q = InTime t (bound s x i) q
+Due s x t i q = InTime t (sharedBound s x i) q
 
 pub record Invariant (s : TaskSet) (x : ℕ → ℕ) (M : Machine) : Type 0 where
-  pub chain : (i : ℕ) → i < s .count → Chained s M i
-  -- D: every head is in time
-  pub in-time : (i : ℕ) → i < s .count → Due s x (M .clock) i (M .lane i .queue)
+  -- chains, and D: every head is in time
+  pub timely : Timely s (sharedBound s x) M
   -- I1, at y = t + d
   pub ahead : (d : ℕ) → potential s M (M .clock + d) ≤ amount s x + s .cores * hyperperiod s * d
   -- I2, at y = t − (d + 1): fewer than m heads have a priority point of at most y, or this
@@ -106,11 +120,10 @@ module _ (s : TaskSet) (x : ℕ → ℕ) (S : Setting s x) where
       )
 
   pub opening-kept : Invariant s x opened
-  unfolding opened nextOf earlyAt
+  unfolding opened earlyAt
   opening-kept =
       record {
-        chain = λ i h. le-refl 0;
-        in-time = λ i h. tt;
+        timely = opening-timely s _;
         ahead = opening-potential;
         behind = λ y d e busy. absurd (omega (arith, S .cores-low, no-count));
       }

@@ -10,6 +10,7 @@ pub mod Invariant
 pub mod Release
 pub mod Due
 pub mod Tick
+pub mod OwnCore
 pub mod Theorem
 pub mod Sound
 pub mod Work

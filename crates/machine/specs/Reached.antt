@@ -35,8 +35,8 @@ AllInTime t b (job r w ∷ q) = (t + w ≤ r + b) × AllInTime (t + w) b q
 pub record OnTime (s : TaskSet) (x : ℕ → ℕ) (M : Machine) : Type 0 where
   -- every pending job is in time for its bound
   pub pending : (i : ℕ) → i < s .count → AllInTime (M .clock) (bound s x i) (M .lane i .queue)
-  -- whoever runs in a tick, a job that finishes in it has finish tick − release tick at most offset + slack + budget. (No release is
-  -- after the clock, so this difference isn't cut at 0: Sound.antt.)
+  -- whoever runs in a tick, a job that finishes in it has finish tick − release tick at most its bound: offset + slack + budget, or the budget
+  -- alone where loops are no more than cores. (No release is after the clock, so this difference isn't cut at 0: Sound.antt.)
   pub finished : (run : ℕ → Bool) (i : ℕ) → i < s .count → responses run M i ≤ bound s x i
   -- a loop whose separation has passed holds fewer than 16 jobs, so that 23 is never met
   pub room : Bounded s x → (i : ℕ) → i < s .count → tooSoon s M i ≡ false → length (M .lane i .queue) < 16

@@ -1,6 +1,7 @@
 -- A taken release keeps the invariant.
 --     each               what holds of every lane, and of loop i's with a release more, holds of every lane after the release
---     release-kept       the invariant after a taken release
+--     release-timely     chains and heads in time, after a taken release
+--     release-kept       the invariant after it
 use Prim.Native.Nat.{ℕ, _+_, _≤_, _<_}
 use mathlib.Core.Bool.{Bool, true, false, cond, true≢false}
 use mathlib.Core.Path.{_≡_, refl, sym, subst, _∙_}
@@ -11,12 +12,12 @@ use lib.Dec.{eqb}
 use borrow.Author.Tests.{eqb-true, lt-leb}
 use Rattle.laws.specs.Sum.{count}
 use Rattle.laws.specs.SumLaws.{sum-mono, count-mono}
-use Rattle.tasks.specs.TaskSet.{TaskSet, hyperperiod, share, bound}
+use Rattle.tasks.specs.TaskSet.{TaskSet, hyperperiod, share}
 use Rattle.machine.specs.Machine.{Job, job, Lane, Machine, tooSoon, Allowed, joined, admitted}
-use Rattle.machine.specs.Queue.{next, next-free, next-taken, Chain, chain-joined, in-time-joined}
+use Rattle.machine.specs.Queue.{next, next-free, next-taken, Chain, chain-joined, InTime, in-time-joined}
 use Rattle.machine.specs.Owed.{early, owed, line, release-line}
 use Rattle.machine.specs.Choice.{earlyAt}
-use Rattle.machine.specs.Invariant.{Setting, nextOf, potentialOf, potential, Chained, Due, Invariant}
+use Rattle.machine.specs.Invariant.{Setting, nextOf, potentialOf, potential, Chained, Timely, Invariant}
 
 pub each :
     (n : ℕ) (M : Machine) (i c : ℕ) (P : ℕ → Lane → Type 0) → ((j : ℕ) → j < n → P j (M .lane j)) → P i (joined (M .clock) c (M .lane i))
@@ -33,27 +34,32 @@ early-joined : (Y y t c : ℕ) (q : List Job) → y < t → early Y y (q ++ job 
 early-joined Y y t c [] less e = absurd (true≢false (sym e ∙ lt-leb (t + Y) y (omega arith)))
 early-joined Y y t c (job a w ∷ q) less e = e
 
-module _ (s : TaskSet) (x : ℕ → ℕ) (S : Setting s x) (M : Machine) (I : Invariant s x M) (i c : ℕ) (A : Allowed s M i c) where
+module _ (s : TaskSet) (M : Machine) (i c : ℕ) (A : Allowed s M i c) where
   now : nextOf s M i ≡ M .clock
   unfolding nextOf tooSoon
   now = next-free (s .task i .separation) (M .clock) (M .lane i .last) (A .apart)
 
-  release-chain : (j : ℕ) → j < s .count → Chained s (admitted i c M) j
+  release-chain : ((j : ℕ) → j < s .count → Chained s M j) → (j : ℕ) → j < s .count → Chained s (admitted i c M) j
   unfolding nextOf admitted joined
-  release-chain =
+  release-chain chain =
       each (s .count) M i c
       (λ j l. Chain (s .task j .separation) (s .task j .budget) (next (s .task j .separation) (M .clock) (l .last)) 0 (l .queue))
-      (I .chain)
+      chain
       (rw (next-taken (s .task i .separation) (M .clock))
       (chain-joined (s .task i .separation) (s .task i .budget) (M .clock) c 0 (M .lane i .queue) (A .demand-low) (A .demand-high)
-      (rw now at (I .chain i (A .in-table)))))
+      (rw now at (chain i (A .in-table)))))
 
-  release-in-time : (j : ℕ) → j < s .count → Due s x (M .clock) j (admitted i c M .lane j .queue)
-  unfolding joined bound
-  release-in-time =
-      each (s .count) M i c (λ j l. Due s x (M .clock) j (l .queue)) (I .in-time)
-      (in-time-joined (M .clock) _ c (M .lane i .queue) (omega (arith, A .demand-high)) (I .in-time i (A .in-table)))
+  pub release-timely : (b : ℕ → ℕ) → s .task i .budget ≤ b i → Timely s b M → Timely s b (admitted i c M)
+  unfolding admitted joined
+  release-timely b low I =
+      record {
+        chain = release-chain (I .chain);
+        in-time =
+            each (s .count) M i c (λ j l. InTime (M .clock) (b j) (l .queue)) (I .in-time)
+            (in-time-joined (M .clock) (b i) c (M .lane i .queue) (omega (arith, A .demand-high)) (I .in-time i (A .in-table)));
+      }
 
+module _ (s : TaskSet) (x : ℕ → ℕ) (S : Setting s x) (M : Machine) (I : Invariant s x M) (i c : ℕ) (A : Allowed s M i c) where
   release-potential : (y j : ℕ) → j < s .count → potentialOf s (admitted i c M) y j ≤ potentialOf s M y j
   unfolding potentialOf nextOf admitted joined
   release-potential y =
@@ -62,7 +68,7 @@ module _ (s : TaskSet) (x : ℕ → ℕ) (S : Setting s x) (M : Machine) (I : In
       + line (share s j) (s .task j .separation) (s .task j .offset) y (next (s .task j .separation) (M .clock) (l .last))
       ≤ potentialOf s M y j)
       (λ j h. le-refl _)
-      (rw (next-taken (s .task i .separation) (M .clock), now)
+      (rw (next-taken (s .task i .separation) (M .clock), now s M i c A)
       (release-line (s .task i .separation) (s .task i .budget) (s .task i .offset) (share s i) (hyperperiod s)
       (S .share-exact i (A .in-table)) (S .offset-high i (A .in-table)) y (M .clock) c (M .lane i .queue) (A .demand-high)))
 
@@ -76,8 +82,7 @@ module _ (s : TaskSet) (x : ℕ → ℕ) (S : Setting s x) (M : Machine) (I : In
   unfolding admitted potential
   release-kept =
       record {
-        chain = release-chain;
-        in-time = release-in-time;
+        timely = release-timely s M i c A _ (omega arith) (I .timely);
         ahead = λ d. le-trans (fewer (M .clock + d)) (I .ahead d);
         behind = λ y d e busy. omega (arith, fewer y, I .behind y d e (le-trans busy (as-early y (omega arith))));
       }

@@ -1,28 +1,32 @@
--- The bound theorem: every machine that is reached from an opening, on a task set within the limits and with compliant slack, is on time.
+-- The bound theorem: every machine that is reached from an opening, on a task set within the limits and with compliant slack where loops are more
+-- than cores, is on time.
 --     setting               the limits and compliant slack give all that is used of them
---     reached-kept          every machine that is reached has the invariant
---     on-time               a machine that has it is on time
---     bound-theorem         the two together; accepted-on-time: for every content that meets none of 3 to 13
+--     reached-kept          where loops are more than cores, every machine that is reached has the invariant
+--     reached-timely        on any task set, its chains and its heads in time for the bound
+--     on-time               a machine that has these is on time
+--     bound-theorem         the two together
 --     never-full            23 is never met where 22 isn't
 --     reached-holds         no loop ever holds more than 16 jobs
 use Prim.Native.Nat.{ℕ, zero, suc, _≤_, _<_}
 use mathlib.Core.Bool.{Bool, true, false, cond}
-use mathlib.Core.Path.{_≡_}
+use mathlib.Core.Path.{_≡_, refl, fun-ext}
 use mathlib.Core.List.{List, [], _∷_}
 use native.Mathlib.Nat.{le-trans, le-suc, le-refl}
 use native.Mathlib.Omega.{arith}
 use lib.ListN.{length, length-append}
-use borrow.Author.Tests.{lt-leb}
-use Rattle.tasks.specs.TaskSet.{TaskSet, Compliant, bound}
-use Rattle.tasks.specs.Limits.{Limits, Bounded}
+use borrow.Author.Tests.{lt-leb, leb-true}
+use Rattle.tasks.specs.TaskSet.{TaskSet, Compliant, coreForEach, bound}
+use Rattle.tasks.specs.Limits.{Limits, Enough, Bounded}
 use Rattle.tasks.specs.ShareLaws.{timed, hyperperiod-low, share-exact, share-le}
 use Rattle.tasks.specs.AmountLaws.{amount-best}
+use Rattle.tasks.specs.BoundLaws.{bound-each, bound-more}
 use Rattle.machine.specs.Machine.{Job, job, Machine, opened, tooSoon, full, joined, served, response, responses, advanced}
 use Rattle.machine.specs.Reached.{Reached, opening, release, ticked, OnTime}
 use Rattle.machine.specs.Queue.{next-free, all-in-time, in-time-response, in-time-room}
-use Rattle.machine.specs.Invariant.{Setting, nextOf, Invariant, opening-kept}
+use Rattle.machine.specs.Invariant.{Setting, nextOf, Timely, Invariant, opening-kept}
 use Rattle.machine.specs.Release.{each, release-kept}
 use Rattle.machine.specs.Tick.{tick-kept}
+use Rattle.machine.specs.OwnCore.{own-core-kept}
 
 pub setting : (s : TaskSet) (x : ℕ → ℕ) → Limits s → Compliant s x → Setting s x
 setting s x L c =
@@ -43,29 +47,36 @@ reached-kept s x S opening = opening-kept s x S
 reached-kept s x S (release {M = M} i c a r) = release-kept s x S M (reached-kept s x S r) i c a
 reached-kept s x S (ticked {M = M} run e r) = tick-kept s x S M (reached-kept s x S r) run e
 
-pub on-time : (s : TaskSet) (x : ℕ → ℕ) → Setting s x → (M : Machine) → Invariant s x M → OnTime s x M
+pub reached-timely : (s : TaskSet) (x : ℕ → ℕ) → Limits s → Enough s x → {M : Machine} → Reached s M → Timely s (bound s x) M
+reached-timely s x L e {M} r = go (coreForEach (s .cores) (s .count)) refl
+  where
+    go : (b : Bool) → coreForEach (s .cores) (s .count) ≡ b → Timely s (bound s x) M
+    go true each = rw (fun-ext (bound-each s x each)) (own-core-kept s (leb-true _ _ each) (L .budget-high) r)
+    go false more = rw (fun-ext (bound-more s x more)) (reached-kept s x (setting s x L (e more)) r .timely)
+
+pub on-time : (s : TaskSet) (x : ℕ → ℕ) → Limits s → (M : Machine) → Timely s (bound s x) M → OnTime s x M
 unfolding responses tooSoon nextOf Bounded
-on-time s x S M I =
+on-time s x L M I =
     record {
       pending = λ i h.
-          all-in-time (s .task i .separation) (s .task i .budget) _ (nextOf s M i) (S .budget-high i h) (M .clock) 0 (M .lane i .queue)
+          all-in-time (s .task i .separation) (s .task i .budget) _ (nextOf s M i) (L .budget-high i h) (M .clock) 0 (M .lane i .queue)
           (I .chain i h) (I .in-time i h);
       finished = λ run i h. ran (run i) i h;
       room = λ B i h free.
-          in-time-room (s .task i .separation) (s .task i .budget) _ (M .clock) (S .budget-high i h) 0 (M .lane i .queue) (B i h)
+          in-time-room (s .task i .separation) (s .task i .budget) _ (M .clock) (L .budget-high i h) 0 (M .lane i .queue) (B i h)
           (rw (next-free (s .task i .separation) (M .clock) (M .lane i .last) free) at (I .chain i h)) (I .in-time i h);
     }
   where
     ran : (b : Bool) (i : ℕ) → i < s .count → cond b (response (suc (M .clock)) (M .lane i .queue)) 0 ≤ bound s x i
     ran true i h =
-        in-time-response (s .task i .separation) (s .task i .budget) _ (nextOf s M i) (S .budget-high i h) (M .clock) 0 (M .lane i .queue)
+        in-time-response (s .task i .separation) (s .task i .budget) _ (nextOf s M i) (L .budget-high i h) (M .clock) 0 (M .lane i .queue)
         (I .chain i h) (I .in-time i h)
     ran false i h = omega arith
 
-pub bound-theorem : (s : TaskSet) (x : ℕ → ℕ) → Limits s → Compliant s x → (M : Machine) → Reached s M → OnTime s x M
-bound-theorem s x L c M r = on-time s x (setting s x L c) M (reached-kept s x (setting s x L c) r)
+pub bound-theorem : (s : TaskSet) (x : ℕ → ℕ) → Limits s → Enough s x → (M : Machine) → Reached s M → OnTime s x M
+bound-theorem s x L e M r = on-time s x L M (reached-timely s x L e r)
 
-module _ (s : TaskSet) (x : ℕ → ℕ) (L : Limits s) (C : Compliant s x) (B : Bounded s x) where
+module _ (s : TaskSet) (x : ℕ → ℕ) (L : Limits s) (C : Enough s x) (B : Bounded s x) where
   pub never-full : (M : Machine) → Reached s M → (i : ℕ) → i < s .count → tooSoon s M i ≡ false → full M i ≡ false
   unfolding full
   never-full M r i h free = lt-leb 16 (length (M .lane i .queue)) (bound-theorem s x L C M r .room B i h free)

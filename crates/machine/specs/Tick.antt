@@ -1,5 +1,6 @@
 -- A tick keeps the invariant, whoever runs in it under the three facts of a choice.
---     tick-kept      the invariant after a tick
+--     ticked-timely     chains and heads in time after a tick, where the heads that are left out are in time still
+--     tick-kept         the invariant after a tick
 use Prim.Native.Nat.{ℕ, suc, _+_, _*_, _≤_, _<_}
 use mathlib.Core.Bool.{Bool, true, false, cond, _&&_}
 use mathlib.Core.Path.{_≡_, refl}
@@ -11,14 +12,14 @@ use lib.Dec.{leb}
 use borrow.Author.Tests.{leb-true, leb-false}
 use Rattle.laws.specs.Sum.{count}
 use Rattle.laws.specs.SumLaws.{sum-mono, sum-add, sum-mul, sumIn, count-mono}
-use Rattle.tasks.specs.TaskSet.{TaskSet, hyperperiod, share, weight, surplus, amount, bound}
+use Rattle.tasks.specs.TaskSet.{TaskSet, hyperperiod, share, weight, surplus, amount}
 use Rattle.machine.specs.Machine.{Job, Machine, served, advanced}
 use Rattle.machine.specs.Reached.{EarliestFirst}
-use Rattle.machine.specs.Queue.{next, next-later, next-clock, Chain, chain-later, chain-served}
+use Rattle.machine.specs.Queue.{next, next-later, next-clock, Chain, chain-later, chain-served, InTime, in-time-served}
 use Rattle.machine.specs.Owed.{served-owed, early-served, line-later, calm}
 use Rattle.machine.specs.Choice.{earlyAt, busy-run, calm-run}
-use Rattle.machine.specs.Invariant.{Setting, nextOf, potentialOf, potential, Chained, Invariant, overdue, spread}
-use Rattle.machine.specs.Due.{ticked-in-time}
+use Rattle.machine.specs.Invariant.{Setting, nextOf, potentialOf, potential, Chained, Timely, Invariant, overdue, spread}
+use Rattle.machine.specs.Due.{left-in-time}
 
 chain-ticked :
     (T C t : ℕ) (last : Option ℕ) (b : Bool) (q : List Job) → Chain T C (next T t last) 0 q
@@ -27,12 +28,27 @@ chain-ticked T C t last true q c =
     chain-served T C (next T (suc t) last) 0 q (chain-later T C (next T t last) (next T (suc t) last) 0 q (next-later T t last) c)
 chain-ticked T C t last false q c = chain-later T C (next T t last) (next T (suc t) last) 0 q (next-later T t last) c
 
-module _ (s : TaskSet) (x : ℕ → ℕ) (S : Setting s x) (M : Machine) (I : Invariant s x M) (run : ℕ → Bool) where
+module _ (s : TaskSet) (b : ℕ → ℕ) (M : Machine) (I : Timely s b M) (run : ℕ → Bool) where
   ticked-chain : (j : ℕ) → j < s .count → Chained s (advanced run M) j
   unfolding nextOf advanced
   ticked-chain j h =
       chain-ticked (s .task j .separation) (s .task j .budget) (M .clock) (M .lane j .last) (run j) (M .lane j .queue) (I .chain j h)
 
+  pub ticked-timely :
+      ((j : ℕ) → j < s .count → s .task j .budget ≤ s .task j .separation)
+      → ((j : ℕ) → j < s .count → run j ≡ false → InTime (suc (M .clock)) (b j) (M .lane j .queue))
+      → Timely s b (advanced run M)
+  unfolding advanced
+  ticked-timely small left = record { chain = ticked-chain; in-time = λ j h. go j h (run j) refl }
+    where
+      go :
+          (j : ℕ) → j < s .count → (r : Bool) → run j ≡ r → InTime (suc (M .clock)) (b j) (cond r (served (M .lane j .queue)) (M .lane j .queue))
+      go j h true e =
+          in-time-served (s .task j .separation) (s .task j .budget) (b j) (nextOf s M j) (small j h) (M .clock) 0 (M .lane j .queue)
+          (I .chain j h) (I .in-time j h)
+      go j h false e = left j h e
+
+module _ (s : TaskSet) (x : ℕ → ℕ) (S : Setting s x) (M : Machine) (I : Invariant s x M) (run : ℕ → Bool) where
   -- a loop that runs with an early head owes H less
   ticked-less :
       (y j : ℕ) → j < s .count
@@ -42,7 +58,7 @@ module _ (s : TaskSet) (x : ℕ → ℕ) (S : Setting s x) (M : Machine) (I : In
       omega (
         arith,
         served-owed (s .task j .separation) (s .task j .budget) (hyperperiod s) (s .task j .offset) y (nextOf s M j) 0 (run j)
-            (M .lane j .queue) (I .chain j h),
+            (M .lane j .queue) (I .timely .chain j h),
         line-later (share s j) (s .task j .separation) (s .task j .offset) y (nextOf s M j) (nextOf s (advanced run M) j)
             (next-later (s .task j .separation) (M .clock) (M .lane j .last)),
       )
@@ -51,7 +67,7 @@ module _ (s : TaskSet) (x : ℕ → ℕ) (S : Setting s x) (M : Machine) (I : In
   unfolding advanced earlyAt
   ticked-early y j h =
       early-served (s .task j .separation) (s .task j .budget) (s .task j .offset) y (nextOf s M j) 0 (run j) (M .lane j .queue)
-      (I .chain j h)
+      (I .timely .chain j h)
 
   ticked-sum :
       (y : ℕ) → potential s (advanced run M) y + hyperperiod s * count (λ j. run j && earlyAt s M y j) (s .count) ≤ potential s M y
@@ -76,7 +92,7 @@ module _ (s : TaskSet) (x : ℕ → ℕ) (S : Setting s x) (M : Machine) (I : In
         (d j : ℕ) → count (earlyAt s M (suc (M .clock) + d)) (s .count) < s .cores → j < s .count
         → potentialOf s (advanced run M) (suc (M .clock) + d) j
         ≤ (d * share s j + surplus s j) + cond (earlyAt s M (suc (M .clock) + d) j) (weight s x j) 0
-    unfolding potentialOf nextOf advanced earlyAt surplus weight bound
+    unfolding potentialOf nextOf advanced earlyAt surplus weight
     calm-loop d j few h =
         omega (
           arith,
@@ -84,8 +100,8 @@ module _ (s : TaskSet) (x : ℕ → ℕ) (S : Setting s x) (M : Machine) (I : In
               (S .offset-high j h) (x j) (M .clock) d (nextOf s (advanced run M) j) (S .share-le j h)
               (next-clock (s .task j .separation) (suc (M .clock)) (M .lane j .last)) 0 (run j) (M .lane j .queue)
               (chain-later (s .task j .separation) (s .task j .budget) (nextOf s M j) (nextOf s (advanced run M) j) 0 (M .lane j .queue)
-              (next-later (s .task j .separation) (M .clock) (M .lane j .last)) (I .chain j h))
-              (I .in-time j h) (calm-run s M run E (suc (M .clock) + d) few j h),
+              (next-later (s .task j .separation) (M .clock) (M .lane j .last)) (I .timely .chain j h))
+              (I .timely .in-time j h) (calm-run s M run E (suc (M .clock) + d) few j h),
         )
 
     calm-sum :
@@ -127,8 +143,7 @@ module _ (s : TaskSet) (x : ℕ → ℕ) (S : Setting s x) (M : Machine) (I : In
     unfolding advanced
     tick-kept =
         record {
-          chain = ticked-chain;
-          in-time = ticked-in-time s x S M I run E;
+          timely = ticked-timely s _ M (I .timely) run (S .budget-high) (left-in-time s x S M I run E);
           ahead = ticked-ahead;
           behind = ticked-behind;
         }

@@ -6,6 +6,7 @@
 --     entriesOf, tickOf, loopOf, demandOf           of a log l: its number of entries, and entry e's three numbers
 --     kindOf, valueOf                              of a log run's answer w: entry e's kind, and the finish tick or refusal number behind it
 --     slackLeft, boundLeft                              of a judgement's answer b: loop i's slack and bound
+--     withinOf                                      of a table t and slack x: the ticks within which loop i's releases finish
 --     FourConditions                                the four conditions of an entry
 --     KeepsTable                                    the log keeps the table
 --     Outcome                                       the statement
@@ -14,7 +15,7 @@ use mathlib.Core.Path.{_≡_}
 use mathlib.Core.Logic.{_↔_, _⊎_}
 use mathlib.Core.Bool.{cond}
 use mathlib.Core.List.{List}
-use lib.Dec.{eqb}
+use lib.Dec.{leb, eqb}
 use Rattle.numbers.specs.Bytes.{byte, number}
 
 -- "The first byte is the edition". "Three sections follow in this order, each after a one-byte count": m at 1, m labels, n, the loops
@@ -65,6 +66,10 @@ slackLeft b i = number 4 b (8 * i)
 abbrev pub boundLeft : List ℕ → ℕ → ℕ
 boundLeft b i = number 4 b (8 * i + 4)
 
+-- "within offset + slack + budget"; "Where loops are no more than cores, … now within the budget alone"
+abbrev pub withinOf : List ℕ → (ℕ → ℕ) → ℕ → ℕ
+withinOf t x i = cond (leb (loopsOf t) (coresOf t)) (budgetOf t i) (offsetOf t i + x i + budgetOf t i)
+
 pub record FourConditions (t l w : List ℕ) (e : ℕ) : Type 0 where
   -- 17: the tick is below no earlier entry's
   pub onward : (j : ℕ) → j < e → tickOf l j ≤ tickOf l e
@@ -91,15 +96,15 @@ pub record Outcome (t l w b : List ℕ) : Type 0 where
   pub kinds : (e : ℕ) → e < entriesOf l → (kindOf w e ≡ 1) ⊎ ((kindOf w e ≡ 2) × (valueOf w e ≤ 22))
   -- "a release is taken exactly when document 01's four conditions hold"
   pub taken : (e : ℕ) → e < entriesOf l → (kindOf w e ≡ 1) ↔ FourConditions t l w e
-  -- "and every taken release finishes within offset + slack + budget"
+  -- "and every taken release finishes within offset + slack + budget", or "within the budget alone"
   pub in-time :
       (e : ℕ) → e < entriesOf l → kindOf w e ≡ 1
-      → valueOf w e ≤ tickOf l e + (offsetOf t (loopOf l e) + slackLeft b (loopOf l e) + budgetOf t (loopOf l e))
+      → valueOf w e ≤ tickOf l e + withinOf t (slackLeft b) (loopOf l e)
   -- "all do exactly if the log keeps the table"
   pub all-in-time :
       ((e : ℕ) → e < entriesOf l
       → (kindOf w e ≡ 1)
-      × (valueOf w e ≤ tickOf l e + (offsetOf t (loopOf l e) + slackLeft b (loopOf l e) + budgetOf t (loopOf l e))))
+      × (valueOf w e ≤ tickOf l e + withinOf t (slackLeft b) (loopOf l e)))
       ↔ KeepsTable t l
-  -- "The bound of a loop is Y + x + C"
-  pub bounds : (i : ℕ) → i < loopsOf t → boundLeft b i ≡ offsetOf t i + slackLeft b i + budgetOf t i
+  -- "The bound of a loop is Y + x + C"; where loops are no more than cores, "its bound is its budget"
+  pub bounds : (i : ℕ) → i < loopsOf t → boundLeft b i ≡ withinOf t (slackLeft b) i

@@ -23,14 +23,14 @@ use Rattle.logs.specs.LogBytes.{entryCount, entriesIn, logTest, reportsTo}
 use Rattle.logs.specs.LogLaws.{entries-length, tick-at, loop-at, demand-at}
 use Rattle.history.specs.Engine.{Outcome as Said, taken, refused, isTaken, Engine}
 use Rattle.history.specs.Log.{Entry, tickAt, loopAt, demandAt, outcome as outcomeOf, Taken, Finishes, Keeps, Claim}
-use Rattle.history.specs.ClaimLaws.{Conditions, in-time-sum, takes-conditions, history-log}
+use Rattle.history.specs.ClaimLaws.{promised, Conditions, in-time-sum, takes-conditions, history-log}
 use Rattle.history.specs.Refusals.{met-high}
 use Rattle.history.specs.Report.{report, report-finished, report-refused, takenCount, refusedCount}
 use Rattle.delivered.specs.Demand3.{runOn, log-early, demand-3, demand-histories, demand-numbers, demand-ends}
 use Rattle.replay.specs.Ran.{runTest, ranOf, runLeaves}
 use Rattle.dahomike.specs.Answers.{answerNumber, judgeTest, judgeNumber, judgeLeaves, runNumber}
-use Rattle.outcome.specs.Outcome.{loopsOf, separationOf, budgetOf, offsetOf, entriesOf, tickOf, loopOf, demandOf, kindOf, valueOf, slackLeft, boundLeft, FourConditions, KeepsTable, Outcome}
-use Rattle.outcome.specs.ReadLaws.{same-loops, separation-at, budget-at, offset-at, finish-kind, refusal-kind, finish-number, refusal-number, sum-high, slack-at, bound-at}
+use Rattle.outcome.specs.Outcome.{loopsOf, separationOf, budgetOf, entriesOf, tickOf, loopOf, demandOf, kindOf, valueOf, slackLeft, boundLeft, withinOf, FourConditions, KeepsTable, Outcome}
+use Rattle.outcome.specs.ReadLaws.{same-loops, same-cores, separation-at, budget-at, offset-at, finish-kind, refusal-kind, finish-number, refusal-number, within-high, slack-at, bound-at}
 
 module _ (t l : List ℕ) (a : verdict t ≡ Accepted) (b : logTest l ≡ Accepted) (out : List ℕ) where
   abbrev E : Engine
@@ -82,28 +82,26 @@ module _ (t l : List ℕ) (a : verdict t ≡ Accepted) (b : logTest l ≡ Accept
       budget-is : s .task (loopAt L e) .budget ≡ budgetOf t (loopOf l e)
       budget-is = rw (loop-is) (budget-at t (loopOf l e) i)
 
-      sum-is :
-          s .task (loopAt L e) .offset + x (loopAt L e) + s .task (loopAt L e) .budget
-          ≡ offsetOf t (loopOf l e) + x (loopOf l e) + budgetOf t (loopOf l e)
-      sum-is = rw (loop-is, offset-at t (loopOf l e) i, budget-at t (loopOf l e) i)
+      within-is : promised s x (loopAt L e) ≡ withinOf t x (loopOf l e)
+      within-is = rw (loop-is, same-loops t, same-cores t, offset-at t (loopOf l e) i, budget-at t (loopOf l e) i)
 
     -- a taken entry's loop is in the table
     known : Taken E L e → loopOf l e < loopsOf t
     known q = omega (arith, takes-conditions E s x L claim e (in-log h) .0 q .in-table, loop-is, same-loops t)
 
-    late : (f : ℕ) → Finishes E L e f → f ≤ tickOf l e + (offsetOf t (loopOf l e) + x (loopOf l e) + budgetOf t (loopOf l e))
+    late : (f : ℕ) → Finishes E L e f → f ≤ tickOf l e + withinOf t x (loopOf l e)
     late f F =
         omega (
           arith,
           history-log E s x 4000000000 (demand-histories t a) L (demand-ends t a l b) e f (in-log h) F,
           tick-is,
-          sum-is (known (F .0)),
+          within-is (known (F .0)),
         )
 
     pub finish-is : (f : ℕ) → Finishes E L e f → valueOf w e ≡ f
     finish-is f F =
         finish-number (report E L) (entryCount l) out e below f (report-finished E L e f F)
-        (omega (arith, late f F, sum-high t a (loopOf l e) (known (F .0)), log-early l b e (in-log h), tick-is))
+        (omega (arith, late f F, within-high t a (loopOf l e) (known (F .0)), log-early l b e (in-log h), tick-is))
 
     pub taken-kind : Taken E L e → kindOf w e ≡ 1
     taken-kind q =
@@ -249,8 +247,10 @@ module _ (t l : List ℕ) (a : verdict t ≡ Accepted) (b : logTest l ≡ Accept
   -- the slack is given by its bytes in a judgement's answer c
   module _ (c : List ℕ) (slack-is : (i : ℕ) → i < loopsOf t → slackLeft c i ≡ x i) where
     TakenInTime : ℕ → Type 0
-    TakenInTime e =
-        (kindOf w e ≡ 1) × (valueOf w e ≤ tickOf l e + (offsetOf t (loopOf l e) + slackLeft c (loopOf l e) + budgetOf t (loopOf l e)))
+    TakenInTime e = (kindOf w e ≡ 1) × (valueOf w e ≤ tickOf l e + withinOf t (slackLeft c) (loopOf l e))
+
+    within-left : (i : ℕ) → i < loopsOf t → withinOf t (slackLeft c) i ≡ withinOf t x i
+    within-left i h = rw (slack-is i h)
 
     finishes : (e : ℕ) (h : e < entriesOf l) → kindOf w e ≡ 1 → Finishes E L e (valueOf w e)
     finishes e h q =
@@ -261,7 +261,7 @@ module _ (t l : List ℕ) (a : verdict t ≡ Accepted) (b : logTest l ≡ Accept
     unfolding TakenInTime
     kind-in-time e h q =
         let i = known e h (kind-taken e h q) in
-        (q, omega (arith, late e h (valueOf w e) (finishes e h q), slack-is (loopOf l e) i))
+        (q, omega (arith, late e h (valueOf w e) (finishes e h q), within-left (loopOf l e) i))
 
     all-kept : ((e : ℕ) → e < entriesOf l → TakenInTime e) → KeepsTable t l
     unfolding TakenInTime
@@ -272,7 +272,7 @@ module _ (t l : List ℕ) (a : verdict t ≡ Accepted) (b : logTest l ≡ Accept
         let h = in-bytes m in
         let i = known e h (kind-taken e h (all e h .0)) in
         in-time-sum E s x L e .1
-        (valueOf w e, finishes e h (all e h .0), omega (arith, all e h .1, slack-is (loopOf l e) i, tick-is e h, sum-is e h i))))
+        (valueOf w e, finishes e h (all e h .0), omega (arith, all e h .1, within-left (loopOf l e) i, tick-is e h, within-is e h i))))
 
     kept-all : KeepsTable t l → (e : ℕ) → e < entriesOf l → TakenInTime e
     unfolding TakenInTime
@@ -280,10 +280,10 @@ module _ (t l : List ℕ) (a : verdict t ≡ Accepted) (b : logTest l ≡ Accept
         let T = in-time-sum E s x L e .0 (claim .all-in-time .1 (keeps K) e (in-log h)) in
         let i = K .in-table e h in (
           taken-kind e h (T .1 .0),
-          omega (arith, T .2, finish-is e h (T .0) (T .1), slack-is (loopOf l e) i, tick-is e h, sum-is e h i),
+          omega (arith, T .2, finish-is e h (T .0) (T .1), within-left (loopOf l e) i, tick-is e h, within-is e h i),
         )
 
-    whole-outcome : ((i : ℕ) → i < loopsOf t → boundLeft c i ≡ offsetOf t i + x i + budgetOf t i) → Outcome t l w c
+    whole-outcome : ((i : ℕ) → i < loopsOf t → boundLeft c i ≡ withinOf t x i) → Outcome t l w c
     unfolding TakenInTime
     whole-outcome bound-is =
         record {
@@ -293,7 +293,7 @@ module _ (t l : List ℕ) (a : verdict t ≡ Accepted) (b : logTest l ≡ Accept
               (λ q. fits e h (same .0 (kind-taken e h q)), λ F. taken-kind e h (same .1 (meets e h F)));
           in-time = λ e h q. omega (arith, kind-in-time e h q .1);
           all-in-time = (all-kept, kept-all);
-          bounds = λ i h. omega (arith, bound-is i h, slack-is i h);
+          bounds = λ i h. bound-is i h ∙ sym (within-left i h);
         }
 
   -- ---- the counts

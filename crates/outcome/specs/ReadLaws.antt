@@ -1,11 +1,13 @@
 -- What stands at the places that the statement names: the numbers of the plan, of the log and of the reports.
---     same-loops, separation-at, budget-at, offset-at       what a table's bytes say of its loops
+--     same-loops, same-cores, separation-at, budget-at, offset-at       what a table's bytes say of its loops and cores
 --     finish-kind, finish-number                            the eight bytes that a log run leaves of an entry that is reported as finished
 --     refusal-kind, refusal-number                          and of one that is reported as refused
---     sum-high                                              Y + x + C is at most 1,600,000 for a loop of an accepted table
+--     within-high                                           a loop of an accepted table has at most 1,600,000 ticks
 --     slack-at, bound-at                                    the eight bytes that the C judgement leaves of loop i
 use Prim.Native.Nat.{ℕ, _+_, _*_, _≤_, _<_}
-use mathlib.Core.Path.{_≡_, refl, ap, _∙_}
+use mathlib.Core.Bool.{Bool, true, false, true≢false}
+use mathlib.Core.Path.{_≡_, refl, sym, ap, _∙_}
+use mathlib.Core.Logic.{⊎-elim}
 use mathlib.Core.List.{List, [], _++_, append-nil}
 use native.Mathlib.Nat.{add-zero}
 use native.Mathlib.Omega.{arith}
@@ -13,11 +15,13 @@ use lib.ListN.{length, drop, length-append}
 use Rattle.laws.specs.TabLaws.{cut-below}
 use Rattle.tasks.specs.declared.Task.{Task}
 use Rattle.tasks.specs.declared.Answer.the-variants.{Accepted}
-use Rattle.tasks.specs.TaskSet.{bound}
+use Rattle.tasks.specs.TaskSet.{TaskSet, coreForEach, bound}
 use Rattle.tasks.specs.Limits.{Bounded}
 use Rattle.tasks.specs.Content.{noTask}
 use Rattle.tasks.specs.Tests.{tests}
-use Rattle.tasks.specs.TestsLaws.{tests-limits, tests-bounded}
+use Rattle.tasks.specs.BoundLaws.{bound-more}
+use Rattle.tasks.specs.FoundLaws.{found-zeros}
+use Rattle.tasks.specs.TestsLaws.{tests-passed, tests-limits, tests-bounded}
 use Rattle.numbers.specs.Bytes.{number, digits, entries}
 use Rattle.numbers.specs.ByteLaws.{length-digits, number-digits-at, number-entries}
 use Rattle.codec.specs.Table.{taskSize, editionIn, coreCount, taskCount, tasksAt, taskIn, taskSetIn, contentIn, verdict}
@@ -26,7 +30,7 @@ use Rattle.history.specs.Report.{Report, finished, refusal}
 use Rattle.logs.specs.LogBytes.{reportBytes, reportsTo}
 use Rattle.logs.specs.ReportLaws.{length-report}
 use Rattle.dahomike.specs.Answers as answers
-use Rattle.outcome.specs.Outcome.{coresOf, loopsOf, sizeOf, separationOf, budgetOf, offsetOf, kindOf, valueOf, slackLeft, boundLeft}
+use Rattle.outcome.specs.Outcome.{coresOf, loopsOf, sizeOf, separationOf, budgetOf, offsetOf, kindOf, valueOf, slackLeft, boundLeft, withinOf}
 
 -- ---- the table
 
@@ -34,6 +38,10 @@ module _ (t : List ℕ) where
   pub same-loops : contentIn t .tasks .count ≡ loopsOf t
   unfolding contentIn taskSetIn taskCount coreCount
   same-loops = refl
+
+  pub same-cores : contentIn t .tasks .cores ≡ coresOf t
+  unfolding contentIn taskSetIn coreCount
+  same-cores = refl
 
   module _ (i : ℕ) (h : i < loopsOf t) where
     task-at : contentIn t .tasks .task i ≡ taskIn (editionIn t) t (3 + coresOf t + sizeOf t * i)
@@ -129,14 +137,31 @@ module _ (t : List ℕ) (a : verdict t ≡ Accepted) (i : ℕ) (h : i < loopsOf 
   inside : i < contentIn t .tasks .count
   inside = rw (same-loops t) h
 
-  bound-sum : bound (contentIn t .tasks) (contentIn t .slack) i ≡ offsetOf t i + contentIn t .slack i + budgetOf t i
+  bound-within : bound (contentIn t .tasks) (contentIn t .slack) i ≡ withinOf t (contentIn t .slack) i
   unfolding bound
-  bound-sum = rw (offset-at t i h, budget-at t i h)
+  bound-within = rw (same-loops t, same-cores t, offset-at t i h, budget-at t i h)
 
-  pub sum-high : offsetOf t i + contentIn t .slack i + budgetOf t i ≤ 1600000
+  bound-high : bound (contentIn t .tasks) (contentIn t .slack) i ≤ 1600000
   unfolding Bounded
-  sum-high =
-      omega (arith, bound-sum, tests-bounded (contentIn t) passed i inside, tests-limits (contentIn t) passed .separation-high i inside)
+  bound-high = omega (arith, tests-bounded (contentIn t) passed i inside, tests-limits (contentIn t) passed .separation-high i inside)
+
+  pub within-high : withinOf t (contentIn t .slack) i ≤ 1600000
+  within-high = rw bound-within at bound-high
+
+  -- where loops are no more than cores no slack is offered, and the found one is 0
+  slack-high : contentIn t .slack i ≤ 1600000
+  slack-high = go (coreForEach (s .cores) (s .count)) refl
+    where
+      s : TaskSet
+      s = contentIn t .tasks
+
+      go : (b : Bool) → coreForEach (s .cores) (s .count) ≡ b → contentIn t .slack i ≤ 1600000
+      go true each =
+          ⊎-elim
+          (λ (z : contentIn t .offers ≡ 0). omega (arith, tests-passed (contentIn t) passed .as-found z i inside, found-zeros s each i))
+          (λ (n : (coreForEach (s .cores) (s .count) ≡ false) × (contentIn t .offers ≡ s .count)). absurd (true≢false (sym each ∙ n .0)))
+          (tests-passed (contentIn t) passed .offers)
+      go false more = omega (arith, bound-high, bound-more s (contentIn t .slack) more i)
 
   module _ (rest : List ℕ) where
     pair : ℕ → List ℕ
@@ -146,11 +171,11 @@ module _ (t : List ℕ) (a : verdict t ≡ Accepted) (i : ℕ) (h : i < loopsOf 
     unfolding answers.reportBytes pair
     slack-at =
         first-in pair (λ k. pair-long _ _) (contentIn t .tasks .count) i rest inside
-        ∙ pair-first (contentIn t .slack i) _ (omega (arith, sum-high))
+        ∙ pair-first (contentIn t .slack i) _ (omega (arith, slack-high))
 
-    pub bound-at : boundLeft (answers.reportBytes (contentIn t) ++ rest) i ≡ offsetOf t i + contentIn t .slack i + budgetOf t i
+    pub bound-at : boundLeft (answers.reportBytes (contentIn t) ++ rest) i ≡ withinOf t (contentIn t .slack) i
     unfolding answers.reportBytes pair
     bound-at =
         second-in pair (λ k. pair-long _ _) (contentIn t .tasks .count) i rest inside
-        ∙ pair-second _ (bound (contentIn t .tasks) (contentIn t .slack) i) (omega (arith, bound-sum, sum-high))
-        ∙ bound-sum
+        ∙ pair-second _ (bound (contentIn t .tasks) (contentIn t .slack) i) (omega (arith, bound-high))
+        ∙ bound-within

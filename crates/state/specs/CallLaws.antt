@@ -37,7 +37,7 @@ pub open-limits : (p : Plan) → testPlan p ≡ Accepted → (p .cores ≤ 8) ×
 open-limits p a =
     let L = plan-limits p a in (
       omega (arith, L .cores-high, in-cores p),
-      omega (arith, L .cores-low, L .more-tasks, in-count p),
+      omega (arith, L .tasks-low, in-count p),
       omega (arith, L .tasks-high, in-count p),
     )
 

@@ -19,11 +19,11 @@ use Rattle.laws.specs.TabLaws.{length-tab, getD-tab}
 use Rattle.tasks.specs.declared.Plan.{Plan}
 use Rattle.tasks.specs.declared.Answer.{Answer}
 use Rattle.tasks.specs.declared.Answer.the-variants.{Accepted, Refused}
-use Rattle.tasks.specs.TaskSet.{Compliant, row}
+use Rattle.tasks.specs.TaskSet.{row}
 use Rattle.tasks.specs.Content.{inEdition, taskOf, contentOf, tidy}
 use Rattle.tasks.specs.ContentLaws.{used-task}
 use Rattle.tasks.specs.Tests.{testPlan}
-use Rattle.tasks.specs.Limits.{Limits, Bounded}
+use Rattle.tasks.specs.Limits.{Limits, Enough, Bounded}
 use Rattle.tasks.specs.TestsLaws.{tests-limits, tests-compliant, tests-bounded, plan-passed}
 use Rattle.machine.specs.Machine.{releaseTick, remaining, Lane, Machine, opened}
 use Rattle.machine.specs.Sound.{Rising, Newest, Past, SoundLane}
@@ -49,7 +49,7 @@ module _ (p : Plan) (a : testPlan p ≡ Accepted) where
   pub plan-limits : Limits (contentOf p .tasks)
   plan-limits = tests-limits (contentOf p) (plan-passed p a .1)
 
-  pub plan-compliant : Compliant (contentOf p .tasks) (contentOf p .slack)
+  pub plan-compliant : Enough (contentOf p .tasks) (contentOf p .slack)
   plan-compliant = tests-compliant (contentOf p) (plan-passed p a .1)
 
   pub plan-bounded : Bounded (contentOf p .tasks) (contentOf p .slack)
@@ -90,7 +90,7 @@ module _ (s : State) (S : Shaped s) (e : soundOf s ≡ true) where
 
   pub sound-tidied : tidy (s .plan) ≡ s .plan
   sound-tidied =
-      tidy-from (s .plan) (S .plan) (omega (arith, limits .cores-low, limits .more-tasks, in-count (s .plan))) (parts .tidied)
+      tidy-from (s .plan) (S .plan) (omega (arith, limits .tasks-low, in-count (s .plan))) (parts .tidied)
 
   loop : (i : ℕ) → i < 16
       → LoopFacts (ltb i (s .plan .tasks)) (s .clock) (row (s .jobs) i) (flagAt s i) (row (s .last) i)
