@@ -5,9 +5,7 @@
 --     within-high                                           a loop of an accepted table has at most 1,600,000 ticks
 --     slack-at, bound-at                                    the eight bytes that the C judgement leaves of loop i
 use Prim.Native.Nat.{ℕ, _+_, _*_, _≤_, _<_}
-use mathlib.Core.Bool.{Bool, true, false, true≢false}
 use mathlib.Core.Path.{_≡_, refl, sym, ap, _∙_}
-use mathlib.Core.Logic.{⊎-elim}
 use mathlib.Core.List.{List, [], _++_, append-nil}
 use native.Mathlib.Nat.{add-zero}
 use native.Mathlib.Omega.{arith}
@@ -15,13 +13,11 @@ use lib.ListN.{length, drop, length-append}
 use Rattle.laws.specs.TabLaws.{cut-below}
 use Rattle.tasks.specs.declared.Task.{Task}
 use Rattle.tasks.specs.declared.Answer.the-variants.{Accepted}
-use Rattle.tasks.specs.TaskSet.{TaskSet, coreForEach, bound}
+use Rattle.tasks.specs.TaskSet.{bound}
 use Rattle.tasks.specs.Limits.{Bounded}
 use Rattle.tasks.specs.Content.{noTask}
 use Rattle.tasks.specs.Tests.{tests}
-use Rattle.tasks.specs.BoundLaws.{bound-more}
-use Rattle.tasks.specs.FoundLaws.{found-zeros}
-use Rattle.tasks.specs.TestsLaws.{tests-passed, tests-limits, tests-bounded}
+use Rattle.tasks.specs.TestsLaws.{tests-passed, tests-limits, tests-bounded, slack-high}
 use Rattle.numbers.specs.Bytes.{number, digits, entries}
 use Rattle.numbers.specs.ByteLaws.{length-digits, number-digits-at, number-entries}
 use Rattle.codec.specs.Table.{taskSize, editionIn, coreCount, taskCount, tasksAt, taskIn, taskSetIn, contentIn, verdict}
@@ -148,21 +144,6 @@ module _ (t : List ℕ) (a : verdict t ≡ Accepted) (i : ℕ) (h : i < loopsOf 
   pub within-high : withinOf t (contentIn t .slack) i ≤ 1600000
   within-high = rw bound-within at bound-high
 
-  -- where loops are no more than cores no slack is offered, and the found one is 0
-  slack-high : contentIn t .slack i ≤ 1600000
-  slack-high = go (coreForEach (s .cores) (s .count)) refl
-    where
-      s : TaskSet
-      s = contentIn t .tasks
-
-      go : (b : Bool) → coreForEach (s .cores) (s .count) ≡ b → contentIn t .slack i ≤ 1600000
-      go true each =
-          ⊎-elim
-          (λ (z : contentIn t .offers ≡ 0). omega (arith, tests-passed (contentIn t) passed .as-found z i inside, found-zeros s each i))
-          (λ (n : (coreForEach (s .cores) (s .count) ≡ false) × (contentIn t .offers ≡ s .count)). absurd (true≢false (sym each ∙ n .0)))
-          (tests-passed (contentIn t) passed .offers)
-      go false more = omega (arith, bound-high, bound-more s (contentIn t .slack) more i)
-
   module _ (rest : List ℕ) where
     pair : ℕ → List ℕ
     pair k = digits 4 (contentIn t .slack k) ++ digits 4 (bound (contentIn t .tasks) (contentIn t .slack) k)
@@ -171,7 +152,7 @@ module _ (t : List ℕ) (a : verdict t ≡ Accepted) (i : ℕ) (h : i < loopsOf 
     unfolding answers.reportBytes pair
     slack-at =
         first-in pair (λ k. pair-long _ _) (contentIn t .tasks .count) i rest inside
-        ∙ pair-first (contentIn t .slack i) _ (omega (arith, slack-high))
+        ∙ pair-first (contentIn t .slack i) _ (omega (arith, slack-high (contentIn t) (tests-passed (contentIn t) passed) i inside))
 
     pub bound-at : boundLeft (answers.reportBytes (contentIn t) ++ rest) i ≡ withinOf t (contentIn t .slack) i
     unfolding answers.reportBytes pair

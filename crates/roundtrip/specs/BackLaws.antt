@@ -15,10 +15,9 @@ use lib.Dec.{ltb, eqb}
 use borrow.Author.Tests.{ltb-true, ltb-false, eqb-true, eqb-false}
 use Rattle.laws.specs.Tab.{cut}
 use Rattle.laws.specs.TabLaws.{cut-below, cut-above}
-use Rattle.tasks.specs.TaskSet.{found, row, bound}
+use Rattle.tasks.specs.TaskSet.{found, row}
 use Rattle.tasks.specs.Content.{Content, noTask}
-use Rattle.tasks.specs.Limits.{Bounded}
-use Rattle.tasks.specs.TestsLaws.{Passed}
+use Rattle.tasks.specs.TestsLaws.{Passed, slack-high}
 use Rattle.tasks.specs.FoundLaws.{found-past}
 use Rattle.numbers.specs.Bytes.{byte, number, digits, entries}
 use Rattle.codec.specs.Table.{taskSize, tasksFrom, slackFrom, editionIn, coreCount, taskCount, tasksAt, slackCount, slackAt, taskIn, taskSetIn, contentIn, taskBytes, bytesOf}
@@ -132,8 +131,7 @@ module _ (c : Content) where
       ∙ digits-alone (c .slack i) small)
 
 slack-narrow : (c : Content) → Passed c → (i : ℕ) → i < c .tasks .count → c .slack i < 256 ^ 4
-unfolding Bounded bound
-slack-narrow c q i h = omega (arith, q .limits .separation-high i h, q .bounded i h)
+slack-narrow c q i h = omega (arith, slack-high c q i h)
 
 -- a row cut off at n, of which it is known what it is below n, and which is z from n on
 cut-row :

@@ -2,11 +2,13 @@
 --     Passed                                           that, part by part
 --     tests-passed                                     it holds
 --     tests-limits, tests-compliant, tests-bounded     three of its parts
+--     slack-high                                       slack is at most 16 × 100,000
 --     plan-passed, plan-accepted                       a plan that meets none has a known edition, and its content meets none; and back
 use Prim.Native.Nat.{ℕ, _≤_, _<_}
 use mathlib.Core.Path.{_≡_, refl, sym, _∙_}
-use mathlib.Core.Bool.{Bool, true, false, not, _&&_, _||_}
+use mathlib.Core.Bool.{Bool, true, false, not, _&&_, _||_, true≢false}
 use mathlib.Core.Logic.{_⊎_, inl, inr}
+use native.Mathlib.Omega.{arith}
 use lib.Dec.{eqb}
 use borrow.Author.Tests.{ltb-false, eqb-true, eq-eqb, not-true, not-false}
 use Rattle.laws.specs.EveryLaws.{both}
@@ -19,29 +21,37 @@ use Rattle.tasks.specs.Tests.{refuse, badEdition, test11, test12, test13
 use Rattle.tasks.specs.AnswerLaws.{orNext-passed, refuse-passed, lowest-passed, firstMet-passed}
 use Rattle.tasks.specs.LimitsLaws.{limitTests, slackTests, tests-split, Labelled, limits-passed, deadlines-passed}
 use Rattle.tasks.specs.SlackLaws.{covers-compliant, compliant-ext}
-use Rattle.tasks.specs.FoundLaws.{found-compliant}
+use Rattle.tasks.specs.FoundLaws.{found-zeros, found-compliant}
+use Rattle.tasks.specs.BoundLaws.{bound-more}
 
 -- what holds where none of 3 to 13 and 28 is met
 pub record Passed (c : Content) : Type 0 where
   pub limits : Limits (c .tasks)
   pub labelled : Labelled c
   pub deadline-high : hasDeadlines (c .edition) ≡ true → (i : ℕ) → i < c .tasks .count → c .tasks .task i .deadline ≤ 1600000
-  pub offers : (c .offers ≡ 0) ⊎ ((coreForEach (c .tasks .cores) (c .tasks .count) ≡ false) × (c .offers ≡ c .tasks .count))
+  pub offers : (c .offers ≡ 0) ⊎ (c .offers ≡ c .tasks .count)
+  -- where loops are no more than cores no slack is offered
+  pub unoffered : coreForEach (c .tasks .cores) (c .tasks .count) ≡ true → c .offers ≡ 0
   -- "A plan marked as found" has the found slack
   pub as-found : c .offers ≡ 0 → (k : ℕ) → k < c .tasks .count → c .slack k ≡ row (found (c .tasks)) k
   pub compliant : Enough (c .tasks) (c .slack)
   pub bounded : Bounded (c .tasks) (c .slack)
 
 module _ (c : Content) where
-  offers-passed : test11 c ≡ Accepted → (c .offers ≡ 0) ⊎ ((coreForEach (c .tasks .cores) (c .tasks .count) ≡ false) × (c .offers ≡ c .tasks .count))
+  -- what 11 leaves
+  offers-passed :
+      test11 c ≡ Accepted
+      → ((c .offers ≡ 0) ⊎ (c .offers ≡ c .tasks .count)) × (coreForEach (c .tasks .cores) (c .tasks .count) ≡ true → c .offers ≡ 0)
   unfolding test11
   offers-passed a = go (eqb (c .offers) 0) refl (not-false _ (refuse-passed _ _ a))
     where
       go :
           (b : Bool) → eqb (c .offers) 0 ≡ b → b || (not (coreForEach (c .tasks .cores) (c .tasks .count)) && eqb (c .offers) (c .tasks .count)) ≡ true
-          → (c .offers ≡ 0) ⊎ ((coreForEach (c .tasks .cores) (c .tasks .count) ≡ false) × (c .offers ≡ c .tasks .count))
-      go true e h = inl (eqb-true _ _ e)
-      go false e h = let r = both _ _ h in inr (not-true _ (r .0), eqb-true _ _ (r .1))
+          → ((c .offers ≡ 0) ⊎ (c .offers ≡ c .tasks .count)) × (coreForEach (c .tasks .cores) (c .tasks .count) ≡ true → c .offers ≡ 0)
+      go true e h = let z = eqb-true _ _ e in (inl z, λ each. z)
+      go false e h =
+          let r = both (not (coreForEach (c .tasks .cores) (c .tasks .count))) _ h in
+          (inr (eqb-true _ _ (r .1)), λ each. absurd (true≢false (sym each ∙ not-true _ (r .0))))
 
   found-passed : test12 c ≡ Accepted → c .offers ≡ 0 → (k : ℕ) → k < c .tasks .count → c .slack k ≡ row (found (c .tasks)) k
   unfolding test12
@@ -81,7 +91,8 @@ module _ (c : Content) where
         limits = l .0;
         labelled = l .1;
         deadline-high = deadlines-passed c (r .0);
-        offers = offers-passed (r11 .0);
+        offers = offers-passed (r11 .0) .0;
+        unoffered = offers-passed (r11 .0) .1;
         as-found = found-passed (r12 .0);
         compliant = compliant-passed (l .0) (r12 .0);
         bounded = bounded-passed (r13 .0);
@@ -95,6 +106,15 @@ module _ (c : Content) where
 
   pub tests-bounded : tests c ≡ Accepted → Bounded (c .tasks) (c .slack)
   tests-bounded a = tests-passed a .bounded
+
+  -- a bound is at least its slack, and where it is the budget alone slack is 0
+  pub slack-high : Passed c → (i : ℕ) → i < c .tasks .count → c .slack i ≤ 1600000
+  unfolding Bounded
+  slack-high P i h = go (coreForEach (c .tasks .cores) (c .tasks .count)) refl
+    where
+      go : (b : Bool) → coreForEach (c .tasks .cores) (c .tasks .count) ≡ b → c .slack i ≤ 1600000
+      go true each = omega (arith, P .as-found (P .unoffered each) i h, found-zeros (c .tasks) each i)
+      go false more = omega (arith, bound-more (c .tasks) (c .slack) more i, P .bounded i h, P .limits .separation-high i h)
 
 module _ (p : Plan) where
   pub plan-passed : testPlan p ≡ Accepted → (badEdition (p .edition) ≡ false) × (tests (contentOf p) ≡ Accepted)
