@@ -1,11 +1,11 @@
--- Document 02, §6, of bytes: what the two sides of a conversion share, there and back, and when 29 and 30 are met.
+-- Document 02, §6, of bytes: what the two sides of a conversion share, there and back, and when 29, 30 and 31 are met.
 --     leftBy            the bytes that a conversion leaves in a buffer, as many as it answers
 --     Twins             an accepted table that says the same cores, T, C, Y and slack, with the same bounds and late
 --     convert-twins     what a conversion leaves is that of the table; convert-edition: in the wanted edition
 --     there-and-back    converted to the first edition, it is the first bytes
 --     convert-short     a buffer of 332 bytes is never too short
 --     verdict-number    a table is refused by numbers up to 28
---     Meets29, Meets30  the cases of 29 and 30; refused-29, refused-30: the numbers are met exactly in them
+--     Meets29, Meets30, Meets31  the cases of 29, 30 and 31; refused-29, refused-30, refused-31: the numbers are met exactly in them
 use Prim.Native.Nat.{ℕ, _≤_, _<_}
 use native.Mathlib.Omega.{arith}
 use mathlib.Core.Path.{_≡_, refl, sym, ap, _∙_}
@@ -20,10 +20,10 @@ use Rattle.laws.specs.EveryLaws.{below-or-not}
 use Rattle.tasks.specs.declared.Plan.{Plan}
 use Rattle.tasks.specs.declared.Answer.the-variants.{Accepted, Refused}
 use Rattle.tasks.specs.Numbers.{deadlineHigh}
-use Rattle.tasks.specs.TaskSet.{bound}
+use Rattle.tasks.specs.TaskSet.{coreForEach, bound}
 use Rattle.tasks.specs.Content.{hasDeadlines, Content, late, noTask, contentOf, planOf}
 use Rattle.tasks.specs.ContentLaws.{content-ext, Fits}
-use Rattle.tasks.specs.Tests.{refuse, firstMet, numberOf, outside, badEdition, badDeadline, test28, tests, testPlan}
+use Rattle.tasks.specs.Tests.{refuse, firstMet, numberOf, indexOf, outside, badEdition, badDeadline, test28, tests, testPlan}
 use Rattle.tasks.specs.AnswerLaws.{refuse-passed, pass-lowest, lowest-passed, neither, outside-passed, firstMet-passed}
 use Rattle.tasks.specs.NumberLaws.{Lowest, lowest-met, met-lowest, refuse-number, Numbers, _also_, no-more, tests-number, met-next, met-first}
 use Rattle.numbers.specs.ByteLaws.{Bytes}
@@ -33,8 +33,8 @@ use Rattle.sections.specs.WriteLaws.{length-bytes}
 use Rattle.roundtrip.specs.SectionLaws.{verdict-parts, table-fits}
 use Rattle.roundtrip.specs.BackLaws.{back-edition}
 use Rattle.roundtrip.specs.RoundTrip.{rewritten, plan-back, verdict-back}
-use Rattle.conversion.specs.Converted.{convertedTask, converted, convertedBytes, wantedTest, noOffset, otherDeadline, wayTest, convertTest, convertedLength, convertedTo}
-use Rattle.conversion.specs.ConvertedLaws.{way-deadlines, tests-28, converted-late, converted-kept, table-says, table-passes, ways, other-edition}
+use Rattle.conversion.specs.Converted.{convertedTask, converted, convertedBytes, wantedTest, noOffset, otherDeadline, wayTest, fitTest, convertTest, convertedLength, convertedTo}
+use Rattle.conversion.specs.ConvertedLaws.{way-deadlines, fit-passed, fit-more, fit-each, tests-28, converted-late, converted-kept, table-says, table-passes, ways, other-edition}
 
 unfoldable pub leftBy : ℕ → List ℕ → List ℕ → List ℕ
 leftBy e t out = take (convertedLength e t (length out)) (convertedTo e t out)
@@ -111,7 +111,7 @@ module _ (e : ℕ) (t : List ℕ) (wanted : badEdition e || eqb (editionIn t) e 
         lates =
             λ i h.
             ap (λ (c : Content). late c i) there
-            ∙ converted-late e (contentIn t .edition) (contentIn t .tasks .task i) (contentIn t .slack i) (rw same-edition at other) (λ d. same-deadline d i h);
+            ∙ converted-late e (contentIn t .edition) (contentIn t .tasks .task i) (bound (contentIn t .tasks) (contentIn t .slack) i) (rw same-edition at other) (λ d. same-deadline d i h);
       }
 
   -- ---- and back
@@ -166,9 +166,12 @@ module _ (e : ℕ) (t out : List ℕ) (a : convertTest e t (length out) ≡ Acce
   unfolding convertTest
   table-passed = firstMet-passed _ _ (firstMet-passed _ _ a .1) .0
 
-  way-passed : wayTest e (contentIn t .tasks .task) (contentIn t .tasks .count) ≡ Accepted
+  fit : (coreForEach (contentIn t .tasks .cores) (contentIn t .tasks .count) ≡ false) × (wayTest e (contentIn t .tasks .task) (contentIn t .tasks .count) ≡ Accepted)
   unfolding convertTest
-  way-passed = firstMet-passed _ _ (firstMet-passed _ _ (firstMet-passed _ _ a .1) .1) .0
+  fit = fit-passed e _ _ _ (firstMet-passed _ _ (firstMet-passed _ _ (firstMet-passed _ _ a .1) .1) .0)
+
+  way-passed : wayTest e (contentIn t .tasks .task) (contentIn t .tasks .count) ≡ Accepted
+  way-passed = fit .1
 
   left-are : leftBy e t out ≡ convertedBytes e t
   unfolding leftBy convertedLength convertedTo
@@ -198,9 +201,13 @@ module _ (e : ℕ) (t out : List ℕ) (a : convertTest e t (length out) ≡ Acce
           ne-eqb e (editionIn t) (λ s. eqb-false (editionIn t) e (neither (badEdition e) _ wanted-passed .1) (sym s)),
         )
 
-    back-there : wayTest (editionIn t) (contentIn (convertedBytes e t) .tasks .task) (contentIn (convertedBytes e t) .tasks .count) ≡ Accepted
+    back-there :
+        fitTest (editionIn t) (contentIn (convertedBytes e t) .tasks .cores) (contentIn (convertedBytes e t) .tasks .task) (contentIn (convertedBytes e t) .tasks .count)
+        ≡ Accepted
     unfolding converted
-    back-there = rw (there e t wanted-passed table-passed way-passed) (back-way e t wanted-passed table-passed way-passed)
+    back-there =
+        rw (there e t wanted-passed table-passed way-passed)
+        (fit-more _ _ _ _ (fit .0) ∙ back-way e t wanted-passed table-passed way-passed)
 
     back-test : convertTest (editionIn t) (convertedBytes e t) (length again) ≡ Accepted
     unfolding convertTest firstMet
@@ -232,7 +239,7 @@ convert-short e t v =
     (λ (z : c .offers ≡ c .tasks .count). omega (arith, length-bytes (converted e c), size-times e (c .tasks .count), k .cores-high, k .tasks-high, z))
     (k .offers)
 
--- ---- 29 and 30
+-- ---- 29, 30 and 31
 
 pub verdict-number : (t : List ℕ) → numberOf (verdict t) ≤ 28
 unfolding verdict test1 test2
@@ -244,23 +251,26 @@ verdict-number t =
     also no-more in
     all .first-number
 
--- a refusal by a number above 28 comes from 29 and 30
+-- a refusal by a number above 28 comes from 29, 30 and 31
 module _ (e : ℕ) (t : List ℕ) (room k i : ℕ) (high : 28 < k) where
-  from-way :
+  from-fit :
       convertTest e t room ≡ Refused k i
-      → (badEdition e || eqb (editionIn t) e ≡ false) × (verdict t ≡ Accepted) × (wayTest e (contentIn t .tasks .task) (contentIn t .tasks .count) ≡ Refused k i)
+      → (badEdition e || eqb (editionIn t) e ≡ false)
+      × (verdict t ≡ Accepted)
+      × (fitTest e (contentIn t .tasks .cores) (contentIn t .tasks .task) (contentIn t .tasks .count) ≡ Refused k i)
   unfolding convertTest wantedTest
-  from-way q =
+  from-fit q =
       let r1 = met-next _ _ k i (λ z. omega (arith, z, refuse-number 28 1 (badEdition e || eqb (editionIn t) e) (omega arith))) q in
       let r2 = met-next (verdict t) _ k i (λ z. omega (arith, z, verdict-number t)) (r1 .1) in
       let last : Numbers 28 (refuse 24 (ltb room (length (convertedBytes e t))) ∷ []) = refuse-number 28 24 (ltb room (length (convertedBytes e t))) (omega arith) also no-more in
       (refuse-passed 1 _ (r1 .0), r2 .0, met-first _ _ k i (λ z. omega (arith, z, last .first-number)) (r2 .1))
 
-  to-way :
-      badEdition e || eqb (editionIn t) e ≡ false → verdict t ≡ Accepted → wayTest e (contentIn t .tasks .task) (contentIn t .tasks .count) ≡ Refused k i
+  to-fit :
+      badEdition e || eqb (editionIn t) e ≡ false → verdict t ≡ Accepted
+      → fitTest e (contentIn t .tasks .cores) (contentIn t .tasks .task) (contentIn t .tasks .count) ≡ Refused k i
       → convertTest e t room ≡ Refused k i
   unfolding convertTest wantedTest firstMet
-  to-way p v w = rw (p, v, w)
+  to-fit p v w = rw (p, v, w)
 
 module _ (e : ℕ) (t : List ℕ) (room i : ℕ) where
   abbrev unset : ℕ → Bool
@@ -269,37 +279,75 @@ module _ (e : ℕ) (t : List ℕ) (room i : ℕ) where
   abbrev differs : ℕ → Bool
   differs j = otherDeadline (contentIn t .tasks .task j)
 
-  -- "29 an offset is 0 on the way to edition 2": i is the lowest such loop of a table that is accepted
+  -- whether the table has loops no more than cores
+  abbrev each : Bool
+  each = coreForEach (contentIn t .tasks .cores) (contentIn t .tasks .count)
+
+  -- "29 an offset is 0 on the way to edition 2": i is the lowest such loop of a table that is accepted and does not meet 31
   abbrev pub Meets29 : Type 0
-  Meets29 = (e ≡ 2) × (editionIn t ≡ 1) × (verdict t ≡ Accepted) × Lowest unset (contentIn t .tasks .count) i
+  Meets29 = (e ≡ 2) × (editionIn t ≡ 1) × (verdict t ≡ Accepted) × (each ≡ false) × Lowest unset (contentIn t .tasks .count) i
 
   -- "30 a deadline differs from its offset on the way to edition 1": the same
   abbrev pub Meets30 : Type 0
-  Meets30 = (e ≡ 1) × (editionIn t ≡ 2) × (verdict t ≡ Accepted) × Lowest differs (contentIn t .tasks .count) i
+  Meets30 = (e ≡ 1) × (editionIn t ≡ 2) × (verdict t ≡ Accepted) × (each ≡ false) × Lowest differs (contentIn t .tasks .count) i
 
-  -- the two ways
-  either : (k : ℕ) → 28 < k → convertTest e t room ≡ Refused k i → ((k ≡ 29) × Meets29) ⊎ ((k ≡ 30) × Meets30)
-  unfolding wayTest
-  either k high q =
-      let r = from-way e t room k i high q in
-      let n = neither (badEdition e) _ (r .0) in
-      ⊎-elim
-      (λ (s : (e ≡ 2) × (editionIn t ≡ 1)).
-      let l = lowest-met 29 unset (contentIn t .tasks .count) k i (rw (s .0) at (r .2)) in inl (l .0, (s .0, s .1, r .1, l .1)))
-      (λ (s : (e ≡ 1) × (editionIn t ≡ 2)).
-      let l = lowest-met 30 differs (contentIn t .tasks .count) k i (rw (s .0) at (r .2)) in inr (l .0, (s .0, s .1, r .1, l .1)))
-      (ways e (editionIn t) (n .0) (verdict-parts t (r .1) .edition) (n .1))
+  -- "31 the converter is given such a table", on either way
+  abbrev pub Meets31 : Type 0
+  Meets31 = (badEdition e ≡ false) × (eqb (editionIn t) e ≡ false) × (verdict t ≡ Accepted) × (each ≡ true) × (i ≡ 0)
+
+  -- the three cases
+  Cases : ℕ → Type 0
+  Cases k = ((k ≡ 29) × Meets29) ⊎ ((k ≡ 30) × Meets30) ⊎ ((k ≡ 31) × Meets31)
+
+  cases : (k : ℕ) → 28 < k → convertTest e t room ≡ Refused k i → Cases k
+  unfolding wayTest Cases
+  cases k high q = go each refl
+    where
+      r :
+          (badEdition e || eqb (editionIn t) e ≡ false)
+          × (verdict t ≡ Accepted)
+          × (fitTest e (contentIn t .tasks .cores) (contentIn t .tasks .task) (contentIn t .tasks .count) ≡ Refused k i)
+      r = from-fit e t room k i high q
+
+      n : (badEdition e ≡ false) × (eqb (editionIn t) e ≡ false)
+      n = neither (badEdition e) _ (r .0)
+
+      go : (b : Bool) → each ≡ b → Cases k
+      go true own =
+          let w : Refused k i ≡ Refused 31 0 = sym (r .2) ∙ fit-each e _ _ _ own in
+          inr (inr (ap numberOf w, (n .0, n .1, r .1, own, ap indexOf w)))
+      go false more =
+          let w = sym (fit-more e _ _ _ more) ∙ r .2 in
+          ⊎-elim
+          (λ (s : (e ≡ 2) × (editionIn t ≡ 1)).
+          let l = lowest-met 29 unset (contentIn t .tasks .count) k i (rw (s .0) at w) in inl (l .0, (s .0, s .1, r .1, more, l .1)))
+          (λ (s : (e ≡ 1) × (editionIn t ≡ 2)).
+          let l = lowest-met 30 differs (contentIn t .tasks .count) k i (rw (s .0) at w) in inr (inl (l .0, (s .0, s .1, r .1, more, l .1))))
+          (ways e (editionIn t) (n .0) (verdict-parts t (r .1) .edition) (n .1))
 
   pub refused-29 : (convertTest e t room ≡ Refused 29 i) ↔ Meets29
-  unfolding wayTest
-  refused-29 = (
-    λ q. ⊎-elim (λ (s : (29 ≡ 29) × Meets29). s .1) (λ (s : (29 ≡ 30) × Meets30). absurd (omega (arith, s .0))) (either 29 (omega arith) q),
-    λ s. to-way e t room 29 i (omega arith) (rw (s .0, s .1)) (s .2) (rw (s .0) (met-lowest 29 unset (contentIn t .tasks .count) i (s .3))),
-  )
+  unfolding wayTest Cases
+  refused-29 = (λ q. this (cases 29 (omega arith) q), λ s. to-fit e t room 29 i (omega arith) (rw (s .0, s .1)) (s .2) (fit-more e _ _ _ (s .3) ∙ rw (s .0) (met-lowest 29 unset (contentIn t .tasks .count) i (s .4))))
+    where
+      this : Cases 29 → Meets29
+      this (inl s) = s .1
+      this (inr (inl s)) = absurd (omega (arith, s .0))
+      this (inr (inr s)) = absurd (omega (arith, s .0))
 
   pub refused-30 : (convertTest e t room ≡ Refused 30 i) ↔ Meets30
-  unfolding wayTest
-  refused-30 = (
-    λ q. ⊎-elim (λ (s : (30 ≡ 29) × Meets29). absurd (omega (arith, s .0))) (λ (s : (30 ≡ 30) × Meets30). s .1) (either 30 (omega arith) q),
-    λ s. to-way e t room 30 i (omega arith) (rw (s .0, s .1)) (s .2) (rw (s .0) (met-lowest 30 differs (contentIn t .tasks .count) i (s .3))),
-  )
+  unfolding wayTest Cases
+  refused-30 = (λ q. this (cases 30 (omega arith) q), λ s. to-fit e t room 30 i (omega arith) (rw (s .0, s .1)) (s .2) (fit-more e _ _ _ (s .3) ∙ rw (s .0) (met-lowest 30 differs (contentIn t .tasks .count) i (s .4))))
+    where
+      this : Cases 30 → Meets30
+      this (inl s) = absurd (omega (arith, s .0))
+      this (inr (inl s)) = s .1
+      this (inr (inr s)) = absurd (omega (arith, s .0))
+
+  pub refused-31 : (convertTest e t room ≡ Refused 31 i) ↔ Meets31
+  unfolding Cases
+  refused-31 = (λ q. this (cases 31 (omega arith) q), λ s. to-fit e t room 31 i (omega arith) (rw (s .0, s .1)) (s .2) (fit-each e _ _ _ (s .3) ∙ ap (Refused 31) (sym (s .4))))
+    where
+      this : Cases 31 → Meets31
+      this (inl s) = absurd (omega (arith, s .0))
+      this (inr (inl s)) = absurd (omega (arith, s .0))
+      this (inr (inr s)) = s .1

@@ -3,6 +3,7 @@
 --     converted         what a table says, in the wanted edition; convertedBytes: its bytes
 --     wantedTest        1 of the wanted edition
 --     noOffset, otherDeadline, wayTest    what 29 and 30 test of a task, and the one of the two on the way to the wanted edition
+--     fitTest           31, and then 29 or 30
 --     convertTest       the first refusal that a table, a wanted edition and the room for its bytes meet: the answer
 --     convertedLength   its length; convertedTo: the bytes left behind
 use Prim.Native.Nat.{ℕ}
@@ -12,6 +13,7 @@ use lib.ListN.{length, drop}
 use lib.Dec.{ltb, eqb}
 use Rattle.tasks.specs.declared.Task.{Task}
 use Rattle.tasks.specs.declared.Answer.{Answer}
+use Rattle.tasks.specs.TaskSet.{coreForEach}
 use Rattle.tasks.specs.Content.{hasDeadlines, inEdition, Content}
 use Rattle.tasks.specs.Tests.{refuse, lowest, firstMet, unlessRefused, badEdition}
 use Rattle.codec.specs.Table.{editionIn, contentIn, verdict, bytesOf}
@@ -54,13 +56,17 @@ unfoldable pub wayTest : ℕ → (ℕ → Task) → ℕ → Answer
 wayTest e task n =
     cond (hasDeadlines e) (lowest 29 (λ i. noOffset (task i)) n) (lowest 30 (λ i. otherDeadline (task i)) n)
 
+-- "31 the converter is given such a table", one with loops no more than cores, "tested before 29 and 30": n tasks on m cores
+unfoldable pub fitTest : ℕ → ℕ → (ℕ → Task) → ℕ → Answer
+fitTest e m task n = firstMet (refuse 31 (coreForEach m n) ∷ wayTest e task n ∷ [])
+
 -- 29 and 30 "both after the table's own checks". "A short buffer is refused 24, after all other checks."
 unfoldable pub convertTest : ℕ → List ℕ → ℕ → Answer
 convertTest e t room =
     firstMet
     (wantedTest e t
     ∷ verdict t
-    ∷ wayTest e (contentIn t .tasks .task) (contentIn t .tasks .count)
+    ∷ fitTest e (contentIn t .tasks .cores) (contentIn t .tasks .task) (contentIn t .tasks .count)
     ∷ refuse 24 (ltb room (length (convertedBytes e t)))
     ∷ [])
 

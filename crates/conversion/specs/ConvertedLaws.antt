@@ -1,6 +1,7 @@
 -- Laws of what a table says in the wanted edition.
 --     converted-fits     a converted content fits a plan
 --     way-offsets, way-deadlines    what 29 and 30 leave
+--     fit-passed         what 31, 29 and 30 leave; fit-more, fit-each: they are 29 or 30 where loops are more than cores, and 31 where not
 --     way-ext            29 and 30 look at the tasks below n
 --     of-plain           what a task set's T, C and Y give is the same after the conversion
 --     tests-28           a content that meets none of its numbers doesn't meet 28
@@ -21,17 +22,17 @@ use lib.Dec.{eqb}
 use borrow.Author.Tests.{eqb-true, eqb-false, not-false}
 use Rattle.tasks.specs.declared.Task.{Task}
 use Rattle.tasks.specs.declared.Answer.{Answer}
-use Rattle.tasks.specs.declared.Answer.the-variants.{Accepted}
-use Rattle.tasks.specs.TaskSet.{TaskSet, plain, found, row}
+use Rattle.tasks.specs.declared.Answer.the-variants.{Accepted, Refused}
+use Rattle.tasks.specs.TaskSet.{TaskSet, plain, coreForEach, found, row}
 use Rattle.tasks.specs.PlainLaws.{plain-multiple, plain-shares, plain-compliant, plain-found, plain-bounds}
 use Rattle.tasks.specs.Content.{hasDeadlines, inEdition, Content, lateOf, noTask, contentOf, planOf}
 use Rattle.tasks.specs.ContentLaws.{edition-zero, edition-again, Fits, fits-back}
 use Rattle.tasks.specs.Tests.{refuse, firstMet, badEdition, badDeadline, badMultiple, badShares, compliantTest, foundTest, boundsTest, test3, test4, test5, test6, test7, test8, test28, test9, test10, test11, test12, test13, tests, testPlan}
 use Rattle.tasks.specs.TestsLaws.{tests-limits, plan-accepted}
-use Rattle.tasks.specs.AnswerLaws.{pass-lowest, lowest-passed, lowest-ext, orNext-passed, firstMet-pass, firstMet-passed, firstMet-append, neither, pass-outside}
+use Rattle.tasks.specs.AnswerLaws.{refuse-passed, pass-lowest, lowest-passed, lowest-ext, orNext-passed, firstMet-alone, firstMet-pass, firstMet-stop, firstMet-passed, firstMet-append, neither, pass-outside}
 use Rattle.codec.specs.Table.{editionIn, contentIn, verdict}
 use Rattle.roundtrip.specs.SectionLaws.{verdict-parts, table-fits}
-use Rattle.conversion.specs.Converted.{convertedTask, converted, noOffset, otherDeadline, wayTest}
+use Rattle.conversion.specs.Converted.{convertedTask, converted, noOffset, otherDeadline, wayTest, fitTest}
 
 module _ (e : ℕ) where
   -- an unused place stays one
@@ -66,6 +67,19 @@ module _ (e : ℕ) (task : ℕ → Task) (n : ℕ) (a : wayTest e task n ≡ Acc
   pub way-deadlines : hasDeadlines e ≡ false → (i : ℕ) → i < n → task i .deadline ≡ task i .offset
   unfolding wayTest
   way-deadlines d i h = eqb-true _ _ (not-false _ (lowest-passed 30 (λ j. otherDeadline (task j)) n (rw d at a) i h))
+
+-- what 31, 29 and 30 leave
+pub fit-passed : (e m : ℕ) (task : ℕ → Task) (n : ℕ) → fitTest e m task n ≡ Accepted → (coreForEach m n ≡ false) × (wayTest e task n ≡ Accepted)
+unfolding fitTest
+fit-passed e m task n a = let r = firstMet-passed _ _ a in (refuse-passed 31 _ (r .0), firstMet-passed _ _ (r .1) .0)
+
+pub fit-more : (e m : ℕ) (task : ℕ → Task) (n : ℕ) → coreForEach m n ≡ false → fitTest e m task n ≡ wayTest e task n
+unfolding fitTest
+fit-more e m task n more = rw more (firstMet-pass Accepted _ refl ∙ firstMet-alone (wayTest e task n))
+
+pub fit-each : (e m : ℕ) (task : ℕ → Task) (n : ℕ) → coreForEach m n ≡ true → fitTest e m task n ≡ Refused 31 0
+unfolding fitTest
+fit-each e m task n each = rw each (firstMet-stop (Refused 31 0) _ 31 0 refl)
 
 pub way-ext : (e n : ℕ) (f g : ℕ → Task) → ((i : ℕ) → i < n → f i ≡ g i) → wayTest e f n ≡ wayTest e g n
 unfolding wayTest
@@ -157,14 +171,14 @@ module _ (e : ℕ) (c : Content) (a : tests c ≡ Accepted) (w : wayTest e (c .t
 -- ---- late, and back again
 
 pub converted-late :
-    (e f : ℕ) (k : Task) (x : ℕ) → hasDeadlines f ≡ not (hasDeadlines e) → (hasDeadlines e ≡ false → k .deadline ≡ k .offset)
-    → lateOf e (convertedTask e k) x ≡ lateOf f k x
+    (e f : ℕ) (k : Task) (bound : ℕ) → hasDeadlines f ≡ not (hasDeadlines e) → (hasDeadlines e ≡ false → k .deadline ≡ k .offset)
+    → lateOf e (convertedTask e k) bound ≡ lateOf f k bound
 unfolding lateOf convertedTask
-converted-late e f k x other same = go (hasDeadlines e) refl other
+converted-late e f k bound other same = go (hasDeadlines e) refl other
   where
-    go : (b : Bool) → hasDeadlines e ≡ b → hasDeadlines f ≡ not b → lateOf e (convertedTask e k) x ≡ lateOf f k x
-    go true p q = rw (p, q) (omega arith)
-    go false p q = rw (p, q, same p) (omega arith)
+    go : (b : Bool) → hasDeadlines e ≡ b → hasDeadlines f ≡ not b → lateOf e (convertedTask e k) bound ≡ lateOf f k bound
+    go true p q = rw (p, q)
+    go false p q = rw (p, q, same p)
 
 pub converted-kept :
     (f : ℕ) (k : Task) → inEdition f k ≡ k → (hasDeadlines f ≡ true → k .deadline ≡ k .offset) → convertedTask f k ≡ k

@@ -23,9 +23,10 @@ use Rattle.laws.specs.TabLaws.{tab-ext, getD-tab}
 use Rattle.tasks.specs.declared.Task.{Task}
 use Rattle.tasks.specs.declared.Plan.{Plan}
 use Rattle.tasks.specs.declared.Answer.the-variants.{Accepted, Refused}
+use Rattle.tasks.specs.TaskSet.{coreForEach}
 use Rattle.tasks.specs.Content.{hasDeadlines, Content, noTask, taskOf, contentOf, planOf}
 use Rattle.tasks.specs.ContentLaws.{plan-ext, by-edition, Fits}
-use Rattle.tasks.specs.Tests.{lowest, firstMet, badEdition, testPlan}
+use Rattle.tasks.specs.Tests.{refuse, lowest, firstMet, badEdition, testPlan}
 use Rattle.tasks.specs.AnswerLaws.{neither, lowest-none, lowest-found}
 use Rattle.numbers.specs.Bytes.{byte}
 use Rattle.codec.specs.Table.{editionIn, contentIn, verdict}
@@ -36,8 +37,8 @@ use Rattle.writer.specs.declared.Written.the-variants.{Refused as NotWritten}
 use Rattle.writer.specs.Written.{answerOfWritten, lengthOfWritten, writeTest, writtenLength, writtenTo}
 use Rattle.writer.specs.WriterLaws.{Writes}
 use Rattle.roundtrip.specs.SectionLaws.{verdict-parts, table-fits}
-use Rattle.conversion.specs.Converted.{convertedTask, converted, wantedTest, noOffset, otherDeadline, wayTest, convertTest, convertedLength, convertedTo}
-use Rattle.conversion.specs.ConvertedLaws.{way-ext, table-says, table-passes, known-edition}
+use Rattle.conversion.specs.Converted.{convertedTask, converted, wantedTest, noOffset, otherDeadline, wayTest, fitTest, convertTest, convertedLength, convertedTo}
+use Rattle.conversion.specs.ConvertedLaws.{fit-passed, way-ext, table-says, table-passes, known-edition}
 
 -- ---- the edition wanted
 
@@ -153,24 +154,30 @@ module _ (e : ℕ) (t : List ℕ) (wanted : badEdition e || eqb (editionIn t) e 
     unfolding planOf
     plan-few = rw plan-is (fits .tasks-high)
 
-    -- 29 and 30 of the plan's tasks
-    plan-way : wayTest e (taskOf (j .plan .task)) (j .plan .tasks) ≡ wayTest e (contentIn t .tasks .task) (contentIn t .tasks .count)
-    unfolding planOf taskOf
-    plan-way =
+    -- 31, and then 29 or 30, of the plan's tasks
+    plan-fit :
+        fitTest e (j .plan .cores) (taskOf (j .plan .task)) (j .plan .tasks)
+        ≡ fitTest e (contentIn t .tasks .cores) (contentIn t .tasks .task) (contentIn t .tasks .count)
+    unfolding planOf taskOf fitTest
+    plan-fit =
         rw plan-is
-        (way-ext e (contentIn t .tasks .count) _ _ (λ i h. getD-tab (contentIn t .tasks .task) 16 i noTask (omega (arith, fits .tasks-high))))
+        (ap (λ a. firstMet (refuse 31 (coreForEach (contentIn t .tasks .cores) (contentIn t .tasks .count)) ∷ a ∷ []))
+        (way-ext e (contentIn t .tasks .count) _ _ (λ i h. getD-tab (contentIn t .tasks .task) 16 i noTask (omega (arith, fits .tasks-high)))))
 
     pub convert-unfit :
-        (out : List ℕ) (r : Written) (k i : ℕ) → wayTest e (taskOf (j .plan .task)) (j .plan .tasks) ≡ Refused k i
+        (out : List ℕ) (r : Written) (k i : ℕ) → fitTest e (j .plan .cores) (taskOf (j .plan .task)) (j .plan .tasks) ≡ Refused k i
         → answerOfWritten r ≡ Refused k i → lengthOfWritten r ≡ 0 → Converts e t out r out
     unfolding convertTest wantedTest firstMet
     convert-unfit out r k i m =
-        let w : wayTest e (contentIn t .tasks .task) (contentIn t .tasks .count) ≡ Refused k i = sym plan-way ∙ m in
+        let w : fitTest e (contentIn t .tasks .cores) (contentIn t .tasks .task) (contentIn t .tasks .count) ≡ Refused k i = sym plan-fit ∙ m in
         stopped e t out r k i (rw (wanted, accepted, w))
 
-    module _ (passed : wayTest e (taskOf (j .plan .task)) (j .plan .tasks) ≡ Accepted) (p : Plan) (made : p ≡ convertedPlan e (j .plan)) where
+    module _ (passed : fitTest e (j .plan .cores) (taskOf (j .plan .task)) (j .plan .tasks) ≡ Accepted) (p : Plan) (made : p ≡ convertedPlan e (j .plan)) where
+      fit : fitTest e (contentIn t .tasks .cores) (contentIn t .tasks .task) (contentIn t .tasks .count) ≡ Accepted
+      fit = sym plan-fit ∙ passed
+
       way : wayTest e (contentIn t .tasks .task) (contentIn t .tasks .count) ≡ Accepted
-      way = sym plan-way ∙ passed
+      way = fit-passed e _ _ _ fit .1
 
       made-of : p ≡ planOf (converted e (contentIn t))
       made-of = made ∙ ap (convertedPlan e) plan-is ∙ plan-converted e (contentIn t)
@@ -183,7 +190,7 @@ module _ (e : ℕ) (t : List ℕ) (wanted : badEdition e || eqb (editionIn t) e 
 
       same-test : (room : ℕ) → writeTest p room ≡ convertTest e t room
       unfolding writeTest convertTest wantedTest firstMet
-      same-test room = rw (converted-accepts, says, wanted, accepted, way)
+      same-test room = rw (converted-accepts, says, wanted, accepted, fit)
 
       pub convert-written : (out : List ℕ) (r : Written) (after : List ℕ) → Writes p out r after → Converts e t out r after
       unfolding writtenLength writtenTo convertedLength convertedTo

@@ -3,6 +3,7 @@ use table::judge;
 use tasks::Answer;
 use tasks::Plan;
 use tasks::Task;
+use tasks::bound::core_for_each;
 use tasks::edition::deadline_in;
 use tasks::edition::has_deadlines;
 use tasks::edition::is_unknown;
@@ -22,7 +23,7 @@ ghost use Rattle.tasks.specs.Content.{hasDeadlines, taskOf};
 ghost use Rattle.tasks.specs.Tests.{badEdition};
 ghost use Rattle.codec.specs.Table.{editionIn};
 ghost use Rattle.writer.specs.Written.{answerOfWritten, lengthOfWritten};
-ghost use Rattle.conversion.specs.Converted.{convertedTask, noOffset, otherDeadline, wayTest, convertTest, convertedLength, convertedTo};
+ghost use Rattle.conversion.specs.Converted.{convertedTask, noOffset, otherDeadline, wayTest, fitTest, convertTest, convertedLength, convertedTo};
 ghost use Rattle.converter.specs.ConverterLaws.{convertedPlan};
 
 // "A table already in the wanted edition, or a wanted edition other than 1 and 2". A table without an edition byte is in none.
@@ -89,6 +90,20 @@ fn test_way(task: [Task; 16], tasks: usize, edition: u8) -> Answer
     }
 }
 
+// 31, "tested before 29 and 30".
+fn test_fit(cores: usize, task: [Task; 16], tasks: usize, edition: u8) -> Answer
+    requires { ⌜ tasks ≤ 16 ⌝ }
+    ensures { λ r. ⌜ r ≡ fitTest edition cores (taskOf task) tasks ⌝ }
+{
+    if core_for_each(cores, tasks) {
+        return Answer::Refused {
+            number: refusal::TASKS_TOO_FEW,
+            index: 0,
+        };
+    }
+    test_way(task, tasks, edition)
+}
+
 // "giving each loop its offset as deadline"; an unused place stays one.
 fn convert_tasks(task: [Task; 16], edition: u8) -> [Task; 16]
     ensures { λ r. ⌜ r ≡ tab (λ i. convertedTask edition (taskOf task i)) 16 ⌝ }
@@ -143,7 +158,7 @@ pub fn convert(table: &[u8], edition: u32, out: &mut [u8]) -> Written
     let plan = judgement.plan;
     let wanted = edition as u8;
     let task = plan.task;
-    let tested = test_way(task, plan.tasks, wanted);
+    let tested = test_fit(plan.cores, task, plan.tasks, wanted);
     let Answer::Accepted = tested else {
         return unwritten(tested);
     };

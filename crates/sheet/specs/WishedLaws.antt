@@ -21,13 +21,13 @@ use Rattle.tasks.specs.declared.Answer.the-variants.{Accepted, Refused}
 use Rattle.tasks.specs.TaskSet.{TaskSet, row}
 use Rattle.tasks.specs.Content.{inEdition, Content, noTask, taskOf, contentOf, planOf, zeroPlan}
 use Rattle.tasks.specs.ContentLaws.{used-task, plan-ext, withSlack}
-use Rattle.tasks.specs.Tests.{firstMet, unlessRefused, test3, test4, test5, test6, test7, test28, test9, test10}
+use Rattle.tasks.specs.Tests.{firstMet, unlessRefused, test3, test4, test6, test7, test28, test9, test10}
 use Rattle.tasks.specs.AnswerLaws.{refuse-passed, firstMet-append, firstMet-passed, outside-passed, firstMet-alone}
 use Rattle.codec.specs.Table.{coreCount, taskCount, slackCount, taskSetIn, contentIn, test1, test2}
 use Rattle.reader.specs.Counted.{countsTest}
 use Rattle.analysis.specs.SlackTest.{offering}
 use Rattle.table.specs.LoadedLaws.{loaded, outside-past, edition-same, tasks-in, labels-in}
-use Rattle.wishes.specs.Wish.{withOffset, withOffsets, largestOffset, atSlack, wished, test26, sheet11, test27, wishTests, solved}
+use Rattle.wishes.specs.Wish.{withOffset, withOffsets, largestOffset, atSlack, wished, sheet5, test26, sheet11, test27, wishTests, solved}
 use Rattle.wish_search.specs.declared.solve.Solved.{Solved}
 use Rattle.wish_search.specs.Solved.{FoundIn, PlanSolved}
 use Rattle.sheet.specs.declared.Wished.{Wished}
@@ -51,7 +51,7 @@ pub record Wishes (p : Plan) (k : ℕ) (r : Wished) : Type 0 where
   pub plan : r .plan ≡ unlessRefused (r .answer) (planWith p k) zeroPlan
 
 few-tasks : (c : Content) → wishTests c ≡ Accepted → c .tasks .count ≤ 16
-unfolding wishTests test5
+unfolding wishTests sheet5
 few-tasks c a =
     let r3 = firstMet-passed _ _ a in
     let r4 = firstMet-passed _ _ (r3 .1) in
@@ -129,7 +129,7 @@ module _ (p : Plan) (k : ℕ) where
 
 -- the tests of a sheet look at its edition, its tasks, its labels and its slack count
 tests-same : (c d : Content) → c .edition ≡ d .edition → c .tasks ≡ d .tasks → c .label ≡ d .label → c .offers ≡ d .offers → wishTests c ≡ wishTests d
-unfolding wishTests test3 test4 test5 test6 test7 test26 test28 test9 test10 sheet11 test27
+unfolding wishTests test3 test4 sheet5 test6 test7 test26 test28 test9 test10 sheet11 test27
 tests-same c d v e q o = λ i. wishTests (record { edition = v i; tasks = e i; label = q i; offers = o i; slack = c .slack })
 
 verdict-stops : (t : List ℕ) (k i : ℕ) → countsTest t ≡ Refused k i → wishVerdict t ≡ Refused k i
@@ -146,7 +146,7 @@ module _ (t : List ℕ) where
   cores-over h = rw (outside-past 2 8 (coreCount t) h)
 
   tasks-over : coreCount t ≤ 8 → 16 < taskCount t → wishTests said ≡ wishTests (contentIn t)
-  unfolding said wishTests test3 test4 test5 firstMet offering contentOf loaded withSlack planOf contentIn taskSetIn
+  unfolding said wishTests test3 test4 sheet5 firstMet offering contentOf loaded withSlack planOf contentIn taskSetIn
   tasks-over m h = rw (outside-past (coreCount t + 1) 16 (taskCount t) h, labels-in t m)
 
   in-range : coreCount t ≤ 8 → taskCount t ≤ 16 → wishTests said ≡ wishTests (contentIn t)

@@ -23,8 +23,8 @@ cast-wanted c =
     let a = j .before .before .before .before .before .args in
     omega (arith, wanted-small (a .edition) (eqb (editionIn (a .table .now)) (a .edition)) (sym (j .before .before .is-unwanted .ensures) ∙ j .before .if1 .left))
 
-test-way-requires : tie.Need-test-way-requires
-test-way-requires c κs =
+test-fit-requires : tie.Need-test-fit-requires
+test-fit-requires c κs =
     let j = c .before .before .before .before in
     let a = j .before .before .before .before .before .args in
     plan-few (a .edition) (a .table .now) (sym (j .before .before .is-unwanted .ensures) ∙ j .before .if1 .left) _ (j .judge .ensures) (c .before .before .enum-told .given .1)
@@ -35,7 +35,7 @@ returns-3 c =
     let j = w .before .before .before .before .before in
     let met = c .before .enum-told4 .given .1 in
     convert-unfit _ _ (sym (j .before .before .is-unwanted .ensures) ∙ j .before .if1 .left) _ (j .judge .ensures) (w .before .before .before .enum-told .given .1) _ (c .unwritten2 .result) _ _
-    (sym (w .test-way .ensures) ∙ met) (c .unwritten2 .ensures .0 ∙ met) (c .unwritten2 .ensures .1)
+    (sym (w .test-fit .ensures) ∙ met) (c .unwritten2 .ensures .0 ∙ met) (c .unwritten2 .ensures .1)
 
 write-accepted-requires : tie.Need-write-accepted-requires
 write-accepted-requires c κs =
@@ -43,7 +43,7 @@ write-accepted-requires c κs =
     let w = m .before .before .before in
     let j = w .before .before .before .before .before in
     converted-accepts _ _ (sym (j .before .before .is-unwanted .ensures) ∙ j .before .if1 .left) _ (j .judge .ensures) (w .before .before .before .enum-told .given .1)
-    (sym (w .test-way .ensures) ∙ m .before .enum-told3 .given .1) _ (m .convert-plan .ensures)
+    (sym (w .test-fit .ensures) ∙ m .before .enum-told3 .given .1) _ (m .convert-plan .ensures)
 
 returns-4 : tie.Need-returns-4
 returns-4 c =
@@ -51,7 +51,7 @@ returns-4 c =
     let w = m .before .before .before in
     let j = w .before .before .before .before .before in
     convert-written _ _ (sym (j .before .before .is-unwanted .ensures) ∙ j .before .if1 .left) _ (j .judge .ensures) (w .before .before .before .enum-told .given .1)
-    (sym (w .test-way .ensures) ∙ m .before .enum-told3 .given .1) _ (m .convert-plan .ensures) _ (c .before .before .write-accepted .result) _ (c .before .before .write-accepted .ensures)
+    (sym (w .test-fit .ensures) ∙ m .before .enum-told3 .given .1) _ (m .convert-plan .ensures) _ (c .before .before .write-accepted .result) _ (c .before .before .write-accepted .ensures)
 
 pub convert-spec : {M : Type 1} → statement M
 convert-spec =
@@ -65,7 +65,7 @@ convert-spec =
     (λ c κs. search needs)
     returns-2
     cast-wanted
-    test-way-requires
+    test-fit-requires
     (λ c. search needs)
     (λ c. search needs)
     (λ c κs. search needs)
