@@ -13,6 +13,7 @@
 --     counted-line     the last line from an array
 use Prim.Native.Nat.{ℕ, zero, suc, _+_, _*_, _≤_, _<_}
 use mathlib.Core.Path.{_≡_, refl, sym, ap, _∙_}
+use mathlib.Core.Bool.{Bool}
 use mathlib.Core.List.{List, _++_}
 use native.Mathlib.Numerals.{add-one}
 use native.Mathlib.Omega.{arith}
@@ -25,12 +26,12 @@ use Rattle.laws.specs.TabLaws.{cut-below}
 use Rattle.tasks.specs.declared.Task.{Task}
 use Rattle.tasks.specs.declared.Plan.{Plan}
 use Rattle.tasks.specs.declared.Answer.the-variants.{Accepted}
-use Rattle.tasks.specs.TaskSet.{bound, row}
+use Rattle.tasks.specs.TaskSet.{coreForEach, boundBy, bound, row}
 use Rattle.tasks.specs.Limits.{Bounded}
 use Rattle.tasks.specs.Content.{lateOf, late, contentOf, taskOf}
 use Rattle.tasks.specs.ContentLaws.{used-task, late-edition, late-high}
 use Rattle.tasks.specs.Tests.{testPlan}
-use Rattle.tasks.specs.TestsLaws.{tests-limits, tests-bounded, plan-passed}
+use Rattle.tasks.specs.TestsLaws.{tests-passed, tests-limits, tests-bounded, slack-high, plan-passed}
 use Rattle.numbers.specs.Bytes.{entries}
 use Rattle.numbers.specs.ByteLaws.{entries-same}
 use Rattle.text.specs.Printed.{pairLine, countsLine, taskLine, refusalLine, lineOf, planLines, countedLine}
@@ -54,11 +55,11 @@ refusal-short k i h l =
       decimal-length 4 i (omega arith),
     )
 
-unfoldable pub lineIn : ℕ → List Task → List ℕ → ℕ → List ℕ
-lineIn e task slack i =
+unfoldable pub lineIn : Bool → ℕ → List Task → List ℕ → ℕ → List ℕ
+lineIn each e task slack i =
     let t = taskOf task i in
     let x = row slack i in
-    taskLine i x (t .offset + x + t .budget) (lateOf e t x)
+    taskLine i x (boundBy each t x) (lateOf e t (boundBy each t x))
 
 -- pieces stored one behind the other: none yet, and one more
 pub stored-none : (f : ℕ → List ℕ) (l : List ℕ) (at : ℕ) → Stored l at (entries f 0) at l
@@ -72,23 +73,26 @@ unfolding entries
 stored-next f i s r = rw add-one (put-behind s r)
 
 pub lines-next :
-    (v : ℕ) (task : List Task) (slack : List ℕ) (i b d : ℕ) {l u w : List ℕ} {from at end : ℕ}
-    → b ≡ taskOf task i .offset + row slack i + taskOf task i .budget → d ≡ lateOf v (taskOf task i) (row slack i)
-    → Stored l from (entries (lineIn v task slack) i) at u → Stored u at (taskLine i (row slack i) b d) end w
-    → Stored l from (entries (lineIn v task slack) (i + 1)) end w
+    (each : Bool) (v : ℕ) (task : List Task) (slack : List ℕ) (i b d : ℕ) {l u w : List ℕ} {from at end : ℕ}
+    → b ≡ boundBy each (taskOf task i) (row slack i) → d ≡ lateOf v (taskOf task i) b
+    → Stored l from (entries (lineIn each v task slack) i) at u → Stored u at (taskLine i (row slack i) b d) end w
+    → Stored l from (entries (lineIn each v task slack) (i + 1)) end w
 unfolding lineIn
-lines-next v task slack i b d e q s r = stored-next (lineIn v task slack) i s (rw (e, q) at r)
+lines-next each v task slack i b d e q s r = stored-next (lineIn each v task slack) i s (rw (q, e) at r)
 
 module _ (p : Plan) (passed : testPlan p ≡ Accepted) where
   pub within : (p .cores ≤ 8) × (p .tasks ≤ 16)
   unfolding contentOf
   within = let L = tests-limits (contentOf p) (plan-passed p passed .1) in (L .cores-high, L .tasks-high)
 
-  pub line-in : (i : ℕ) → i < p .tasks → lineIn (p .edition) (p .task) (p .slack) i ≡ lineOf (contentOf p) i
-  unfolding lineIn lineOf contentOf bound late
+  each : Bool
+  each = coreForEach (p .cores) (p .tasks)
+
+  pub line-in : (i : ℕ) → i < p .tasks → lineIn (coreForEach (p .cores) (p .tasks)) (p .edition) (p .task) (p .slack) i ≡ lineOf (contentOf p) i
+  unfolding lineIn lineOf contentOf bound late each
   line-in i h =
       rw (cut-below (p .tasks) (row (p .slack)) 0 i h, used-task p i h)
-      (ap (taskLine i _ _) (sym (late-edition (p .edition) (taskOf (p .task) i) (row (p .slack) i))))
+      (ap (taskLine i _ _) (sym (late-edition (p .edition) (taskOf (p .task) i) (boundBy each (taskOf (p .task) i) (row (p .slack) i)))))
 
   bound-small : (i : ℕ) → i < p .tasks → bound (contentOf p .tasks) (contentOf p .slack) i ≤ 1600000
   unfolding contentOf Bounded
@@ -97,7 +101,7 @@ module _ (p : Plan) (passed : testPlan p ≡ Accepted) where
       omega (arith, tests-bounded (contentOf p) a i h, tests-limits (contentOf p) a .separation-high i h)
 
   line-short : (i : ℕ) → i < p .tasks → length (lineOf (contentOf p) i) ≤ 49
-  unfolding lineOf bound late
+  unfolding lineOf late contentOf
   line-short i h =
       let c = contentOf p in
       let b = bound-small i h in
@@ -105,12 +109,12 @@ module _ (p : Plan) (passed : testPlan p ≡ Accepted) where
         arith,
         length-task-line i (c .slack i) (bound (c .tasks) (c .slack) i) (late c i),
         decimal-length 1 i (omega (arith, within)),
-        decimal-length 6 (c .slack i) (omega arith),
+        decimal-length 6 (c .slack i) (omega (arith, slack-high (contentOf p) (tests-passed (contentOf p) (plan-passed p passed .1)) i h)),
         decimal-length 6 (bound (c .tasks) (c .slack) i) (omega arith),
-        decimal-length 6 (late c i) (omega (arith, late-high (c .edition) (c .tasks .task i) (c .slack i))),
+        decimal-length 6 (late c i) (omega (arith, late-high (c .edition) (c .tasks .task i) (bound (c .tasks) (c .slack) i))),
       )
 
-  pub lines-short : (i : ℕ) → i ≤ p .tasks → length (entries (lineIn (p .edition) (p .task) (p .slack)) i) ≤ 49 * i
+  pub lines-short : (i : ℕ) → i ≤ p .tasks → length (entries (lineIn (coreForEach (p .cores) (p .tasks)) (p .edition) (p .task) (p .slack)) i) ≤ 49 * i
   unfolding entries
   lines-short zero h = omega arith
   lines-short (suc i) h =
@@ -126,26 +130,28 @@ module _ (p : Plan) (passed : testPlan p ≡ Accepted) where
         decimal-length 1 (p .tasks) (omega (arith, within)),
       )
 
-  pub line-room :
-      (i b d at : ℕ) → i < p .tasks → b ≡ taskOf (p .task) i .offset + row (p .slack) i + taskOf (p .task) i .budget
-      → d ≡ lateOf (p .edition) (taskOf (p .task) i) (row (p .slack) i)
-      → at ≡ length (countsLine (p .cores) (p .tasks)) + length (entries (lineIn (p .edition) (p .task) (p .slack)) i)
-      → at + length (taskLine i (row (p .slack) i) b d) ≤ 1024
-  unfolding entries lineIn
-  line-room i b d at h e q r =
-      let all = lines-short (suc i) h in
-      rw (e, q)
-      (omega (
-        arith,
-        within,
-        counts-short,
-        all,
-        length-append (entries (lineIn (p .edition) (p .task) (p .slack)) i) (lineIn (p .edition) (p .task) (p .slack) i),
-      ))
+  -- `own` is what the code has worked out
+  module _ (own : Bool) (eo : own ≡ coreForEach (p .cores) (p .tasks)) where
+    pub line-room :
+        (i b d at : ℕ) → i < p .tasks → b ≡ boundBy own (taskOf (p .task) i) (row (p .slack) i)
+        → d ≡ lateOf (p .edition) (taskOf (p .task) i) b
+        → at ≡ length (countsLine (p .cores) (p .tasks)) + length (entries (lineIn own (p .edition) (p .task) (p .slack)) i)
+        → at + length (taskLine i (row (p .slack) i) b d) ≤ 1024
+    unfolding entries lineIn
+    line-room i b d at h e q r =
+        let all = rw (← eo) at (lines-short (suc i) h) in
+        rw (q, e)
+        (omega (
+          arith,
+          within,
+          counts-short,
+          all,
+          length-append (entries (lineIn own (p .edition) (p .task) (p .slack)) i) (lineIn own (p .edition) (p .task) (p .slack) i),
+        ))
 
-  pub plan-text : planLines (contentOf p) ≡ countsLine (p .cores) (p .tasks) ++ entries (lineIn (p .edition) (p .task) (p .slack)) (p .tasks)
-  unfolding planLines contentOf
-  plan-text = ap (λ (l : List ℕ). countsLine (p .cores) (p .tasks) ++ l) (sym (entries-same _ _ (p .tasks) line-in))
+    pub plan-text : planLines (contentOf p) ≡ countsLine (p .cores) (p .tasks) ++ entries (lineIn own (p .edition) (p .task) (p .slack)) (p .tasks)
+    unfolding planLines contentOf
+    plan-text = rw eo (ap (λ (l : List ℕ). countsLine (p .cores) (p .tasks) ++ l) (sym (entries-same _ _ (p .tasks) line-in)))
 
 -- ---- the last line
 

@@ -61,7 +61,7 @@ module _ (t : List ℕ) (j : Judgement) (e : j ≡ judged t) where
 
 pub plan-short : (p : Plan) → testPlan p ≡ Accepted → length (planLines (contentOf p)) ≤ 801
 plan-short p a =
-    rw (plan-text p a, length-append)
+    rw (plan-text p a _ refl, length-append)
     (omega (arith, within p a, counts-short p a, lines-short p a (p .tasks) (omega arith)))
 
 pub text-short :

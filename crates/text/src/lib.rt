@@ -5,6 +5,8 @@ use table::judge;
 use tasks::Answer;
 use tasks::Plan;
 use tasks::Task;
+use tasks::bound::bound;
+use tasks::bound::core_for_each;
 use tasks::edition::has_deadlines;
 ghost use mathlib.Core.Path.{_≡_};
 ghost use mathlib.Core.List.{_++_};
@@ -21,13 +23,6 @@ ghost use Rattle.text.specs.Printed.{pairLine, taskLine, refusalLine, co
 // and a last one of at most 32.
 pub const LONGEST: usize = 1024;
 
-// "The bound of a loop is Y + x + C". In 64 bits, as the text's numbers are.
-fn bound(offset: u32, slack: u32, budget: u32) -> u64
-    ensures { λ r. ⌜ r ≡ offset + slack + budget ⌝ }
-{
-    offset as u64 + slack as u64 + budget as u64
-}
-
 // "the larger of 0 and" a − b.
 fn past(a: u64, b: u64) -> u64
     ensures { λ r. ⌜ r ≡ a - b ⌝ }
@@ -38,14 +33,14 @@ fn past(a: u64, b: u64) -> u64
     a - b
 }
 
-// "Late is x + C"; in edition 2 "the larger of 0 and bound − D".
-fn late(edition: u8, task: Task, slack: u32) -> u64
-    ensures { λ r. ⌜ r ≡ lateOf edition task slack ⌝ }
+// "the larger of 0 and bound minus offset, or minus deadline in edition 2".
+fn late(edition: u8, task: Task, bound: u64) -> u64
+    ensures { λ r. ⌜ r ≡ lateOf edition task bound ⌝ }
 {
     if has_deadlines(edition) {
-        return past(bound(task.offset, slack, task.budget), task.deadline as u64);
+        return past(bound, task.deadline as u64);
     }
-    slack as u64 + task.budget as u64
+    past(bound, task.offset as u64)
 }
 
 // A line of words and a number, twice, from the buffer's beginning on.
@@ -79,19 +74,14 @@ fn put_plan(out: &mut [u8], plan: Plan) -> usize
     let tasks = plan.tasks;
     let task = plan.task;
     let slack = plan.slack;
+    let each = core_for_each(plan.cores, tasks);
     let mut at = put_pair(out, b"cores ", plan.cores as u64, b" loops ", tasks as u64);
     let mut i = 0;
     while i < tasks {
         let t = task[i];
         let x = slack[i];
-        at = put_task(
-            out,
-            at,
-            i as u64,
-            x,
-            bound(t.offset, x, t.budget),
-            late(edition, t, x),
-        );
+        let b = bound(each, t, x);
+        at = put_task(out, at, i as u64, x, b, late(edition, t, b));
         i += 1;
     }
     at

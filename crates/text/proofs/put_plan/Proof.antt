@@ -16,10 +16,14 @@ use Rattle.text.proofs.put_plan.Statement.{statement}
 use Rattle.text.proofs.put_plan.Tie as tie
 
 abbrev Inv-loop : tie.InvT-loop
-Inv-loop out₀ edition tasks task slack at₀ i₀ out at i = (i ≤ tasks) × (length out ≡ length out₀) × Stored out₀ at₀ (entries (lineIn edition task slack) i) at out
+Inv-loop out₀ edition tasks task slack each at₀ i₀ out at i =
+    (i ≤ tasks) × (length out ≡ length out₀) × Stored out₀ at₀ (entries (lineIn each edition task slack) i) at out
 
 abbrev μ-loop : tie.MeasureT-loop
-μ-loop out₀ edition tasks task slack at₀ i₀ out at i = tasks - i
+μ-loop out₀ edition tasks task slack each at₀ i₀ out at i = tasks - i
+
+core-for-each-requires : tie.Need-core-for-each-requires Inv-loop μ-loop
+core-for-each-requires c κs = search needs
 
 slice-aggregate-put-pair : tie.Need-slice-aggregate-put-pair Inv-loop μ-loop
 slice-aggregate-put-pair c = search needs
@@ -29,22 +33,22 @@ slice-aggregate-put-pair-2 c = search needs
 
 put-pair-requires : tie.Need-put-pair-requires Inv-loop μ-loop
 unfolding countsLine words
-put-pair-requires c κs = omega (arith, counts-short (c .before .before .before .before .before .before .args .plan) (c .before .before .before .before .before .before .pre .0), c .before .before .before .before .before .before .pre .1)
+put-pair-requires c κs = let s = c .before .before .before .before .before .before .before in omega (arith, counts-short (s .args .plan) (s .pre .0), s .pre .1)
 
 loop-holds : tie.Need-loop-holds Inv-loop μ-loop
 loop-holds c = (search needs, refl, stored-none _ _ _)
 
 mul-t : tie.Need-mul-t Inv-loop μ-loop
-mul-t c = omega (arith, within (c .before .before .before .before .before .before .before .before .before .before .before .args .plan) (c .before .before .before .before .before .before .before .before .before .before .before .pre .0))
+mul-t c = let s = c .before .before .before .before .before .before .before .before .before .before .before .before in omega (arith, within (s .args .plan) (s .pre .0))
 
 array-copy-out-t : tie.Need-array-copy-out-t Inv-loop μ-loop
-array-copy-out-t c = omega (arith, within (c .before .before .before .before .before .before .before .before .before .before .before .args .plan) (c .before .before .before .before .before .before .before .before .before .before .before .pre .0))
+array-copy-out-t c = let s = c .before .before .before .before .before .before .before .before .before .before .before .before in omega (arith, within (s .args .plan) (s .pre .0))
 
 mul-x : tie.Need-mul-x Inv-loop μ-loop
-mul-x c = omega (arith, within (c .before .before .before .before .before .before .before .before .before .before .before .before .args .plan) (c .before .before .before .before .before .before .before .before .before .before .before .before .pre .0))
+mul-x c = let s = c .before .before .before .before .before .before .before .before .before .before .before .before .before in omega (arith, within (s .args .plan) (s .pre .0))
 
 array-read-x : tie.Need-array-read-x Inv-loop μ-loop
-array-read-x c = omega (arith, within (c .before .before .before .before .before .before .before .before .before .before .before .before .args .plan) (c .before .before .before .before .before .before .before .before .before .before .before .before .pre .0))
+array-read-x c = let s = c .before .before .before .before .before .before .before .before .before .before .before .before .before in omega (arith, within (s .args .plan) (s .pre .0))
 
 bound-requires : tie.Need-bound-requires Inv-loop μ-loop
 bound-requires c κs = search needs
@@ -57,11 +61,12 @@ unfolding countsLine words taskOf noTask row
 put-task-requires c κs =
     let k = c .before .before .before .before .before .loop in
     let q = c .before .before .before .before .before .before .before .before .put-pair in
-    let s = c .before .before .before .before .before .before .before .before .before .before .before .before .before .before .before in
+    let o = c .before .before .before .before .before .before .before .before .before .before .before .before .core-for-each in
+    let s = c .before .before .before .before .before .before .before .before .before .before .before .before .before .before .before .before in
     omega (
       arith,
-      line-room (s .args .plan) (s .pre .0) (k .i) (c .before .bound .result) (c .late .result) (k .at) (omega arith) (c .before .bound .ensures) (c .late .ensures)
-          (k .inv .2 .place ∙ ap (λ n. n + length (entries (lineIn (s .args .plan .edition) (s .args .plan .task) (s .args .plan .slack)) (k .i))) (q .ensures .place ∙ zero-add _)),
+      line-room (s .args .plan) (s .pre .0) (o .result) (o .ensures) (k .i) (c .before .before .bound .result) (c .late .result) (k .at) (omega arith) (c .before .before .bound .ensures) (c .late .ensures)
+          (k .inv .2 .place ∙ ap (λ n. n + length (entries (lineIn (o .result) (s .args .plan .edition) (s .args .plan .task) (s .args .plan .slack)) (k .i))) (q .ensures .place ∙ zero-add _)),
       k .inv .1,
       q .kept .0,
       s .pre .1,
@@ -77,11 +82,12 @@ loop-again : tie.Need-loop-again Inv-loop μ-loop
 unfolding taskOf noTask row
 loop-again c =
     let k = c .before .before .before .before .before .before .before .before .loop in
-    let a = c .before .before .before .before .before .before .before .before .before .before .before .before .before .before .before .before .before .before .args in
+    let o = c .before .before .before .before .before .before .before .before .before .before .before .before .before .before .before .core-for-each in
+    let a = c .before .before .before .before .before .before .before .before .before .before .before .before .before .before .before .before .before .before .before .args in
     let t = c .before .before .put-task in (
       search needs,
       t .kept .0 ∙ k .inv .1,
-      lines-next (a .plan .edition) (a .plan .task) (a .plan .slack) (k .i) _ _ (c .before .before .before .before .bound .ensures) (c .before .before .before .late .ensures) (k .inv .2) (t .ensures),
+      lines-next (o .result) (a .plan .edition) (a .plan .task) (a .plan .slack) (k .i) _ _ (c .before .before .before .before .before .bound .ensures) (c .before .before .before .late .ensures) (k .inv .2) (t .ensures),
     )
 
 same-length : tie.Need-same-length Inv-loop μ-loop
@@ -91,9 +97,10 @@ returns : tie.Need-returns Inv-loop μ-loop
 unfolding countsLine words
 returns c =
     let k = c .before .loop in
-    let s = c .before .before .before .before .before .before .before .before .before .before .before in
+    let o = c .before .before .before .before .before .before .before .before .core-for-each in
+    let s = c .before .before .before .before .before .before .before .before .before .before .before .before in
     let e : k .i ≡ s .args .plan .tasks = omega arith in
-    rw (plan-text (s .args .plan) (s .pre .0)) (put-behind (c .before .before .before .before .put-pair .ensures) (rw e at (k .inv .2)))
+    rw (plan-text (s .args .plan) (s .pre .0) (o .result) (o .ensures)) (put-behind (c .before .before .before .before .put-pair .ensures) (rw e at (k .inv .2)))
 
 pub put-plan-spec : {M : Type 1} → statement M
 put-plan-spec =
@@ -101,6 +108,7 @@ put-plan-spec =
     (tie.spec
     Inv-loop
     μ-loop
+    core-for-each-requires
     slice-aggregate-put-pair
     slice-aggregate-put-pair-2
     put-pair-requires
