@@ -22,7 +22,7 @@ use lib.ListN.{length, drop}
 use lib.Dec.{ltb}
 use Rattle.tasks.specs.declared.Plan.{Plan}
 use Rattle.tasks.specs.declared.Answer.{Answer}
-use Rattle.tasks.specs.TaskSet.{bound, row}
+use Rattle.tasks.specs.TaskSet.{coreForEach, boundBy, bound, row}
 use Rattle.tasks.specs.Content.{Content, taskOf}
 use Rattle.tasks.specs.Tests.{refuse, firstMet, numberOf, indexOf, unlessRefused}
 use Rattle.numbers.specs.Bytes.{digits, entries}
@@ -66,9 +66,9 @@ countedNumber t room = answerNumber (countedTest t room) (length (countedIn t))
 unfoldable pub countedLeaves : List ℕ → List ℕ → List ℕ
 countedLeaves t out = unlessRefused (countedTest t (length out)) (countedIn t ++ drop (length (countedIn t)) out) out
 
--- the sum that is a task's bound, from a plan's own arrays
+-- a task's bound, from a plan's own arrays
 unfoldable pub boundIn : Plan → ℕ → ℕ
-boundIn p i = taskOf (p .task) i .offset + row (p .slack) i + taskOf (p .task) i .budget
+boundIn p i = boundBy (coreForEach (p .cores) (p .tasks)) (taskOf (p .task) i) (row (p .slack) i)
 
 -- eight bytes for a judgement, twelve for a wish
 abbrev pub entrySize : Bool → ℕ

@@ -64,9 +64,13 @@ module _ (b : Bool) {c : Content} {p : Plan} (g : Reported c p) where
   unfolding row planOf
   slack-at i h = rw (g .plan-is) (getD-tab (c .slack) 16 i 0 (omega (arith, few)))
 
+  cores-are : p .cores ≡ c .tasks .cores
+  unfolding planOf
+  cores-are = rw (g .plan-is)
+
   bound-at : (i : ℕ) → i < c .tasks .count → boundIn p i ≡ bound (c .tasks) (c .slack) i
   unfolding boundIn bound
-  bound-at i h = rw (task-at i h, slack-at i h)
+  bound-at i h = rw (cores-are, tasks-are, task-at i h, slack-at i h)
 
   pub reportable : (room : ℕ) → entrySize b * p .tasks ≤ room → Reportable b p room
   unfolding Bounded

@@ -8,6 +8,8 @@ use sheet::wish;
 use table::judge;
 use tasks::Answer;
 use tasks::Plan;
+use tasks::bound::bound;
+use tasks::bound::core_for_each;
 use tasks::refusal;
 use wording::Composed;
 use writer::Written;
@@ -65,17 +67,12 @@ fn report(plan: Plan, out: &mut [u8], wishes: bool)
     let tasks = plan.tasks;
     let task = plan.task;
     let slack = plan.slack;
+    let each = core_for_each(plan.cores, tasks);
     let mut i = 0;
     while i < tasks {
         let t = task[i];
-        put_entry(
-            out,
-            i,
-            t.offset,
-            slack[i],
-            t.offset + slack[i] + t.budget,
-            wishes,
-        );
+        let b = bound(each, t, slack[i]) as u32;
+        put_entry(out, i, t.offset, slack[i], b, wishes);
         i += 1;
     }
 }
