@@ -5,7 +5,7 @@
 --     within-high                                           a loop of an accepted table has at most 1,600,000 ticks
 --     slack-at, bound-at                                    the eight bytes that the C judgement leaves of loop i
 use Prim.Native.Nat.{ℕ, _+_, _*_, _≤_, _<_}
-use mathlib.Core.Path.{_≡_, refl, sym, ap, _∙_}
+use mathlib.Core.Path.{_≡_, refl, ap, _∙_}
 use mathlib.Core.List.{List, [], _++_, append-nil}
 use native.Mathlib.Nat.{add-zero}
 use native.Mathlib.Omega.{arith}

@@ -58,7 +58,7 @@ pub fn load(table: &[u8], edition: u8, cores: usize, tasks: usize, offers: usize
 
 // How many loops a judgement names: m − 1, and none where loops are no more than cores.
 fn named(cores: usize, tasks: usize) -> usize
-    requires { ⌜ 1 ≤ cores ⌝ }
+    requires { ⌜ 2 ≤ cores ⌝ }
     ensures { λ r. ⌜ r ≡ cond (coreForEach cores tasks) 0 (cores - 1) ⌝ }
 {
     if core_for_each(cores, tasks) {

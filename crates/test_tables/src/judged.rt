@@ -3,30 +3,29 @@ use crate::written;
 use tasks::Answer;
 use tasks::Plan;
 use tasks::Task;
+use tasks::bound::bound;
+use tasks::bound::core_for_each;
 use test_same_plan::all_zero;
 use test_same_plan::unused_zero;
 use test_script::say;
 
-// 64 bits hold the bound of any offered slack.
-fn bound(task: Task, slack: u32) -> u64 {
-    task.offset as u64 + slack as u64 + task.budget as u64
-}
-
-fn say_task(i: usize, edition: u8, task: Task, slack: u32) {
+fn say_task(i: usize, edition: u8, each: bool, task: Task, slack: u32) {
+    let bound = bound(each, task, slack);
     say::number(b"loop ", i as u64);
     say::number(b" slack ", slack as u64);
-    say::number(b" bound ", bound(task, slack));
-    say::deadline(edition, task.deadline, bound(task, slack));
+    say::number(b" bound ", bound);
+    say::deadline(edition, task.deadline, bound);
     say::text(b"\n");
 }
 
 fn say_tasks(plan: Plan) {
     let edition = plan.edition;
     let tasks = plan.tasks;
+    let each = core_for_each(plan.cores, tasks);
     let mut i = 0;
     while i < 16 {
         if i < tasks {
-            say_task(i, edition, plan.task[i], plan.slack[i]);
+            say_task(i, edition, each, plan.task[i], plan.slack[i]);
         }
         i += 1;
     }

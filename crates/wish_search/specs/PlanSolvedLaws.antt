@@ -11,7 +11,7 @@ use Rattle.tasks.specs.declared.Answer.{Answer}
 use Rattle.tasks.specs.declared.Answer.the-variants.{Accepted, Refused}
 use Rattle.tasks.specs.TaskSet.{TaskSet, plain, row}
 use Rattle.tasks.specs.Content.{Content, taskOf, contentOf}
-use Rattle.tasks.specs.Tests.{firstMet, orNext, test3, test4, test5, test6, test7, test28, test9, test10}
+use Rattle.tasks.specs.Tests.{firstMet, orNext, test3, test4, test6, test7, test28, test9, test10}
 use Rattle.tasks.specs.AnswerLaws.{firstMet-append}
 use Rattle.fields.specs.declared.columns.Columns.{Columns}
 use Rattle.fields.specs.Columns.{columnsOf, setFrom}

@@ -8,7 +8,7 @@
 --     agrees       whether the definitions say the same of a case
 --     Shown, texts, prints    a table's edition and loops and the text that `plan` prints for them
 --     worked       the definitions agree in every case, with the log run on the abstract machine, and in every text
---     worked-runs  and so does the delivered engine's run
+--     worked-runs  and so does the delivered engine's run; all-delivered: as in any list of cases
 --     SheetCase, sheets, meets    a wish sheet's edition and loops and what document 02, §3, says of them: P1's, and sheets of ours beside the limits
 --     worked-sheets               the definitions say the same of every sheet
 use Prim.Native.Nat.{ℕ, suc}
@@ -45,7 +45,7 @@ use Rattle.decimal.specs.Decimal.{words, digitsIn, decimal, said}
 use Rattle.text.specs.Printed.{pairLine, countsLine, taskLine, refusalLine, lineOf, countedLine, planLines, planText, printed}
 use Rattle.codec.specs.Table.{coreCount, taskCount, tasksAt, slackCount, slackAt, taskIn, taskSetIn, contentIn, test1, test2, verdict, taskSize, plainBytes, taskBytes}
 use Rattle.table.specs.Judged.{countedIn}
-use Rattle.wishes.specs.Wish.{withOffsets, largestOffset, atSlack, wished, passes, noSolution, test26, sheet11, test27, wishTests, solved}
+use Rattle.wishes.specs.Wish.{withOffsets, largestOffset, atSlack, wished, passes, noSolution, sheet5, test26, sheet11, test27, wishTests, solved}
 use Rattle.sheet.specs.Wished.{wishVerdict, wishOf}
 
 pub record Case : Type 0 where
@@ -64,7 +64,7 @@ pub record Case : Type 0 where
   pub reports : List Report
 
 -- a table on m cores that is accepted with this slack, these bounds and these names
-abbrev acceptedOn : ℕ → ℕ → List Task → List ℕ → List ℕ → List ℕ → List ℕ → Case
+abbrev pub acceptedOn : ℕ → ℕ → List Task → List ℕ → List ℕ → List ℕ → List ℕ → Case
 acceptedOn m p loops offered slack bounds names =
     record {
       p = p;
@@ -115,7 +115,7 @@ run p loops name log reports =
     }
 
 -- an entry of loop i at tick t with demand c
-abbrev entry : ℕ → ℕ → ℕ → Entry
+abbrev pub entry : ℕ → ℕ → ℕ → Entry
 entry t i c = record { tick = t; loop = i; demand = c }
 
 abbrev pub p3 : ℕ → List Task
@@ -176,17 +176,17 @@ tableOf c = tableWith 1 (c .cores) (c .loops) (c .offered)
 abbrev entryBytes : Entry → List ℕ
 entryBytes e = digits 4 (e .tick) ++ e .loop ∷ digits 4 (e .demand)
 
-pub logOf : Case → List ℕ
+unfoldable pub logOf : Case → List ℕ
 logOf c = digits 2 (length (c .log)) ++ concat (map entryBytes (c .log))
 
-pub sameReport : Report → Report → Bool
+unfoldable pub sameReport : Report → Report → Bool
 sameReport (finished f) (finished g) = eqb f g
 sameReport (finished f) (refusal k) = false
 sameReport (refusal k) (finished f) = false
 sameReport (refusal k) (refusal n) = eqb k n
 
 -- the reports f of the entries from e on, of n in all, are these
-pub sameBy : (ℕ → Report) → ℕ → ℕ → List Report → Bool
+unfoldable pub sameBy : (ℕ → Report) → ℕ → ℕ → List Report → Bool
 sameBy f n e [] = eqb e n
 sameBy f n e (r ∷ rs) = sameReport (f e) r && sameBy f n (suc e) rs
 
@@ -199,7 +199,7 @@ sameAnswer Accepted (Refused k i) = false
 sameAnswer (Refused k i) Accepted = false
 sameAnswer (Refused k i) (Refused k' i') = eqb k k' && eqb i i'
 
-pub agrees : Case → Bool
+unfoldable pub agrees : Case → Bool
 agrees c =
     sameAnswer (verdict (tableOf c)) (c .answer)
     && sameList (tab (contentIn (tableOf c) .slack) (length (c .slack))) (c .slack)
@@ -208,7 +208,7 @@ agrees c =
     && sameAnswer (logTest (logOf c)) Accepted
     && sameReports (machineEngine (contentIn (tableOf c) .tasks)) (entriesIn (logOf c)) 0 (c .reports)
 
-pub agreeAll : List Case → Bool
+unfoldable pub agreeAll : List Case → Bool
 agreeAll [] = true
 agreeAll (c ∷ l) = agrees c && agreeAll l
 
@@ -296,7 +296,7 @@ delivered c t = go (c .answer) (all .0)
         (sym (demand-machine (tableOf c) (accepts _ q) (logOf c) (accepts _ (all .1)))) (all .2)
     go (Refused k i) q = tt
 
-all-delivered : (l : List Case) → T (agreeAll l) → T (runAll l)
+pub all-delivered : (l : List Case) → T (agreeAll l) → T (runAll l)
 unfolding agreeAll runAll
 all-delivered [] t = tt
 all-delivered (c ∷ l) t =
@@ -353,5 +353,5 @@ meetAll [] = true
 meetAll (c ∷ l) = meets c && meetAll l
 
 pub worked-sheets : T (meetAll sheets)
-unfolding sheets meets meetAll concat tableWith sameAnswer sameList first sum sumOver tab cut place ranked largest lcm lcmBelow hyperperiod share weight surplus counted amount cover covers needed row raise same settle noTask taskOf planOf zeroPlan lowest firstMet outside badLabel test3 test4 test5 test6 test7 test28 test9 test10 byte number digits coreCount taskCount tasksAt slackCount slackAt taskIn taskSetIn contentIn test1 test2 taskSize plainBytes taskBytes withOffsets largestOffset atSlack wished passes noSolution test26 sheet11 test27 wishTests solved wishVerdict wishOf
+unfolding sheets meets meetAll concat tableWith sameAnswer sameList first sum sumOver tab cut place ranked largest lcm lcmBelow hyperperiod share weight surplus counted amount cover covers needed row raise same settle noTask taskOf planOf zeroPlan lowest firstMet outside badLabel test3 test4 sheet5 test6 test7 test28 test9 test10 byte number digits coreCount taskCount tasksAt slackCount slackAt taskIn taskSetIn contentIn test1 test2 taskSize plainBytes taskBytes withOffsets largestOffset atSlack wished passes noSolution test26 sheet11 test27 wishTests solved wishVerdict wishOf
 worked-sheets = tt

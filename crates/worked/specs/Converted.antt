@@ -23,7 +23,7 @@ use Rattle.tasks.specs.Content.{noTask}
 use Rattle.tasks.specs.Tests.{lowest, firstMet, outside, badLabel, test3, test4, test5, test6, test7, test8, test28, test9, test10, test11, test12, test13, tests}
 use Rattle.numbers.specs.Bytes.{byte, number, digits, entries}
 use Rattle.codec.specs.Table.{coreCount, taskCount, tasksAt, slackCount, slackAt, taskIn, taskSetIn, contentIn, test1, test2, verdict, taskSize, plainBytes, taskBytes, bytesOf}
-use Rattle.conversion.specs.Converted.{convertedTask, converted, wantedTest, wayTest, convertTest, convertedLength, convertedTo}
+use Rattle.conversion.specs.Converted.{convertedTask, converted, wantedTest, wayTest, fitTest, convertTest, convertedLength, convertedTo}
 use Rattle.worked.specs.Cases.{p1, p3, concat, tableWith, sameAnswer}
 use Rattle.worked.specs.Editions.{due, p1Due}
 
@@ -74,6 +74,10 @@ conversions =
     ∷ turnedDown (tableWith 1 2 (p3 0) []) 2 54 29 2
     ∷ turnedDown (tableWith 1 2 (loop 2 1 2 ∷ loop 2 1 0 ∷ loop 3 3 0 ∷ []) []) 2 0 29 1
     ∷ comesOut (tableWith 1 2 (p3 1) []) 2 54 (tableWith 2 2 (due 2 1 2 2 ∷ due 2 1 2 2 ∷ due 3 3 1 1 ∷ []) [])
+    -- 31 of as many loops as cores, on either way, before 29, 30 and 24; and not of one loop more
+    ∷ turnedDown (tableWith 1 2 (loop 2 1 2 ∷ loop 3 3 0 ∷ []) []) 2 54 31 0
+    ∷ turnedDown (tableWith 2 2 (due 2 1 2 2 ∷ due 3 3 1 2 ∷ []) []) 1 0 31 0
+    ∷ turnedDown (tableWith 1 3 (p3 1) []) 2 55 31 0
     -- 30 of a deadline one more or one less, at the lowest loop and before 24
     ∷ turnedDown (dated 10 10 89 []) 1 54 30 2
     ∷ turnedDown (dated 10 11 89 []) 1 0 30 1
@@ -97,5 +101,5 @@ convertAll [] = true
 convertAll (c ∷ l) = converts c && convertAll l
 
 pub worked-conversions : T (convertAll conversions)
-unfolding conversions converts convertAll concat tableWith sameAnswer sameList first sum sumOver tab cut place ranked largest lcm lcmBelow hyperperiod share weight surplus counted amount cover covers needed row raise same settle found bound noTask lowest firstMet outside badLabel test3 test4 test5 test6 test7 test8 test28 test9 test10 test11 test12 test13 tests byte number digits entries coreCount taskCount tasksAt slackCount slackAt taskIn taskSetIn contentIn test1 test2 verdict taskSize plainBytes taskBytes bytesOf convertedTask converted wantedTest wayTest convertTest convertedLength convertedTo
+unfolding conversions converts convertAll concat tableWith sameAnswer sameList first sum sumOver tab cut place ranked largest lcm lcmBelow hyperperiod share weight surplus counted amount cover covers needed row raise same settle found bound noTask lowest firstMet outside badLabel test3 test4 test5 test6 test7 test8 test28 test9 test10 test11 test12 test13 tests byte number digits entries coreCount taskCount tasksAt slackCount slackAt taskIn taskSetIn contentIn test1 test2 verdict taskSize plainBytes taskBytes bytesOf convertedTask converted wantedTest wayTest fitTest convertTest convertedLength convertedTo
 worked-conversions = tt

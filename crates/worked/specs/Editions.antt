@@ -25,7 +25,7 @@ use Rattle.decimal.specs.Decimal.{words, digitsIn, decimal, said}
 use Rattle.text.specs.Printed.{pairLine, countsLine, taskLine, refusalLine, lineOf, countedLine, planLines, planText, printed}
 use Rattle.codec.specs.Table.{coreCount, taskCount, tasksAt, slackCount, slackAt, taskIn, taskSetIn, contentIn, test1, test2, verdict, taskSize, plainBytes, taskBytes}
 use Rattle.table.specs.Judged.{countedIn}
-use Rattle.wishes.specs.Wish.{withOffsets, largestOffset, atSlack, wished, passes, noSolution, test26, sheet11, test27, wishTests, solved}
+use Rattle.wishes.specs.Wish.{withOffsets, largestOffset, atSlack, wished, passes, noSolution, sheet5, test26, sheet11, test27, wishTests, solved}
 use Rattle.sheet.specs.Wished.{wishVerdict, wishOf}
 use Rattle.worked.specs.Cases.{concat, tableWith, sameAnswer, Shown, prints, printAll, SheetCase, solvedBy, turnedAway, meets, meetAll}
 
@@ -76,7 +76,7 @@ dueSheets =
     ∷ []
 
 pub worked-due-sheets : T (meetAll dueSheets)
-unfolding dueSheets meets meetAll concat tableWith sameAnswer sameList first sum sumOver tab cut place ranked largest lcm lcmBelow hyperperiod share weight surplus counted amount cover covers needed row raise same settle noTask taskOf planOf zeroPlan lowest firstMet outside badLabel test3 test4 test5 test6 test7 test28 test9 test10 byte number digits coreCount taskCount tasksAt slackCount slackAt taskIn taskSetIn contentIn test1 test2 taskSize plainBytes taskBytes withOffsets largestOffset atSlack wished passes noSolution test26 sheet11 test27 wishTests solved wishVerdict wishOf
+unfolding dueSheets meets meetAll concat tableWith sameAnswer sameList first sum sumOver tab cut place ranked largest lcm lcmBelow hyperperiod share weight surplus counted amount cover covers needed row raise same settle noTask taskOf planOf zeroPlan lowest firstMet outside badLabel test3 test4 sheet5 test6 test7 test28 test9 test10 byte number digits coreCount taskCount tasksAt slackCount slackAt taskIn taskSetIn contentIn test1 test2 taskSize plainBytes taskBytes withOffsets largestOffset atSlack wished passes noSolution test26 sheet11 test27 wishTests solved wishVerdict wishOf
 worked-due-sheets = tt
 
 -- the edition, and the deadlines of the first three places, of the plan found for a sheet
@@ -87,5 +87,5 @@ kept loops e deadlines =
 
 -- "A wish sheet may be of either edition"
 pub due-kept : T (kept wishingDue 2 (25 ∷ 26 ∷ 1 ∷ []) && kept wishingDue 1 (0 ∷ 0 ∷ 0 ∷ []))
-unfolding kept concat tableWith sameAnswer sameList first sum sumOver tab cut place ranked largest lcm lcmBelow hyperperiod share weight surplus counted amount cover covers needed row raise same settle noTask taskOf planOf zeroPlan lowest firstMet outside badLabel test3 test4 test5 test6 test7 test28 test9 test10 byte number digits coreCount taskCount tasksAt slackCount slackAt taskIn taskSetIn contentIn test1 test2 taskSize plainBytes taskBytes withOffsets largestOffset atSlack wished passes noSolution test26 sheet11 test27 wishTests solved wishVerdict wishOf
+unfolding kept concat tableWith sameAnswer sameList first sum sumOver tab cut place ranked largest lcm lcmBelow hyperperiod share weight surplus counted amount cover covers needed row raise same settle noTask taskOf planOf zeroPlan lowest firstMet outside badLabel test3 test4 sheet5 test6 test7 test28 test9 test10 byte number digits coreCount taskCount tasksAt slackCount slackAt taskIn taskSetIn contentIn test1 test2 taskSize plainBytes taskBytes withOffsets largestOffset atSlack wished passes noSolution test26 sheet11 test27 wishTests solved wishVerdict wishOf
 due-kept = tt

@@ -1,3 +1,4 @@
 pub mod Cases
 pub mod Editions
 pub mod Converted
+pub mod OwnCores

@@ -5,10 +5,13 @@ use Rattle.test_tables.proofs.judged.say_tasks.Statement.{statement}
 use Rattle.test_tables.proofs.judged.say_tasks.Tie as tie
 
 abbrev Inv-loop : tie.InvT-loop
-Inv-loop plan edition tasks i₀ i = i ≤ 16
+Inv-loop plan edition tasks each i₀ i = i ≤ 16
 
 abbrev μ-loop : tie.MeasureT-loop
-μ-loop plan edition tasks i₀ i = 16 - i
+μ-loop plan edition tasks each i₀ i = 16 - i
+
+core-for-each-requires : tie.Need-core-for-each-requires Inv-loop μ-loop
+core-for-each-requires c κs = search needs
 
 loop-holds : tie.Need-loop-holds Inv-loop μ-loop
 loop-holds c = search needs
@@ -46,6 +49,7 @@ say-tasks-spec =
     (tie.spec
     Inv-loop
     μ-loop
+    core-for-each-requires
     loop-holds
     mul-say-task
     element-copy-out-say-task
