@@ -1,5 +1,5 @@
 -- What a plan's slack is tested to, before its bounds are tested.
---     offering       what a plan says, with a slack count of its own: a table's count may be wrong, a plan's mark can't
+--     offering       what a plan says, with a slack count of its own: a table's may be any, a plan's is 0 or n
 --     offeredTest    12 of offered slack
 --     taskTests      6 to 12, and 28
 --     hadSlack       the slack: offered, or found

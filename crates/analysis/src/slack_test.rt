@@ -203,7 +203,7 @@ fn test_tasks(plan: Plan, offers: usize) -> Tested
     )
 }
 
-// Tests 3 to 12, and 28, with a slack count of `offers`: a table's count may be wrong, a plan's mark can't.
+// Tests 3 to 12, and 28, with a slack count of `offers`: a table's may be any, a plan's is 0 or n.
 pub fn test_slack(plan: Plan, offers: usize) -> Tested
     ensures { λ r. ⌜ PlanTested plan offers r ⌝ }
 {

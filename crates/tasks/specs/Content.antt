@@ -72,7 +72,7 @@ zeroPlan =
 unfoldable pub taskOf : List Task → ℕ → Task
 taskOf l i = getD l i noTask
 
--- a plan has one slack entry for each loop, so it never meets 11
+-- a plan has one slack entry for each loop, so its count is n where it is marked as offered: it meets 11 where loops are no more than cores
 unfoldable pub contentOf : Plan → Content
 contentOf p =
     record {

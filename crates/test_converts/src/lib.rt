@@ -10,7 +10,7 @@ use test_script::say;
 use writer::Written;
 ghost use Prim.Native.Nat.{_<_};
 
-// In edition 1 late is "x + C, counted from the priority point".
+// What is converted has more loops than cores: in edition 1 its late is "x + C, counted from the priority point".
 fn say_side(edition: u8, task: Task, slack: u32) {
     let late = slack as u64 + task.budget as u64;
     let bound = task.offset as u64 + late;
