@@ -1,7 +1,7 @@
 -- Laws of what a table says in the wanted edition.
 --     converted-fits     a converted content fits a plan
 --     way-offsets, way-deadlines    what 29 and 30 leave
---     fit-passed         what 31, 29 and 30 leave; fit-more, fit-each: they are 29 or 30 where loops are more than cores, and 31 where not
+--     fit-each, fit-more    31, 29 and 30 are 31 where loops are no more than cores, and 29 or 30 where they are more; fit-passed: what they leave
 --     way-ext            29 and 30 look at the tasks below n
 --     of-plain           what a task set's T, C and Y give is the same after the conversion
 --     tests-28           a content that meets none of its numbers doesn't meet 28
@@ -68,18 +68,18 @@ module _ (e : ℕ) (task : ℕ → Task) (n : ℕ) (a : wayTest e task n ≡ Acc
   unfolding wayTest
   way-deadlines d i h = eqb-true _ _ (not-false _ (lowest-passed 30 (λ j. otherDeadline (task j)) n (rw d at a) i h))
 
--- what 31, 29 and 30 leave
-pub fit-passed : (e m : ℕ) (task : ℕ → Task) (n : ℕ) → fitTest e m task n ≡ Accepted → (coreForEach m n ≡ false) × (wayTest e task n ≡ Accepted)
+pub fit-each : (e m : ℕ) (task : ℕ → Task) (n : ℕ) → coreForEach m n ≡ true → fitTest e m task n ≡ Refused 31 0
 unfolding fitTest
-fit-passed e m task n a = let r = firstMet-passed _ _ a in (refuse-passed 31 _ (r .0), firstMet-passed _ _ (r .1) .0)
+fit-each e m task n each = rw each (firstMet-stop (Refused 31 0) _ 31 0 refl)
 
 pub fit-more : (e m : ℕ) (task : ℕ → Task) (n : ℕ) → coreForEach m n ≡ false → fitTest e m task n ≡ wayTest e task n
 unfolding fitTest
 fit-more e m task n more = rw more (firstMet-pass Accepted _ refl ∙ firstMet-alone (wayTest e task n))
 
-pub fit-each : (e m : ℕ) (task : ℕ → Task) (n : ℕ) → coreForEach m n ≡ true → fitTest e m task n ≡ Refused 31 0
+-- what 31, 29 and 30 leave
+pub fit-passed : (e m : ℕ) (task : ℕ → Task) (n : ℕ) → fitTest e m task n ≡ Accepted → (coreForEach m n ≡ false) × (wayTest e task n ≡ Accepted)
 unfolding fitTest
-fit-each e m task n each = rw each (firstMet-stop (Refused 31 0) _ 31 0 refl)
+fit-passed e m task n a = let r = firstMet-passed _ _ a in (refuse-passed 31 _ (r .0), firstMet-passed _ _ (r .1) .0)
 
 pub way-ext : (e n : ℕ) (f g : ℕ → Task) → ((i : ℕ) → i < n → f i ≡ g i) → wayTest e f n ≡ wayTest e g n
 unfolding wayTest
