@@ -19,7 +19,7 @@ use Rattle.laws.specs.RankLaws.{ranked-rest}
 use Rattle.tasks.specs.declared.Plan.{Plan}
 use Rattle.tasks.specs.TaskSet.{TaskSet, row}
 use Rattle.tasks.specs.Content.{contentOf, taskOf}
-use Rattle.machine.specs.Machine.{Job, job, releaseTick, Lane, Machine, opened, waiting, before, chosen, onCore, runs}
+use Rattle.machine.specs.Machine.{Job, job, releaseTick, Lane, Machine, opened, waiting, chosen, onCore, runs}
 use Rattle.state.specs.State.{jobsIn, releaseIn}
 use Rattle.choice.specs.Key.{noKey, headKey, keyOf, sooner}
 use Rattle.choice.specs.KeyLaws.{key-small, key-of-task, ranked-keys}

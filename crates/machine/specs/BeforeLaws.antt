@@ -3,11 +3,12 @@
 --     Earlier s M i j      loop i's head goes ahead of loop j's, by these sentences; Older: by the second, points being equal
 --     heads-order          `before` is an order
 --     after-point          who is not before another has no earlier priority point
+--     is-before, not-before      what `before` says where it holds and where it doesn't; before-not: and back
 --     earlier-ahead        Earlier is how the heads are ranked; ahead-earlier: and back
 --     before-same          the order of a table's heads goes by their releases alone
-use Prim.Native.Nat.{ℕ, _+_, _≤_, _<_}
+use Prim.Native.Nat.{ℕ, _≤_, _<_}
 use mathlib.Core.Bool.{Bool, true, false}
-use mathlib.Core.Path.{_≡_, refl, sym, ap}
+use mathlib.Core.Path.{_≡_, refl, sym, ap, fun-ext, _∙_}
 use mathlib.Core.Logic.{_⊎_, inl, inr, ⊎-elim}
 use native.Mathlib.Nat.{le-antisymm}
 use native.Mathlib.Omega.{arith}
@@ -31,25 +32,31 @@ module _ (s : TaskSet) (M : Machine) where
   unfolding before
   after-point i j e = two-after (point s M) (released M) i j e .0
 
-  pub earlier-ahead : (i j : ℕ) → Earlier i j → Ahead (before s M) i j
+  is-before : (i j : ℕ) → before s M i j ≡ true → (point s M i < point s M j) ⊎ ((point s M i ≡ point s M j) × (released M i < released M j))
   unfolding before
+  is-before i j e = two-before (point s M) (released M) i j e
+
+  not-before : (i j : ℕ) → before s M i j ≡ false → (point s M j ≤ point s M i) × (point s M i ≡ point s M j → released M j ≤ released M i)
+  unfolding before
+  not-before i j e = two-after (point s M) (released M) i j e
+
+  before-not : (i j : ℕ) → point s M j ≤ point s M i → (point s M i ≡ point s M j → released M j ≤ released M i) → before s M i j ≡ false
+  unfolding before
+  before-not i j h k = after-two (point s M) (released M) i j h k
+
+  pub earlier-ahead : (i j : ℕ) → Earlier i j → Ahead (before s M) i j
   earlier-ahead i j =
       ⊎-elim
-      (λ (p : point s M i < point s M j). (after (omega arith) (λ q. absurd (omega arith)), λ e. absurd (omega (arith, left e .0))))
+      (λ (p : point s M i < point s M j).
+      (before-not j i (omega arith) (λ q. absurd (omega arith)), λ e. absurd (omega (arith, after-point i j e))))
       (λ (p : (point s M i ≡ point s M j) × Older i j).
       ⊎-elim
-      (λ (r : released M i < released M j). (after (omega (arith, p .0)) (λ q. omega arith), λ e. absurd (omega (arith, left e .1 (p .0)))))
-      (λ (r : (released M i ≡ released M j) × (i < j)). (after (omega (arith, p .0)) (λ q. omega (arith, r .0)), λ e. r .1))
+      (λ (r : released M i < released M j).
+      (before-not j i (omega (arith, p .0)) (λ q. omega arith), λ e. absurd (omega (arith, not-before i j e .1 (p .0)))))
+      (λ (r : (released M i ≡ released M j) × (i < j)). (before-not j i (omega (arith, p .0)) (λ q. omega (arith, r .0)), λ e. r .1))
       (p .1))
-    where
-      after : point s M i ≤ point s M j → (point s M j ≡ point s M i → released M i ≤ released M j) → before s M j i ≡ false
-      after h k = after-two (point s M) (released M) j i h k
-
-      left : before s M i j ≡ false → (point s M j ≤ point s M i) × (point s M i ≡ point s M j → released M j ≤ released M i)
-      left e = two-after (point s M) (released M) i j e
 
   pub ahead-earlier : (i j : ℕ) → Ahead (before s M) i j → Earlier i j
-  unfolding before
   ahead-earlier i j a = go (before s M i j) refl
     where
       go : (b : Bool) → before s M i j ≡ b → Earlier i j
@@ -57,13 +64,18 @@ module _ (s : TaskSet) (M : Machine) where
           ⊎-elim
           (λ (p : point s M i < point s M j). inl p)
           (λ (p : (point s M i ≡ point s M j) × (released M i < released M j)). inr (p .0, inl (p .1)))
-          (two-before (point s M) (released M) i j e)
+          (is-before i j e)
       go false e =
-          let x = two-after (point s M) (released M) i j e in
-          let y = two-after (point s M) (released M) j i (a .0) in
+          let x = not-before i j e in
+          let y = not-before j i (a .0) in
           let same : point s M i ≡ point s M j = le-antisymm (y .0) (x .0) in
           inr (same, inr (le-antisymm (y .1 (sym same)) (x .1 same), a .1 e))
 
-  pub before-same : (N : Machine) → released N ≡ released M → before s N ≡ before s M
-  unfolding before point
-  before-same N e = ap (λ (r : ℕ → ℕ). byTwo (λ i. r i + s .task i .offset) r) e
+  module _ (N : Machine) (e : released N ≡ released M) where
+    point-same : (i : ℕ) → point s N i ≡ point s M i
+    unfolding point
+    point-same i = let same : released N i ≡ released M i = ap (λ (r : ℕ → ℕ). r i) e in rw same
+
+    pub before-same : before s N ≡ before s M
+    unfolding before
+    before-same = ap (λ (p : ℕ → ℕ). byTwo p (released N)) (fun-ext point-same) ∙ ap (λ (r : ℕ → ℕ). byTwo (point s M) r) e
