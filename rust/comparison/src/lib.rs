@@ -24,6 +24,7 @@ mod sentence_tally;
 mod sentences;
 mod table_tally;
 mod tables;
+mod ties;
 mod twin_tally;
 mod twins;
 mod wish_tally;
