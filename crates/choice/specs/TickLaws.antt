@@ -110,8 +110,8 @@ module _ (p : Plan) (M : Machine) (F : Fit p M) where
   chosen-at =
       rw (
         in-cores p,
-        sym (ranked-rest (before s M) (waiting M) (s .count) 16 (omega (arith, fit-tasks p M F, in-count p)) (λ i a b. idle-waits i a)),
-        ranked-keys s M (waiting M) 16 (le-refl 16),
+        ranked-keys s M (fit-limits p M F) (waiting M) (s .count) (le-refl (s .count)),
+        sym (ranked-rest (sooner (keyOf s M)) (waiting M) (s .count) 16 (omega (arith, fit-tasks p M F, in-count p)) (λ i a b. idle-waits i a)),
       )
 
   pub runs-picked : tab (onCore s M) 8 ≡ tab (cut (p .cores) (pickAt keys) 255) 8

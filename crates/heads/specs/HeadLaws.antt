@@ -12,6 +12,7 @@ use native.Mathlib.Omega.{arith}
 use lib.Dec.{ltb, eqb}
 use borrow.Author.Tests.{ltb-true, ltb-false, eqb-true, eqb-false, eq-eqb}
 use Rattle.tasks.specs.TaskSet.{TaskSet, row}
+use Rattle.tasks.specs.Limits.{Limits}
 use Rattle.machine.specs.Machine.{Job, job, Machine, pending, waiting, runs, leftOf}
 use Rattle.machine.specs.Choice.{earliest}
 use Rattle.choice.specs.Key.{keyOf}
@@ -67,7 +68,7 @@ module _ {s : TaskSet} {M N : Machine} {d : ℕ} (T : Ticks s M N d) where
       go true r = earliest s M .heads i r .1
       go false r = sym (ap pending (T .idle i r)) ∙ w
 
-  module _ {key left : List ℕ} {n : ℕ} (few : s .count ≤ 16) (known : (i : ℕ) → waiting M i ≡ true → i < s .count)
+  module _ {key left : List ℕ} {n : ℕ} (L : Limits s) (known : (i : ℕ) → waiting M i ≡ true → i < s .count)
       (busy : (i : ℕ) → waiting M i ≡ true → 1 ≤ headWork (M .lane i .queue)) (A : Heads s M (λ i. false) key left n)
       {key′ left′ : List ℕ} {c : ℕ} (S : HeadsRun key left n (s .cores) d key′ left′ c) where
     -- whether place b's loop runs, and what it has left
@@ -80,10 +81,10 @@ module _ {s : TaskSet} {M N : Machine} {d : ℕ} (T : Ticks s M N d) where
         where
           go : (x : Bool) → ltb b (s .cores) ≡ x → runs s M (A .sound b h .0) ≡ ltb b (s .cores)
           go true e =
-              place-runs few known A b (A .sound b h .0) h (ltb-true _ _ e) (A .sound b h .1 .key-is)
-              (omega (arith, known (A .sound b h .0) (A .sound b h .1 .waits)))
+              place-runs L known A b (A .sound b h .0) h (ltb-true _ _ e) (A .sound b h .1 .key-is)
+              (omega (arith, L .tasks-high, known (A .sound b h .0) (A .sound b h .1 .waits)))
               ∙ sym e
-          go false e = place-idle few known A b (A .sound b h .0) h (ltb-false _ _ e) (A .sound b h .1 .key-is) ∙ sym e
+          go false e = place-idle L known A b (A .sound b h .0) h (ltb-false _ _ e) (A .sound b h .1 .key-is) ∙ sym e
 
       pub after-here :
           workAfter left (s .cores) d b
@@ -120,7 +121,7 @@ module _ {s : TaskSet} {M N : Machine} {d : ℕ} (T : Ticks s M N d) where
     place-of : (i : ℕ) → waiting M i ≡ true → over s M d i ≡ false → (b : ℕ) × (b < n) × (row key b ≡ keyOf s M i) × (1 ≤ workAfter left (s .cores) d b)
     place-of i w o =
         let r = A .complete i w refl in
-        let e : A .sound (r .0) (r .1) .0 ≡ i = owns-key (λ j v. omega (arith, known j v)) A (r .0) i (r .1) (omega (arith, known i w)) (r .2) in
+        let e : A .sound (r .0) (r .1) .0 ≡ i = owns-key (λ j v. omega (arith, L .tasks-high, known j v)) A (r .0) i (r .1) (omega (arith, L .tasks-high, known i w)) (r .2) in
         (r .0, r .1, r .2, over-here (r .0) (r .1) false (ap (over s M d) e ∙ o))
 
     pub heads-remain : Heads s N (over s M d) key′ left′ c

@@ -13,14 +13,15 @@ use mathlib.Core.Path.{_≡_, refl, sym, _∙_}
 use mathlib.Core.Logic.{⊎-elim}
 use mathlib.Core.List.{List, [], _∷_}
 use native.Mathlib.Omega.{arith}
-use borrow.Author.Tests.{leb-true, le-leb, ltb-false, not-true, not-false}
+use borrow.Author.Tests.{leb-true, le-leb, not-true, not-false}
 use Rattle.laws.specs.Sum.{sum, count}
 use Rattle.laws.specs.First.{first}
 use Rattle.laws.specs.FirstLaws.{first-or-none, first-holds, first-none}
 use Rattle.laws.specs.SumLaws.{sum-less, count-mono, count-le, count-full}
-use Rattle.laws.specs.RankLaws.{order-less, chosen-in, chosen-count, chosen-best}
+use Rattle.laws.specs.RankLaws.{chosen-in, chosen-count, chosen-best}
 use Rattle.tasks.specs.TaskSet.{TaskSet}
 use Rattle.machine.specs.Machine.{Job, job, Machine, pending, waiting, headRelease, point, before, chosen, runs, tick}
+use Rattle.machine.specs.BeforeLaws.{heads-order, after-point}
 use Rattle.machine.specs.Reached.{EarliestFirst, Reached, ticked}
 use Rattle.machine.specs.Owed.{early}
 
@@ -128,14 +129,13 @@ module _ (s : TaskSet) (M : Machine) where
                 absurd (true≢false (sym (only-early y j l e p k (found .0)) ∙ not-true (earlyAt y k) (found .1)))
 
 pub earliest : (s : TaskSet) (M : Machine) → EarliestFirst s M (runs s M)
-unfolding runs chosen before
+unfolding runs chosen
 earliest s M =
     record {
       heads = chosen-in (before s M) (waiting M) (s .cores) (s .count);
       many = chosen-count (before s M) (waiting M) (s .cores) (s .count);
       order = λ i j r h w idle.
-          ltb-false (point s M j) (point s M i)
-          (chosen-best (before s M) (waiting M) (s .cores) (s .count) (order-less (point s M)) i j r h w idle);
+          after-point s M j i (chosen-best (before s M) (waiting M) (s .cores) (s .count) (heads-order s M) i j r h w idle);
     }
 
 pub reached-tick : (s : TaskSet) (M : Machine) → Reached s M → Reached s (tick s M)

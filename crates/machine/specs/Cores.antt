@@ -1,48 +1,35 @@
--- Document 01, "equal points go to the lower loop. They take the cores in that order, the earliest on the lowest label": what `chosen`, a
--- beginning of the ranked heads, gives of who runs, and on which core.
+-- Who runs, and on which core. Document 01: "They take the cores in that order, the earliest on the lowest label": what `chosen`, a beginning of the
+-- ranked heads, gives.
+--     earlier-runs      of two heads the one that goes ahead runs if the other does
 --     Busy s M k        a loop runs on the core with the k-th lowest label
---     lower-runs        of two heads with equal priority points the lower loop runs if the higher one does
 --     core-runs         the loop on a busy core, one of the m, runs; runs-core: and a loop that runs is on one of them
 --     cores-first       the busy cores come first
---     cores-ahead       the loops on them are in the order of the heads
---     cores-order       so of two the lower core has the earlier priority point, or an equal one and the lower loop
---     lower-core        and of two with equal points the lower loop is on the lower core
+--     cores-order       of two busy cores the lower one has the loop that goes ahead; earlier-core: and back
 use Prim.Native.Nat.{ℕ, _≤_, _<_}
 use mathlib.Core.Bool.{Bool, true, false}
-use mathlib.Core.Path.{_≡_, refl, sym}
-use mathlib.Core.Logic.{_⊎_, inl, inr}
-use native.Mathlib.Nat.{le-antisymm}
+use mathlib.Core.Path.{_≡_, refl}
 use native.Mathlib.Omega.{arith}
 use lib.ListN.{length, List·getD-eq-default}
 use lib.Dec.{ltb}
-use borrow.Author.Tests.{ltb-true, ltb-false, le-ltb}
+use borrow.Author.Tests.{ltb-true, ltb-false}
 use Rattle.laws.specs.MemberLaws.{member-at, member-stands}
-use Rattle.laws.specs.RankLaws.{Order, order-less, Ahead, Sorted, sorted-at, sorted-places, chosen-in, chosen-length, chosen-lower, chosen-sorted}
+use Rattle.laws.specs.RankLaws.{Sorted, sorted-at, sorted-places, chosen-in, chosen-length, chosen-sorted, ahead-chosen}
 use Rattle.tasks.specs.TaskSet.{TaskSet}
-use Rattle.machine.specs.Machine.{Machine, waiting, point, before, chosen, idle, onCore, runs}
+use Rattle.machine.specs.Machine.{Machine, waiting, before, chosen, idle, onCore, runs}
+use Rattle.machine.specs.BeforeLaws.{Earlier, heads-order, earlier-ahead, ahead-earlier}
 
 module _ (s : TaskSet) (M : Machine) where
   abbrev pub Busy : ℕ → Type 0
   Busy k = onCore s M k < s .count
 
-  heads-order : Order (before s M)
-  unfolding before
-  heads-order = order-less (point s M)
-
   chosen-in-order : Sorted (before s M) (chosen s M)
   unfolding chosen
-  chosen-in-order = chosen-sorted (before s M) (waiting M) (s .cores) (s .count) heads-order
+  chosen-in-order = chosen-sorted (before s M) (waiting M) (s .cores) (s .count) (heads-order s M)
 
-  -- where the points are equal, neither head is before the other
-  equal-points : (i j : ℕ) → point s M i ≡ point s M j → before s M i j ≡ false
-  unfolding before
-  equal-points i j e = le-ltb (point s M i) (point s M j) (omega arith)
-
-  pub lower-runs : (i j : ℕ) → i < j → waiting M i ≡ true → point s M i ≡ point s M j → runs s M j ≡ true → runs s M i ≡ true
+  pub earlier-runs : (i j : ℕ) → Earlier s M i j → i < s .count → waiting M i ≡ true → runs s M j ≡ true → runs s M i ≡ true
   unfolding runs chosen
-  lower-runs i j less wait e r =
-      chosen-lower (before s M) (waiting M) (s .cores) (s .count) heads-order j i r
-      (omega (arith, chosen-in (before s M) (waiting M) (s .cores) (s .count) j r .0)) wait (equal-points j i (sym e)) less
+  earlier-runs i j e h wait r =
+      ahead-chosen (before s M) (waiting M) (s .cores) (s .count) (heads-order s M) j i r h wait (earlier-ahead s M i j e)
 
   -- no table has a loop with the number that stands for an idle core
   module _ (few : s .count ≤ idle) where
@@ -67,30 +54,15 @@ module _ (s : TaskSet) (M : Machine) where
     cores-first a b less h =
         chosen-in (before s M) (waiting M) (s .cores) (s .count) (onCore s M a) (at-place a (omega (arith, place-of b h))) .0
 
-    pub cores-ahead : (a b : ℕ) → a < b → Busy b → Ahead (before s M) (onCore s M a) (onCore s M b)
+    pub cores-order : (a b : ℕ) → a < b → Busy b → Earlier s M (onCore s M a) (onCore s M b)
     unfolding onCore
-    cores-ahead a b less h = sorted-at (before s M) (chosen s M) chosen-in-order a b idle less (place-of b h)
+    cores-order a b less h =
+        ahead-earlier s M (onCore s M a) (onCore s M b) (sorted-at (before s M) (chosen s M) chosen-in-order a b idle less (place-of b h))
 
-    pub cores-order :
-        (a b : ℕ) → a < b → Busy b
-        → (point s M (onCore s M a) < point s M (onCore s M b))
-        ⊎ ((point s M (onCore s M a) ≡ point s M (onCore s M b)) × (onCore s M a < onCore s M b))
-    unfolding before
-    cores-order a b less h = go (ltb (point s M (onCore s M a)) (point s M (onCore s M b))) refl
-      where
-        go :
-            (c : Bool) → ltb (point s M (onCore s M a)) (point s M (onCore s M b)) ≡ c
-            → (point s M (onCore s M a) < point s M (onCore s M b))
-            ⊎ ((point s M (onCore s M a) ≡ point s M (onCore s M b)) × (onCore s M a < onCore s M b))
-        go true e = inl (ltb-true _ _ e)
-        go false e = inr (le-antisymm (ltb-false _ _ (cores-ahead a b less h .0)) (ltb-false _ _ e), cores-ahead a b less h .1 e)
-
-    pub lower-core :
-        (a b : ℕ) → Busy a → point s M (onCore s M a) ≡ point s M (onCore s M b) → onCore s M a < onCore s M b → a < b
+    pub earlier-core : (a b : ℕ) → Busy a → Earlier s M (onCore s M a) (onCore s M b) → a < b
     unfolding onCore
-    lower-core a b h e less =
-        sorted-places (before s M) (chosen s M) chosen-in-order a b idle (place-of a h)
-        (equal-points (onCore s M b) (onCore s M a) (sym e), λ _. less)
+    earlier-core a b h e =
+        sorted-places (before s M) (chosen s M) chosen-in-order a b idle (place-of a h) (earlier-ahead s M (onCore s M a) (onCore s M b) e)
 
   pub runs-core : (i : ℕ) → runs s M i ≡ true → (k : ℕ) × (k < s .cores) × (onCore s M k ≡ i)
   unfolding runs onCore chosen

@@ -4,6 +4,7 @@ pub mod AdmissionLaws
 pub mod Reached
 pub mod Queue
 pub mod Owed
+pub mod BeforeLaws
 pub mod Choice
 pub mod Cores
 pub mod Invariant

@@ -4,7 +4,8 @@
 --     within, crowded          what 22 and 23 test; tooSoon, full: of a loop of a machine
 --     Allowed s M i c          a release of loop i with demand c meets none of 20, 21 and 22
 --     admitted i c M           the machine after that release is taken
---     waiting, point           whether a loop has a job that may run, its head, and that head's priority point
+--     waiting                  whether a loop has a job that may run, its head
+--     released, point          that head's release tick and its priority point
 --     before, chosen           the order of the heads, and the loops that run in it
 --     onCore, runs             which loop runs on a core, and whether a loop runs
 --     served, advanced         a queue after its head has run for a tick; the machine after a tick in which given loops run
@@ -17,7 +18,7 @@ use mathlib.Core.Option.{Option, none, some}
 use mathlib.Core.List.{List, [], _∷_, _++_}
 use lib.ListN.{length, getD, take}
 use lib.Dec.{ltb, leb, eqb}
-use Rattle.laws.specs.Rank.{ranked}
+use Rattle.laws.specs.Rank.{byTwo, ranked}
 use Rattle.laws.specs.Member.{member}
 use Rattle.tasks.specs.TaskSet.{TaskSet}
 
@@ -88,16 +89,20 @@ abbrev pub headRelease : List Job → ℕ
 headRelease [] = 0
 headRelease (j ∷ q) = releaseTick j
 
+abbrev pub released : Machine → ℕ → ℕ
+released M i = headRelease (M .lane i .queue)
+
 -- "A job's priority point is its release tick + Y."
 unfoldable pub point : TaskSet → Machine → ℕ → ℕ
-point s M i = headRelease (M .lane i .queue) + s .task i .offset
+point s M i = released M i + s .task i .offset
 
--- whether loop i's head goes before loop j's; where neither goes before the other, the lower loop does
+-- whether loop i's head goes before loop j's. Document 02, §8: "Among equal priority points the earlier release now runs first, and the lower
+-- loop only if these are equal too": where neither goes before the other, the lower loop does.
 unfoldable pub before : TaskSet → Machine → ℕ → ℕ → Bool
-before s M i j = ltb (point s M i) (point s M j)
+before s M = byTwo (point s M) (released M)
 
--- "At each step the m of these with the earliest priority points run for one tick, all of them if fewer; equal points go to the lower
--- loop. They take the cores in that order, the earliest on the lowest label."
+-- "At each step the m of these with the earliest priority points run for one tick, all of them if fewer … They take the cores in that order,
+-- the earliest on the lowest label."
 unfoldable pub chosen : TaskSet → Machine → List ℕ
 chosen s M = take (s .cores) (ranked (before s M) (waiting M) (s .count))
 

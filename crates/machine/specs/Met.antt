@@ -1,14 +1,18 @@
 -- The bound theorem is not empty: P3, with more loops than cores, and a pair of its loops, with no more, meet its hypotheses, and machines that it
--- speaks of are reached. The machine's ticks give P10, and of the pair that each runs at once.
+-- speaks of are reached. The machine's ticks give P10, and of the pair that each runs at once; in P2 the earlier release of two equal priority points
+-- goes first.
 --     p3 y              P3's loops, the third with offset y; P3 has 0 there
 --     p3-met            P3 is within the limits, its slack is compliant and its bounds are at most 16 × T
 --     allReleased       all three released at tick 0 with full budgets
 --     p3-reached        that machine is reached, and so is every tick of it
 --     watch             what runs on the two cores, and who finishes, tick by tick
 --     p10, p10-third    P10 in both forms
+--     p2, p2-older      P2's loops; of loop 1's job released at 0 and loop 0's released at 5 loop 1's goes before, with an equal point
+--     p2Released, p2-watch      the two so released, at tick 5; loop 1 runs on the lower core
 --     pair, pair-met, pairReleased, pair-reached      the same of P3's first and third loop on its two cores, with no slack
 --     pair-ends         both released at tick 0 with full budgets: each finishes after its budget
 use Prim.Native.Nat.{ℕ, zero, suc}
+use mathlib.Core.Bool.{true}
 use mathlib.Core.Path.{_≡_, refl}
 use mathlib.Core.List.{List, [], _∷_}
 use lib.Dec.{lit<, lit≤}
@@ -24,7 +28,7 @@ use Rattle.tasks.specs.Content.{Content, noTask, taskOf}
 use Rattle.tasks.specs.Limits.{Limits, Enough, Bounded}
 use Rattle.tasks.specs.Tests.{lowest, firstMet, outside, badLabel, test3, test4, test5, test6, test7, test8, test28, test9, test10, test11, test12, test13, tests}
 use Rattle.tasks.specs.TestsLaws.{tests-limits, tests-compliant, tests-bounded}
-use Rattle.machine.specs.Machine.{Machine, opened, tooSoon, joined, admitted, waiting, point, before, chosen, idle, onCore, runs, served, advanced, tick, response, responses}
+use Rattle.machine.specs.Machine.{Machine, opened, tooSoon, joined, admitted, waiting, released, point, before, chosen, idle, onCore, runs, served, advanced, tick, response, responses}
 use Rattle.machine.specs.Reached.{Reached, opening, release}
 use Rattle.machine.specs.Choice.{reached-tick}
 
@@ -75,6 +79,21 @@ pub p10-third :
     ≡ (0 ∷ 1 ∷ [], 1 ∷ 1 ∷ 0 ∷ []) ∷ (2 ∷ idle ∷ [], 0 ∷ 0 ∷ 0 ∷ []) ∷ (2 ∷ idle ∷ [], 0 ∷ 0 ∷ 0 ∷ []) ∷ (2 ∷ idle ∷ [], 0 ∷ 0 ∷ 4 ∷ []) ∷ []
 unfolding p3 allReleased watch opened joined admitted waiting point before chosen onCore runs served advanced tick response responses tab place ranked member noTask taskOf
 p10-third = refl
+
+unfoldable pub p2 : TaskSet
+p2 = record { cores = 2; count = 3; task = taskOf (loop 10 9 5 ∷ loop 10 9 10 ∷ loop 100 20 90 ∷ []) }
+
+-- "In P2 a job of loop 1 released at 0 goes before one of loop 0 released at 5, both with priority point 10."
+pub p2-older : (M : Machine) → released M 1 ≡ 0 → released M 0 ≡ 5 → (point p2 M 1 ≡ 10) × (point p2 M 0 ≡ 10) × (before p2 M 1 0 ≡ true)
+unfolding p2 point before noTask taskOf
+p2-older M e f = rw (e, f) (refl, refl, refl)
+
+unfoldable pub p2Released : Machine
+p2Released = admitted 0 9 (tick p2 (tick p2 (tick p2 (tick p2 (tick p2 (admitted 1 9 opened))))))
+
+pub p2-watch : watch p2 2 p2Released ≡ (1 ∷ 0 ∷ [], 0 ∷ 0 ∷ 0 ∷ []) ∷ (1 ∷ 0 ∷ [], 0 ∷ 0 ∷ 0 ∷ []) ∷ []
+unfolding p2 p2Released watch opened joined admitted waiting point before chosen onCore runs served advanced tick response responses tab place ranked member noTask taskOf
+p2-watch = refl
 
 unfoldable pub pair : TaskSet
 pair = record { cores = 2; count = 2; task = taskOf (loop 2 1 2 ∷ loop 3 3 0 ∷ []) }

@@ -7,9 +7,9 @@ use mathlib.Core.Bool.{Bool, true, false, cond}
 use mathlib.Core.Path.{_≡_, refl, sym, ap, fun-ext, _∙_}
 use mathlib.Core.List.{List, [], _∷_}
 use native.Mathlib.Omega.{arith}
-use lib.Dec.{ltb}
 use Rattle.tasks.specs.TaskSet.{TaskSet}
-use Rattle.machine.specs.Machine.{Job, job, Machine, pending, waiting, headRelease, point, before, chosen, runs, leftOf, served, advanced, tick}
+use Rattle.machine.specs.Machine.{Job, job, Machine, pending, waiting, headRelease, released, chosen, runs, leftOf, served, advanced, tick}
+use Rattle.machine.specs.BeforeLaws.{before-same}
 use Rattle.state.specs.ViewLaws.{machine-ext}
 use Rattle.history.specs.Engine.{Call, step, state}
 use Rattle.history.specs.Log.{wait}
@@ -27,22 +27,18 @@ module _ (s : TaskSet) (M : Machine) (run : ℕ → Bool) (k : ℕ) where
       at true (job r w ∷ q) = refl
       at false q = refl
 
-  lowered-point : point s (lowered run k M) ≡ point s M
-  unfolding point lowered
-  lowered-point = fun-ext (λ i. ap (λ (r : ℕ). r + s .task i .offset) (at (run i) (M .lane i .queue)))
+  lowered-released : released (lowered run k M) ≡ released M
+  unfolding lowered
+  lowered-released = fun-ext (λ i. at (run i) (M .lane i .queue))
     where
       at : (b : Bool) (q : List Job) → headRelease (cond b (lowerHead k q) q) ≡ headRelease q
       at true [] = refl
       at true (job r w ∷ q) = refl
       at false q = refl
 
-  lowered-before : before s (lowered run k M) ≡ before s M
-  unfolding before
-  lowered-before = ap (λ (f : ℕ → ℕ). λ i j. ltb (f i) (f j)) lowered-point
-
   lowered-chosen : chosen s (lowered run k M) ≡ chosen s M
   unfolding chosen
-  lowered-chosen = rw (lowered-before, lowered-waiting)
+  lowered-chosen = rw (before-same s M (lowered run k M) lowered-released, lowered-waiting)
 
   pub lowered-runs : (i : ℕ) → runs s (lowered run k M) i ≡ runs s M i
   unfolding runs

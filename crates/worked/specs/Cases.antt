@@ -1,10 +1,11 @@
 -- Document 01, "Worked tables": P1 to P11 as theorems of the definitions, from a table's and a log's bytes to the verdict, slack, bounds and
 -- counted loops, to what a run of the log writes, and to what `plan` prints.
 --     Case         a table's loops and offered slack, a log, and what documents 01 and 02 say of them
---     cases        P1 to P11, P8, P9 and P10 in both forms; where document 01 gives no budgets or offsets they are ours. Behind them tables of
---                  ours: equal weights at the edge of the choice, in both orders, and among the counted loops; and other loops counted at the
---                  found slack than at zeros, and at an offered one than at the found
---     rows         these are its 19 rows
+--     cases        P1 to P11, P8, P9 and P10 in both forms; where document 01 gives no budgets or offsets they are ours. Behind them P2 with
+--                  document 02's two jobs of equal priority points, and tables of ours: logs in which the order of such jobs is seen in the
+--                  finish ticks; equal weights at the edge of the choice, in both orders, and among the counted loops; and other loops counted
+--                  at the found slack than at zeros, and at an offered one than at the found
+--     rows         these are its 23 rows
 --     agrees       whether the definitions say the same of a case
 --     Shown, texts, prints    a table's edition and loops and the text that `plan` prints for them
 --     worked       the definitions agree in every case, with the log run on the abstract machine, and in every text
@@ -132,10 +133,20 @@ rising = loop 6 1 4 ∷ loop 3 1 0 ∷ loop 2 1 1 ∷ []
 abbrev pub p1 : List Task
 p1 = loop 10 9 10 ∷ loop 10 9 10 ∷ loop 100 20 90 ∷ []
 
+abbrev p2 : List Task
+p2 = loop 10 9 5 ∷ loop 10 9 10 ∷ loop 100 20 90 ∷ []
+
+-- loop 2 keeps one of the two cores while loop 1, released at 0, and loop 0 with this offset, released at 5, want the other; loop 1's point is 10
+abbrev meeting : ℕ → List Task
+meeting y = loop 10 2 y ∷ loop 10 9 10 ∷ loop 10 9 0 ∷ []
+
+abbrev meetingLog : List Entry
+meetingLog = entry 0 1 9 ∷ entry 0 2 9 ∷ entry 5 0 2 ∷ []
+
 pub cases : List Case
 cases =
     accepted 1 p1 [] (6 ∷ 6 ∷ 0 ∷ []) (25 ∷ 25 ∷ 110 ∷ []) (2 ∷ [])
-    ∷ accepted 2 (loop 10 9 5 ∷ loop 10 9 10 ∷ loop 100 20 90 ∷ []) [] (9 ∷ 9 ∷ 3 ∷ []) (23 ∷ 28 ∷ 113 ∷ []) (2 ∷ [])
+    ∷ accepted 2 p2 [] (9 ∷ 9 ∷ 3 ∷ []) (23 ∷ 28 ∷ 113 ∷ []) (2 ∷ [])
     ∷ accepted 3 (p3 0) [] (2 ∷ 2 ∷ 1 ∷ []) (5 ∷ 5 ∷ 4 ∷ []) (0 ∷ [])
     ∷ refused 4 p1 (5 ∷ 6 ∷ 0 ∷ []) 12 0
     ∷ accepted 5 p1 (6 ∷ 6 ∷ 1 ∷ []) (6 ∷ 6 ∷ 1 ∷ []) (25 ∷ 25 ∷ 111 ∷ []) (2 ∷ [])
@@ -148,6 +159,13 @@ cases =
     ∷ run 10 (p3 0) 0 (entry 0 0 1 ∷ entry 0 1 1 ∷ entry 0 2 3 ∷ []) (finished 1 ∷ finished 2 ∷ finished 3 ∷ [])
     ∷ run 10 (p3 3) 2 (entry 0 0 1 ∷ entry 0 1 1 ∷ entry 0 2 3 ∷ []) (finished 1 ∷ finished 1 ∷ finished 4 ∷ [])
     ∷ run 11 (p3 0) 0 (entry 0 0 1 ∷ entry 1 0 1 ∷ entry 2 0 1 ∷ []) (finished 1 ∷ refusal 22 ∷ finished 3 ∷ [])
+    -- "In P2 a job of loop 1 released at 0 goes before one of loop 0 released at 5": with a core for each, both run
+    ∷ run 2 p2 2 (entry 0 1 9 ∷ entry 5 0 9 ∷ []) (finished 9 ∷ finished 14 ∷ [])
+    -- with equal points the earlier release goes first, though its loop is higher; with the later release's point one earlier that goes first
+    ∷ run 0 (meeting 5) 1 meetingLog (finished 9 ∷ finished 9 ∷ finished 11 ∷ [])
+    ∷ run 0 (meeting 4) 1 meetingLog (finished 11 ∷ finished 9 ∷ finished 7 ∷ [])
+    -- "and the lower loop only if these are equal too"
+    ∷ run 0 (loop 10 9 10 ∷ loop 10 9 10 ∷ loop 10 2 0 ∷ []) 0 (entry 0 1 9 ∷ entry 0 0 9 ∷ entry 0 2 2 ∷ []) (finished 11 ∷ finished 9 ∷ finished 2 ∷ [])
     ∷ acceptedOn 3 0 (loop 6 3 0 ∷ loop 3 1 0 ∷ others) [] (2 ∷ 3 ∷ 3 ∷ 3 ∷ []) (5 ∷ 4 ∷ 5 ∷ 5 ∷ []) (3 ∷ 0 ∷ [])
     ∷ acceptedOn 3 0 (loop 3 1 0 ∷ loop 6 3 0 ∷ others) [] (3 ∷ 2 ∷ 3 ∷ 3 ∷ []) (4 ∷ 5 ∷ 5 ∷ 5 ∷ []) (3 ∷ 0 ∷ [])
     ∷ acceptedOn 3 0 (loop 6 1 1 ∷ loop 2 1 1 ∷ loop 2 1 1 ∷ loop 6 3 0 ∷ []) [] (3 ∷ 3 ∷ 3 ∷ 2 ∷ []) (5 ∷ 5 ∷ 5 ∷ 5 ∷ []) (1 ∷ 2 ∷ [])
@@ -155,7 +173,7 @@ cases =
     ∷ accepted 0 rising (3 ∷ 1 ∷ 1 ∷ []) (3 ∷ 1 ∷ 1 ∷ []) (8 ∷ 2 ∷ 3 ∷ []) (0 ∷ [])
     ∷ []
 
-pub rows : map (λ (c : Case). c .p) cases ≡ 1 ∷ 2 ∷ 3 ∷ 4 ∷ 5 ∷ 6 ∷ 7 ∷ 8 ∷ 8 ∷ 9 ∷ 9 ∷ 10 ∷ 10 ∷ 11 ∷ 0 ∷ 0 ∷ 0 ∷ 0 ∷ 0 ∷ []
+pub rows : map (λ (c : Case). c .p) cases ≡ 1 ∷ 2 ∷ 3 ∷ 4 ∷ 5 ∷ 6 ∷ 7 ∷ 8 ∷ 8 ∷ 9 ∷ 9 ∷ 10 ∷ 10 ∷ 11 ∷ 2 ∷ 0 ∷ 0 ∷ 0 ∷ 0 ∷ 0 ∷ 0 ∷ 0 ∷ 0 ∷ []
 unfolding cases
 rows = refl
 
