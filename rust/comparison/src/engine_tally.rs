@@ -2,8 +2,9 @@
 
 use crate::counts::Counts;
 use crate::few_names::has_few;
+use crate::ties::Ties;
 use reference::{
-    Clause, IDLE, LAST_TICK, MOST_JOBS, Refusal, State, Stepped, broken, known, points,
+    Clause, Head, IDLE, LAST_TICK, MOST_JOBS, Refusal, State, Stepped, broken, heads, known,
 };
 
 /// How many states and calls were compared, how many calls met each refusal number, how many were
@@ -104,24 +105,42 @@ impl EngineTally {
         }
         let running = stepped.report.runs.iter().filter(|&&task| task != IDLE).count();
         let finished = stepped.report.responses.iter().filter(|&&ticks| ticks != 0).count();
-        let mut points = points(state);
-        points.sort();
-        let waiting = points.get(state.cores);
-        let tie = waiting.is_some_and(|(point, _)| *point == points[state.cores - 1].0);
+        let heads = heads(state);
         let full = state.jobs.iter().all(|&jobs| jobs == MOST_JOBS);
         self.named.count_if(true, "stepped");
         self.named.count_if(running == 0, "stepped, nothing pending");
         self.named.count_if(0 < running && running < state.cores, "stepped, some cores idle");
         self.named.count_if(running == state.cores, "stepped, every core runs");
-        self.named.count_if(waiting.is_some(), "stepped, some tasks wait");
-        self.named.count_if(tie, "stepped, of two equal points one waits");
+        self.named.count_if(heads.len() > state.cores, "stepped, some tasks wait");
         self.named.count_if(full && state.cores == 8, "stepped, 8 cores, all 256 places used");
         self.named.count_if(finished > 0, "stepped, a job finishes");
         self.named.count_if(finished > 1, "stepped, several jobs finish");
         self.named.count_if(stepped.state.clock == LAST_TICK, "stepped to the clock's end");
         let few = has_few(state.cores, state.tasks.count);
         self.named.count_if(few, "few tasks, stepped");
-        self.named.count_if(few && running == points.len(), "few tasks, stepped, each job runs");
+        self.named.count_if(few && running == heads.len(), "few tasks, stepped, each job runs");
+        self.count_ties(&heads, state.cores);
+    }
+
+    fn count_ties(&mut self, heads: &[Head], cores: usize) {
+        let mut ties = Ties::default();
+        ties.look(heads, cores);
+        let names = [
+            (ties.one_waits, "stepped, of two equal points one waits"),
+            (
+                ties.one_waits_by_release,
+                "stepped, of two equal points the older runs, a lower task waits",
+            ),
+            (ties.one_waits_by_loop, "stepped, of two equal points and releases one waits"),
+            (
+                ties.both_run_by_release,
+                "stepped, of two equal points the older of a higher task has the lower core",
+            ),
+            (ties.both_run_by_loop, "stepped, of two equal points and releases both run"),
+        ];
+        for (met, name) in names {
+            self.named.count_if(met, name);
+        }
     }
 
     pub(crate) fn count_steps(&mut self, state: &State, more: usize, last: &Stepped) {

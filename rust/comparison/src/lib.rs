@@ -1,10 +1,10 @@
 //! Compares the proved code, and the plain code written for speed, with the reference: of a
 //! judgement, a log run, a sentence, a wish and a conversion the answer and every byte of the lent
 //! buffer and around it, of a release or a step the answer and every field that it hands back. A
-//! log run is held to demand 3 as well, and a sentence, a wish and a conversion to what document 02
-//! says of them. Tables with few loops, that is no more than cores, are counted by names of their
-//! own. All but sentences are of either edition, and what must not depend on it is compared between
-//! the two.
+//! log run is held to demand 3 as well, and to the order in which jobs run; a sentence, a wish and a
+//! conversion to what document 02 says of them. Tables with few loops, that is no more than cores,
+//! are counted by names of their own, and so are equal priority points. All but sentences are of
+//! either edition, and what must not depend on it is compared between the two.
 
 #![forbid(unsafe_code)]
 
@@ -18,12 +18,14 @@ mod few_names;
 mod in_time;
 mod lent;
 mod log_families;
+mod log_order;
 mod log_tally;
 mod logs;
 mod sentence_tally;
 mod sentences;
 mod table_tally;
 mod tables;
+mod ties;
 mod twin_tally;
 mod twins;
 mod wish_tally;
@@ -34,7 +36,7 @@ pub use conversions::{compare_conversion, compare_conversion_at};
 pub use edition_names::EDITIONS_AT_LEAST;
 pub use engine::{compare_release, compare_step, compare_steps};
 pub use engine_tally::EngineTally;
-pub use log_families::{FAR, FEW_FAR, FEW_NEAR, Family, NEAR, compare_logs};
+pub use log_families::{FAR, FEW_FAR, FEW_NEAR, Family, NEAR, TIED_FAR, TIED_NEAR, compare_logs};
 pub use log_tally::LogTally;
 pub use logs::{LogAnswer, LogForm, Logs};
 pub use sentence_tally::SentenceTally;

@@ -3,8 +3,8 @@
 use crate::{LogForm, LogTally, Logs};
 use reference::Table;
 use samples::{
-    LogKind, Random, any_accepted, damaged_log, damaged_table, faulty_table, few_accepted,
-    few_short, log, noise_log, short_accepted,
+    LogKind, Random, alike_long, alike_short, any_accepted, damaged_log, damaged_table,
+    faulty_table, few_accepted, few_short, log, noise_log, short_accepted, tied_log,
 };
 
 /// Parts that are run side by side, each with numbers of its own.
@@ -48,6 +48,18 @@ pub const FEW_FAR: [Family; 3] = [
     Family { tables: 500, logs: 10, table: accepted_few, log: far },
     Family { tables: 100, logs: 10, table: accepted_few, log: far_damaged },
     Family { tables: 100, logs: 10, table: short_few, log: |random, _| noise_log(random) },
+];
+
+/// Near logs in which priority points are often equal.
+pub const TIED_NEAR: [Family; 2] = [
+    Family { tables: 1_000, logs: 10, table: short_alike, log: near_tied },
+    Family { tables: 500, logs: 10, table: accepted_short, log: near_tied },
+];
+
+/// Far logs in which priority points are often equal.
+pub const TIED_FAR: [Family; 2] = [
+    Family { tables: 500, logs: 10, table: long_alike, log: far_tied },
+    Family { tables: 500, logs: 10, table: short_alike, log: far_tied },
 ];
 
 /// Compares the forms on one in `fewer` of the tables of each family.
@@ -99,6 +111,16 @@ fn short_few(random: &mut Random) -> (Vec<u8>, Table) {
     (table.bytes(), table)
 }
 
+fn short_alike(random: &mut Random) -> (Vec<u8>, Table) {
+    let table = alike_short(random);
+    (table.bytes(), table)
+}
+
+fn long_alike(random: &mut Random) -> (Vec<u8>, Table) {
+    let table = alike_long(random);
+    (table.bytes(), table)
+}
+
 /// A table that is refused, mostly, beside an accepted one.
 fn refused_short(random: &mut Random) -> (Vec<u8>, Table) {
     let table = short_accepted(random);
@@ -123,6 +145,14 @@ fn near(random: &mut Random, table: &Table) -> Vec<u8> {
 
 fn far(random: &mut Random, table: &Table) -> Vec<u8> {
     log(random, table, LogKind::Far).bytes()
+}
+
+fn near_tied(random: &mut Random, table: &Table) -> Vec<u8> {
+    tied_log(random, table, LogKind::Near).bytes()
+}
+
+fn far_tied(random: &mut Random, table: &Table) -> Vec<u8> {
+    tied_log(random, table, LogKind::Far).bytes()
 }
 
 fn near_damaged(random: &mut Random, table: &Table) -> Vec<u8> {

@@ -1,6 +1,7 @@
 //! What the compared logs met, so that a run can show that it was not empty.
 
 use crate::counts::Counts;
+use crate::ties::Ties;
 use reference::{Entry, Log, Outcome, Plan, Refusal};
 
 /// How many calls met each refusal number, how many entries did, and how many of either lay at an
@@ -107,6 +108,16 @@ impl LogTally {
                 }
             }
         }
+    }
+
+    pub(crate) fn count_ties(&mut self, ties: &Ties) {
+        self.named.count_if(ties.one_waits, "run, of two equal points one waits");
+        self.named.count_if(
+            ties.one_waits_by_release,
+            "run, of two equal points the older runs, a lower loop waits",
+        );
+        self.named
+            .count_if(ties.one_waits_by_loop, "run, of two equal points and releases one waits");
     }
 
     fn count_few(&mut self, plan: &Plan, keeps: bool) {

@@ -2,6 +2,7 @@
 
 use crate::in_time::{check, read_outcomes};
 use crate::lent::{Held, Lent, same_bytes};
+use crate::log_order::check_order;
 use crate::log_tally::LogTally;
 use reference::{Log, Plan, Refusal};
 use samples::Random;
@@ -57,7 +58,8 @@ impl Logs<'_> {
         self.check(answer, log, lent, &mut by_first, tally);
     }
 
-    /// What holds of a run by itself: a refused call writes nothing, and a run is as demand 3 says.
+    /// What holds of a run by itself: a refused call writes nothing, a run is as demand 3 says, and
+    /// its jobs have run in their order.
     fn check(
         &self,
         answer: LogAnswer,
@@ -81,6 +83,7 @@ impl Logs<'_> {
         assert_eq!(taken + refused, outcomes.len(), "every entry is taken or refused");
         let keeps = check(plan, &entries, &outcomes);
         tally.count_run(plan, &entries, &outcomes, keeps);
+        tally.count_ties(&check_order(plan, &entries, &outcomes));
         tally.count_buffer(after.buffer().len(), 8 * outcomes.len());
     }
 }

@@ -2,8 +2,11 @@
 //! ones on every run.
 
 use comparison::{EngineTally, compare_release, compare_step, compare_steps};
-use reference::{Clause, Plan, State, open};
-use samples::{Random, accepted_plan, busy, damaged_state, few_plan, sound, tied};
+use reference::{Clause, Log, Plan, State, Table, judge, open};
+use samples::{
+    LogKind, Random, accepted_plan, alike_plan, alike_short, busy, damaged_state, few_plan, sound,
+    tied, tied_log,
+};
 
 /// How many plans, sound states of each, runs from an opening, and calls of each run.
 const PLANS: u64 = 8_000;
@@ -18,7 +21,7 @@ const REFUSED_AT_LEAST: u64 = 2_000;
 const UNSOUND_AT_LEAST: u64 = 300;
 
 /// How often each of these is met, at least.
-const AT_LEAST: [(u64, &str); 39] = [
+const AT_LEAST: [(u64, &str); 43] = [
     (50_000, "taken or stepped, edition 1"),
     (50_000, "taken or stepped, edition 2"),
     (500, "refused 18, edition 0"),
@@ -50,7 +53,11 @@ const AT_LEAST: [(u64, &str); 39] = [
     (5_000, "stepped, some cores idle"),
     (20_000, "stepped, every core runs"),
     (20_000, "stepped, some tasks wait"),
-    (2_000, "stepped, of two equal points one waits"),
+    (4_000, "stepped, of two equal points one waits"),
+    (3_000, "stepped, of two equal points the older runs, a lower task waits"),
+    (1_500, "stepped, of two equal points and releases one waits"),
+    (4_000, "stepped, of two equal points the older of a higher task has the lower core"),
+    (5_000, "stepped, of two equal points and releases both run"),
     (50, "stepped, 8 cores, all 256 places used"),
     (10_000, "stepped, a job finishes"),
     (5_000, "stepped, several jobs finish"),
@@ -76,6 +83,20 @@ const FEW_AT_LEAST: [(u64, &str); 10] = [
     (1_000, "few tasks, refused 18, marked as offered, zeros"),
     (1_000, "few tasks, refused 18, marked as offered, some slack not 0"),
     (1_000, "few tasks, refused 18, some slack not 0"),
+];
+
+/// Plans of tasks alike, states of each with equal points, and logs with equal points on such plans.
+const TIED_PLANS: u64 = 2_000;
+const TIED_STATES: u64 = 8;
+const TIED_LOGS: u64 = 500;
+
+/// How often each of these is met, at least, by these states and along these logs.
+const TIED_AT_LEAST: [(u64, u64, &str); 5] = [
+    (8_000, 6_000, "stepped, of two equal points one waits"),
+    (5_000, 3_000, "stepped, of two equal points the older runs, a lower task waits"),
+    (5_000, 5_000, "stepped, of two equal points and releases one waits"),
+    (6_000, 6_000, "stepped, of two equal points the older of a higher task has the lower core"),
+    (8_000, 15_000, "stepped, of two equal points and releases both run"),
 ];
 
 /// A release to try: of a task of the table mostly, with a demand around 1 to C.
@@ -121,6 +142,23 @@ fn run(random: &mut Random, plan: &Plan, tally: &mut EngineTally) {
     }
 }
 
+/// The calls of a log from an opening on, until nothing is pending.
+fn run_along(log: &Log, plan: &Plan, tally: &mut EngineTally) {
+    let mut state = open(plan);
+    for entry in &log.entries {
+        while state.clock < entry.tick {
+            tally.count_state();
+            state = compare_step(&state, tally);
+        }
+        tally.count_state();
+        state = compare_release(&state, usize::from(entry.task), entry.demand, tally);
+    }
+    while state.jobs.iter().any(|&jobs| jobs > 0) {
+        tally.count_state();
+        state = compare_step(&state, tally);
+    }
+}
+
 /// Calls on states of so many plans of this making, and so many runs.
 fn compare_states(seed: u64, make: fn(&mut Random) -> Plan, plans: u64, runs: u64) -> EngineTally {
     let mut random = Random::new(seed);
@@ -155,13 +193,65 @@ fn many_states() {
 fn many_states_with_few_tasks() {
     let tally = compare_states(4, few_plan, FEW_PLANS, FEW_RUNS);
     for (least, name) in FEW_AT_LEAST {
-        let met = tally.named(name);
-        assert!(met >= least, "{name}: {met} calls");
+        check_named(&tally, least, name);
     }
     // "the engine as it stands runs each loop with work at every step".
     let stepped = tally.named("few tasks, stepped");
     assert_eq!(tally.named("few tasks, stepped, each job runs"), stepped);
     assert_eq!(tally.named("stepped, some tasks wait"), 0);
+}
+
+#[test]
+fn many_states_with_equal_points() {
+    let (mut random, mut tally) = (Random::new(5), EngineTally::default());
+    for _ in 0..TIED_PLANS {
+        let plan = alike_plan(&mut random);
+        for _ in 0..TIED_STATES {
+            let state = tied(&mut random, &plan);
+            both_calls(&mut random, &state, &mut tally);
+        }
+    }
+    tally.print();
+    for (least, _, name) in TIED_AT_LEAST {
+        check_named(&tally, least, name);
+    }
+}
+
+#[test]
+fn logs_with_equal_points_step_by_step() {
+    let (mut random, mut tally) = (Random::new(6), EngineTally::default());
+    for _ in 0..TIED_LOGS {
+        let table = alike_short(&mut random);
+        let plan = judge(&table.bytes()).expect("the table is accepted");
+        let log = tied_log(&mut random, &table, LogKind::Near);
+        run_along(&log, &plan, &mut tally);
+    }
+    tally.print();
+    for (_, least, name) in TIED_AT_LEAST {
+        check_named(&tally, least, name);
+    }
+}
+
+/// "In P2 a job of loop 1 released at 0 goes before one of loop 0 released at 5, both with priority
+/// point 10."
+#[test]
+fn p2_by_age() {
+    let mut tally = EngineTally::default();
+    let table = Table::of(2, &[(10, 9, 5), (10, 9, 10), (100, 20, 90)]);
+    let mut state = open(&judge(&table.bytes()).expect("P2 is accepted"));
+    state = compare_release(&state, 1, 9, &mut tally);
+    for _ in 0..5 {
+        state = compare_step(&state, &mut tally);
+    }
+    state = compare_release(&state, 0, 9, &mut tally);
+    compare_step(&state, &mut tally);
+    let name = "stepped, of two equal points the older of a higher task has the lower core";
+    assert_eq!(tally.named(name), 1);
+}
+
+fn check_named(tally: &EngineTally, least: u64, name: &'static str) {
+    let met = tally.named(name);
+    assert!(met >= least, "{name}: {met} calls");
 }
 
 fn check(tally: &EngineTally) {
@@ -171,8 +261,7 @@ fn check(tally: &EngineTally) {
         assert!(met >= REFUSED_AT_LEAST, "refused {number}: {met} calls");
     }
     for (least, name) in AT_LEAST {
-        let met = tally.named(name);
-        assert!(met >= least, "{name}: {met} calls");
+        check_named(tally, least, name);
     }
     // A pending release after the clock makes the last taken release be after it too.
     let future = vec![Clause::ReleaseAfterClock, Clause::LastAfterClock];

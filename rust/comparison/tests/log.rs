@@ -1,7 +1,9 @@
 //! The proved log run against the reference, tick by tick, on hundreds of thousands of logs, and
 //! against the fast form on logs with ticks up to 1,000,000,000; the same ones on every run.
 
-use comparison::{FAR, FEW_FAR, FEW_NEAR, LogForm, LogTally, Logs, NEAR, compare_logs};
+use comparison::{
+    FAR, FEW_FAR, FEW_NEAR, LogForm, LogTally, Logs, NEAR, TIED_FAR, TIED_NEAR, compare_logs,
+};
 use reference::{Entry, Log, Table};
 use samples::Random;
 
@@ -10,7 +12,7 @@ const PROVED: LogForm = ("proved", dahomike::run_log);
 const FAST: LogForm = ("fast", fast::run_log);
 
 /// How often each of these is met, at least, by near logs and by far ones.
-const AT_LEAST: [(u64, u64, &str); 29] = [
+const AT_LEAST: [(u64, u64, &str); 32] = [
     (50_000, 10_000, "run, edition 1"),
     (50_000, 10_000, "run, edition 2"),
     (50_000, 10_000, "run, log keeps the table"),
@@ -20,6 +22,9 @@ const AT_LEAST: [(u64, u64, &str); 29] = [
     (200, 30, "run, more than 1,000 entries"),
     (2_000, 10_000, "run, largest tick from 5,000"),
     (0, 1_000, "run, largest tick 1,000,000,000"),
+    (40_000, 6_000, "run, of two equal points one waits"),
+    (5_000, 200, "run, of two equal points the older runs, a lower loop waits"),
+    (40_000, 6_000, "run, of two equal points and releases one waits"),
     (50_000, 10_000, "run, answer exactly long enough"),
     (50_000, 10_000, "run, answer longer"),
     (5_000, 1_000, "refused 16, answer empty"),
@@ -52,6 +57,15 @@ const FEW_AT_LEAST: [(u64, u64, &str); 8] = [
     (6_000, 2_500, "few loops, run, log does not keep the table"),
     (300_000, 80_000, "few loops, taken, takes its bound"),
     (50_000, 20_000, "few loops, entry refused"),
+];
+
+/// The same of logs in which points are often equal.
+const TIED_AT_LEAST: [(u64, u64, &str); 5] = [
+    (6_000, 4_000, "run, log keeps the table"),
+    (5_000, 3_500, "run, log does not keep the table"),
+    (10_000, 8_000, "run, of two equal points one waits"),
+    (5_000, 4_000, "run, of two equal points the older runs, a lower loop waits"),
+    (10_000, 8_000, "run, of two equal points and releases one waits"),
 ];
 
 /// Prints a tally and holds it to how often each refusal number is to be met.
@@ -125,6 +139,26 @@ fn far_logs_with_few_loops() {
     }
 }
 
+#[test]
+fn near_logs_with_equal_points() {
+    let tally = compare_logs(&[REFERENCE, PROVED, FAST], &TIED_NEAR, 1);
+    tally.print();
+    assert_eq!(tally.entries(23), 0);
+    for (near, _, name) in TIED_AT_LEAST {
+        check_named(&tally, near, name);
+    }
+}
+
+#[test]
+fn far_logs_with_equal_points() {
+    let tally = compare_logs(&[FAST, PROVED], &TIED_FAR, 1);
+    tally.print();
+    assert_eq!(tally.entries(23), 0);
+    for (_, far, name) in TIED_AT_LEAST {
+        check_named(&tally, far, name);
+    }
+}
+
 /// P3 on the cores 0 and 1.
 fn p3() -> Vec<u8> {
     Table::of(2, &[(2, 1, 2), (2, 1, 2), (3, 3, 0)]).bytes()
@@ -154,6 +188,16 @@ fn p10_and_p11_in_every_form() {
     assert_eq!(three_entries(&later, all), [(1, 1), (1, 1), (1, 4)]);
     let soon = [0, 1, 2].map(|tick| Entry { tick, task: 0, demand: 1 });
     assert_eq!(three_entries(&p3(), soon), [(1, 1), (2, 22), (1, 3)]);
+}
+
+/// Loop 2 keeps one of two cores. Loop 1's job, released at 0, and loop 0's, released at 5, have the
+/// point 10, and the older runs first.
+#[test]
+fn equal_points_by_age_in_every_form() {
+    let table = Table::of(2, &[(10, 2, 5), (10, 9, 10), (10, 9, 0)]).bytes();
+    let log = [(0, 1, 9), (0, 2, 9), (5, 0, 2)];
+    let entries = log.map(|(tick, task, demand)| Entry { tick, task, demand });
+    assert_eq!(three_entries(&table, entries), [(1, 9), (1, 9), (1, 11)]);
 }
 
 /// So many entries, each taken.

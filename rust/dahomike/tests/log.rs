@@ -1,4 +1,5 @@
-//! The wrapper's log run on P10 and P11 of document 01.
+//! The wrapper's log run on P10 and P11 of document 01, and on equal points as document 02, §8, has
+//! them.
 
 use dahomike::{Refusal, run_log};
 
@@ -55,6 +56,33 @@ fn p11_a_release_too_soon_is_refused_and_the_run_goes_on() {
     assert_eq!(out[..8], [1, 0, 0, 0, 1, 0, 0, 0]);
     assert_eq!(out[8..16], [2, 0, 0, 0, 22, 0, 0, 0]);
     assert_eq!(out[16..24], [1, 0, 0, 0, 3, 0, 0, 0]);
+}
+
+/// (T, C, Y) = (10, 2, 5), (10, 9, 10), (10, 9, 0) on two cores, no slack.
+const CONTENDING: [u8; 42] = [
+    1, // edition
+    2, 0, 1, // cores
+    3, // loops
+    10, 0, 0, 0, 2, 0, 0, 0, 5, 0, 0, 0, //
+    10, 0, 0, 0, 9, 0, 0, 0, 10, 0, 0, 0, //
+    10, 0, 0, 0, 9, 0, 0, 0, 0, 0, 0, 0, //
+    0, // slack
+];
+
+/// Loops 1 and 2 at tick 0, and loop 0 at tick 5, with full budgets.
+const EQUAL_POINTS: [u8; 29] = [
+    3, 0, // entries
+    0, 0, 0, 0, 1, 9, 0, 0, 0, //
+    0, 0, 0, 0, 2, 9, 0, 0, 0, //
+    5, 0, 0, 0, 0, 2, 0, 0, 0, //
+];
+
+#[test]
+fn of_equal_points_the_earlier_release_runs_first() {
+    // Loop 2 has one core. The points of loops 1 and 0 are 10, and loop 1 was released earlier.
+    let mut out = [0xee; 24];
+    assert_eq!(run_log(&CONTENDING, &EQUAL_POINTS, &mut out), Ok((3, 0)));
+    assert_eq!([out[4], out[12], out[20]], [9, 9, 11]);
 }
 
 #[test]

@@ -1,7 +1,7 @@
 //! The log run by events: an entry, or the end of a running job. Between two events the same jobs
 //! run, so the clock leaps from one to the next; where nothing is pending it leaps to the entry.
 
-use crate::heads::{Heads, JOBS, Job, Queue};
+use crate::heads::{self, Heads, JOBS, Job, Queue};
 use crate::table::TASKS;
 use crate::{Judged, refuse};
 use records::Refusal;
@@ -114,7 +114,7 @@ impl<'a, const LEAP: u32> Run<'a, LEAP> {
             return 23;
         }
         self.open_from[task] = tick + tasks.separation[task];
-        let key = u64::from(tick + tasks.offset[task]) << 4 | task as u64;
+        let key = heads::key(tick, tasks.offset[task], task);
         let job = Job { key, work: demand, entry: index as u16 };
         self.queues[task].push(job);
         if self.queues[task].count == 1 {

@@ -88,22 +88,34 @@ fn test_release(state: &State, task: usize, demand: u32) -> Result<(), Refusal> 
     Ok(())
 }
 
-/// "Only the oldest unfinished job of each loop may run. At each step the m of these with the
-/// earliest priority points run for one tick, all of them if fewer; equal points go to the lower
-/// loop." The tasks that run, in that order.
-pub fn chosen(state: &State) -> Vec<usize> {
-    let mut points = points(state);
-    points.sort();
-    points.into_iter().take(state.cores).map(|(_, task)| task).collect()
+/// The oldest unfinished job of a task, by what decides when it runs. Heads compare by their
+/// fields in turn: "the m of these with the earliest priority points run" and, by document 02, §8,
+/// "Among equal priority points the earlier release now runs first, and the lower loop only if
+/// these are equal too."
+#[derive(Clone, Copy, Debug, PartialEq, Eq, PartialOrd, Ord)]
+pub struct Head {
+    /// "A job's priority point is its release tick + Y."
+    pub point: u64,
+    pub release: u64,
+    pub task: usize,
 }
 
-/// "A job's priority point is its release tick + Y": of each task's oldest job, with the task.
-pub fn points(state: &State) -> Vec<(u64, usize)> {
-    let point = |task: usize| {
-        let oldest = *queue(state, task).first()?;
-        Some((u64::from(oldest.release) + u64::from(state.tasks.offset[task]), task))
+/// "Only the oldest unfinished job of each loop may run." In the order in which they go first.
+pub fn heads(state: &State) -> Vec<Head> {
+    let head = |task: usize| {
+        let release = u64::from(queue(state, task).first()?.release);
+        let point = release + u64::from(state.tasks.offset[task]);
+        Some(Head { point, release, task })
     };
-    known(state).filter_map(point).collect()
+    let mut heads: Vec<Head> = known(state).filter_map(head).collect();
+    heads.sort();
+    heads
+}
+
+/// "At each step the m of these […] run for one tick, all of them if fewer": the tasks that run, in
+/// the order of their heads.
+fn chosen(state: &State) -> Vec<usize> {
+    heads(state).into_iter().take(state.cores).map(|head| head.task).collect()
 }
 
 /// "each tick it runs takes 1 off, and at 0 it is finished." The response of a job that finishes at

@@ -23,7 +23,7 @@ mod wish;
 pub use records::{IDLE, Refusal, Report, State, Task, Tasks};
 
 pub use convert::{convert, convert_into};
-pub use engine::{Released, Stepped, chosen, points, release, step};
+pub use engine::{Head, Released, Stepped, heads, release, step};
 pub use log::{Entry, Log};
 pub use log_run::{Outcome, outcomes, run_log};
 pub use plan::{Plan, counted_into, judge, judge_into, write};

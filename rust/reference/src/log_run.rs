@@ -175,22 +175,25 @@ impl Machine<'_> {
     }
 
     /// "At each step the m of these with the earliest priority points run for one tick, all of them
-    /// if fewer; equal points go to the lower loop. They take the cores in that order". The answer
-    /// has the task that ran on each core.
+    /// if fewer". "Among equal priority points the earlier release now runs first, and the lower
+    /// loop only if these are equal too." "They take the cores in that order". The answer has the
+    /// task that ran on each core.
     fn step(&mut self) -> Vec<Option<usize>> {
         let cores = self.plan.labels.len();
-        let mut heads: Vec<(u64, usize)> = Vec::new();
+        // Point, release and task of each: they are compared in turn.
+        let mut heads: Vec<(u64, u64, usize)> = Vec::new();
         for (task, jobs) in self.jobs.iter().enumerate() {
             // "Only the oldest unfinished job of each loop may run." "A job's priority point is its
             // release tick + Y."
-            if let Some(oldest) = jobs.front() {
-                heads.push((oldest.release + u64::from(self.plan.tasks[task].offset), task));
+            if let Some(&Job { release, .. }) = jobs.front() {
+                let point = release + u64::from(self.plan.tasks[task].offset);
+                heads.push((point, release, task));
             }
         }
         heads.sort();
         heads.truncate(cores);
         let mut answer = vec![None; cores];
-        for (core, (_, task)) in heads.into_iter().enumerate() {
+        for (core, (_, _, task)) in heads.into_iter().enumerate() {
             answer[core] = Some(task);
             let oldest = &mut self.jobs[task][0];
             // "each tick it runs takes 1 off, and at 0 it is finished."

@@ -2,9 +2,10 @@
 //! but the sentences timed on, made from a fixed seed.
 //!
 //! Show tables: valid ones, tight ones, ones with an H near its limit, ones that offer slack around
-//! compliance, ones with no more loops than cores, faulty ones and damaged bytes. Engine states:
-//! sound ones, and ones damaged in one clause of soundness. Release logs: ones that keep their
-//! table, ones that do not, and damaged bytes. Refusals to be told: of known and of unknown
+//! compliance, ones with no more loops than cores, ones of loops alike, faulty ones and damaged
+//! bytes. Engine states: sound ones, among them ones with equal priority points, and ones damaged
+//! in one clause of soundness. Release logs: ones that keep their table, ones that do not, ones
+//! with equal priority points, and damaged bytes. Refusals to be told: of known and of unknown
 //! numbers, and pairs that differ in little.
 //! Wish sheets: ones with room, ones at the edge of having a solution, ones with wishes at the ends
 //! of their range, faulty ones, and the slowest that were found. Tables to be converted: ones that
@@ -14,6 +15,7 @@
 
 #![forbid(unsafe_code)]
 
+mod alike_tables;
 mod conversions;
 mod damaged_logs;
 mod damaged_states;
@@ -33,6 +35,7 @@ mod sound_states;
 mod tight_tables;
 mod wish_sheets;
 
+pub use alike_tables::{alike_long, alike_plan, alike_short};
 pub use conversions::{
     convertible, faulty_convertible, few_convertible, inconvertible, wanted_edition,
     without_zero_offsets,
@@ -45,7 +48,7 @@ pub use faulty_sheets::{faulty_sheet, offering_sheet, sheet_with_bad_deadlines};
 pub use faulty_tables::{faulty_table, table_with_bad_deadlines};
 pub use few_tables::{faulty_few, few, few_accepted, few_offering, few_plan, few_short, one_more};
 pub use log_tables::{any_accepted, short_accepted};
-pub use logs::{LogKind, log};
+pub use logs::{LogKind, log, tied_log};
 pub use offering_tables::offered;
 pub use plain_tables::{Shape, long, mixed, steep};
 pub use random::Random;

@@ -7,7 +7,7 @@ use crate::{Random, Shape, any_tight, either, long, mixed, offered, steep};
 use reference::{Table, Task};
 
 /// Separations that have a small H among themselves.
-const SHORT: [[u32; 4]; 6] = [
+pub const SHORT: [[u32; 4]; 6] = [
     [1, 2, 3, 4],
     [2, 3, 4, 6],
     [4, 6, 8, 12],

@@ -42,6 +42,10 @@ struct Manner {
     full: bool,
     /// One entry in so many has a fault.
     faults: u64,
+    /// The priority points are multiples of this, but for those of entries with a fault.
+    grid: u32,
+    /// How many entries, where the ticks are enough for them.
+    count: usize,
 }
 
 impl Manner {
@@ -51,6 +55,13 @@ impl Manner {
             strays: random.pick(&[NEVER, NEVER, 2, 4]),
             full: random.once_in(3),
             faults: random.pick(&[NEVER, NEVER, NEVER, 2, 4, 12]),
+            grid: 1,
+            count: match random.index(256) {
+                0 => random.index(3_000),
+                1..16 => random.index(150),
+                16..32 => random.index(3),
+                _ => random.index(40),
+            },
         }
     }
 }
@@ -58,16 +69,30 @@ impl Manner {
 /// A log for a table that passes 3 to 8. About half of the logs keep the table.
 pub fn log(random: &mut Random, table: &Table, kind: LogKind) -> Log {
     let manner = Manner::any(random, kind);
-    let count = match random.index(256) {
-        0 => random.index(3_000),
-        1..16 => random.index(150),
-        16..32 => random.index(3),
-        _ => random.index(40),
-    };
+    made(random, table, kind, &manner)
+}
+
+/// The same with priority points that are often equal: jobs of tasks with different offsets are
+/// then released in different ticks, and those of tasks with equal offsets in the same tick.
+pub fn tied_log(random: &mut Random, table: &Table, kind: LogKind) -> Log {
+    let separations: Vec<u32> = table.tasks.iter().map(|task| task.separation).collect();
+    let longest = separations.iter().copied().max().expect("a table has tasks");
+    let any = random.pick(&separations);
+    let grid = random.pick(&[any, any, longest, longest, 2, 3]);
+    let usual = Manner::any(random, kind);
+    // In most of them tasks release as soon as they may, so that many jobs are pending together.
+    let wait = random.pick(&[0, 0, 0, usual.wait]);
+    let strays = random.pick(&[NEVER, NEVER, NEVER, 8]);
+    let count = usual.count + table.tasks.len();
+    let manner = Manner { wait, strays, grid, count, ..usual };
+    made(random, table, kind, &manner)
+}
+
+fn made(random: &mut Random, table: &Table, kind: LogKind, manner: &Manner) -> Log {
     let mut maker = Maker { table, largest: 0, open_from: vec![None; table.tasks.len()] };
     let mut log = Log::default();
-    while log.entries.len() < count {
-        let mut entry = maker.good(random, &manner);
+    while log.entries.len() < manner.count {
+        let mut entry = maker.good(random, manner);
         if random.once_in(manner.faults) {
             maker.spoil(random, &mut entry);
         }
@@ -98,20 +123,25 @@ impl Maker<'_> {
             start
         } else {
             let from_start = (start..tasks).chain(0..start);
-            from_start.min_by_key(|&task| self.earliest(task)).expect("a table has tasks")
+            let first = from_start.min_by_key(|&task| self.earliest(task, 0, manner.grid));
+            first.expect("a table has tasks")
         };
         let later = if random.once_in(4) { random.between(0, manner.wait) } else { 0 };
+        let tick = self.earliest(task, later, manner.grid);
         let budget = self.table.tasks[task].budget;
         let demand = match random.index(6) {
             0 if !manner.full => 1,
             1 | 2 if !manner.full => random.between(1, budget),
             _ => budget,
         };
-        Entry { tick: self.earliest(task) + later, task: task as u8, demand }
+        Entry { tick, task: task as u8, demand }
     }
 
-    fn earliest(&self, task: usize) -> u32 {
-        self.largest.max(self.open_from[task].unwrap_or(0))
+    /// The first tick with a point on the grid, so much or more after the task may release.
+    fn earliest(&self, task: usize, later: u32, grid: u32) -> u32 {
+        let tick = self.largest.max(self.open_from[task].unwrap_or(0)) + later;
+        let offset = self.table.tasks[task].offset;
+        (tick + offset).next_multiple_of(grid) - offset
     }
 
     /// One fault, or now and then two.

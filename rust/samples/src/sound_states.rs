@@ -61,7 +61,8 @@ pub fn sound(random: &mut Random, plan: &Plan) -> State {
     state
 }
 
-/// A sound state in which each task has a job and the priority points are equal or one apart.
+/// A sound state in which each task has a job and the priority points are equal or one apart. Of two
+/// with equal points the one with the larger offset was released earlier.
 pub fn tied(random: &mut Random, plan: &Plan) -> State {
     let mut state = open(plan);
     state.clock = random.between(300_000, LAST_TICK - 1);
