@@ -113,11 +113,11 @@ module _ {x : Standing} {bytes : List ℕ} {cores : ℕ} {offsets : List ℕ} {c
   abbrev A : Heads s M (λ i. false) key left n
   A = R .stands .heads-are
 
-  L : Limits s
-  L = plan-limits p (R .frame .accepted)
+  limits : Limits s
+  limits = plan-limits p (R .frame .accepted)
 
   few : s .count ≤ 16
-  few = L .tasks-high
+  few = limits .tasks-high
 
   pub ready-waits : (i : ℕ) → waiting M i ≡ true → i < s .count
   ready-waits = waits-known s h
@@ -145,7 +145,7 @@ module _ {x : Standing} {bytes : List ℕ} {cores : ℕ} {offsets : List ℕ} {c
 
     enough : (i : ℕ) → runs s M i ≡ true → d ≤ headWork (M .lane i .queue)
     enough i q =
-        let y = runs-place L ready-waits A i q in
+        let y = runs-place limits ready-waits A i q in
         let z = A .sound (y .0) (y .1) in
         let e : z .0 ≡ i = owns-key waits-low A (y .0) i (y .1) (omega (arith, earliest s M .heads i q .0, few)) (y .3) in
         rw (d-is, sym e, sym (z .1 .work-is))
@@ -225,7 +225,7 @@ module _ {x : Standing} {bytes : List ℕ} {cores : ℕ} {offsets : List ℕ} {c
               heads-are =
                   subst (λ f. Heads s N f key′ left′ c)
                   (fun-ext (λ j. sym (and-true (ended s g j) ∙ over-ended j)))
-                  (heads-remain leap-makes L ready-waits ready-busy A remain);
+                  (heads-remain leap-makes limits ready-waits ready-busy A remain);
               stage = stage-none (R .frame .room) kept;
             }
           where
@@ -257,7 +257,7 @@ module _ {x : Standing} {bytes : List ℕ} {cores : ℕ} {offsets : List ℕ} {c
               go true q = ap isOver (done-loop a l) ∙ over-ended (A .sound b u .0) ∙ q
               go false q =
                   absurd
-                  (omega (arith, over-here leap-makes L ready-waits ready-busy A remain b u false q, finishes .none-left a l))
+                  (omega (arith, over-here leap-makes limits ready-waits ready-busy A remain b u false q, finishes .none-left a l))
 
           -- two places have different loops
           apart : (a b : ℕ) → a < b → b < f → row done a ≢ row done b
@@ -286,11 +286,11 @@ module _ {x : Standing} {bytes : List ℕ} {cores : ℕ} {offsets : List ℕ} {c
           unfolding over
           over-gone j o =
               let both = and-eq-true-iff (runs s M j) (eqb (headWork (M .lane j .queue)) d) .0 o in
-              let r = runs-place L ready-waits A j (both .0) in
+              let r = runs-place limits ready-waits A j (both .0) in
               let low : j < 16 = omega (arith, earliest s M .heads j (both .0) .0, few) in
               let e : A .sound (r .0) (r .1) .0 ≡ j = owns-key waits-low A (r .0) j (r .1) low (r .3) in
               let w : workAfter left (s .cores) d (r .0) ≡ 0 =
-              after-here leap-makes L ready-waits ready-busy A remain (r .0) (r .1)
+              after-here leap-makes limits ready-waits ready-busy A remain (r .0) (r .1)
               ∙ rw (e, both .0) (omega (arith, eqb-true (headWork (M .lane j .queue)) d (both .1))) in
               let q = finishes .all (r .0) (r .1) w in
               let same : row done (q .0) ≡ j =
