@@ -91,34 +91,33 @@ fn compare_part(forms: &[LogForm], families: &[Family], fewer: u64, part: u64) -
     tally
 }
 
-fn accepted_short(random: &mut Random) -> (Vec<u8>, Table) {
-    let table = short_accepted(random);
+/// The table's own bytes, and the table.
+fn with_bytes(table: Table) -> (Vec<u8>, Table) {
     (table.bytes(), table)
+}
+
+fn accepted_short(random: &mut Random) -> (Vec<u8>, Table) {
+    with_bytes(short_accepted(random))
 }
 
 fn accepted_any(random: &mut Random) -> (Vec<u8>, Table) {
-    let table = any_accepted(random);
-    (table.bytes(), table)
+    with_bytes(any_accepted(random))
 }
 
 fn accepted_few(random: &mut Random) -> (Vec<u8>, Table) {
-    let table = few_accepted(random);
-    (table.bytes(), table)
+    with_bytes(few_accepted(random))
 }
 
 fn short_few(random: &mut Random) -> (Vec<u8>, Table) {
-    let table = few_short(random);
-    (table.bytes(), table)
+    with_bytes(few_short(random))
 }
 
 fn short_alike(random: &mut Random) -> (Vec<u8>, Table) {
-    let table = alike_short(random);
-    (table.bytes(), table)
+    with_bytes(alike_short(random))
 }
 
 fn long_alike(random: &mut Random) -> (Vec<u8>, Table) {
-    let table = alike_long(random);
-    (table.bytes(), table)
+    with_bytes(alike_long(random))
 }
 
 /// A table that is refused, mostly, beside an accepted one.

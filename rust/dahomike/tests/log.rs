@@ -3,32 +3,39 @@
 
 use dahomike::{Refusal, run_log};
 
-/// P3 with labels 0 and 1: (T, C, Y) = (2, 1, 2), (2, 1, 2), (3, 3, 0), no slack.
-const P3: [u8; 42] = [
-    1, // edition
-    2, 0, 1, // cores
-    3, // loops
-    2, 0, 0, 0, 1, 0, 0, 0, 2, 0, 0, 0, //
-    2, 0, 0, 0, 1, 0, 0, 0, 2, 0, 0, 0, //
-    3, 0, 0, 0, 3, 0, 0, 0, 0, 0, 0, 0, //
-    0, // slack
-];
+/// P3: (T, C, Y) of each loop.
+const P3: [u8; 42] = table([[2, 1, 2], [2, 1, 2], [3, 3, 0]]);
 
 /// All released at tick 0 with full budgets.
-const P10: [u8; 29] = [
-    3, 0, // entries
-    0, 0, 0, 0, 0, 1, 0, 0, 0, //
-    0, 0, 0, 0, 1, 1, 0, 0, 0, //
-    0, 0, 0, 0, 2, 3, 0, 0, 0, //
-];
+const P10: [u8; 29] = log([[0, 0, 1], [0, 1, 1], [0, 2, 3]]);
 
 /// Loop 0 at ticks 0, 1, 2, demand 1.
-const P11: [u8; 29] = [
-    3, 0, // entries
-    0, 0, 0, 0, 0, 1, 0, 0, 0, //
-    1, 0, 0, 0, 0, 1, 0, 0, 0, //
-    2, 0, 0, 0, 0, 1, 0, 0, 0, //
-];
+const P11: [u8; 29] = log([[0, 0, 1], [1, 0, 1], [2, 0, 1]]);
+
+/// A table of edition 1 on the cores labelled 0 and 1, with these loops and no slack.
+const fn table(loops: [[u8; 3]; 3]) -> [u8; 42] {
+    let mut bytes = [0; 42];
+    [bytes[0], bytes[1], bytes[2], bytes[3], bytes[4]] = [1, 2, 0, 1, 3];
+    let mut field = 0;
+    while field < 9 {
+        bytes[5 + 4 * field] = loops[field / 3][field % 3];
+        field += 1;
+    }
+    bytes
+}
+
+/// A log of these entries: tick, loop and demand.
+const fn log(entries: [[u8; 3]; 3]) -> [u8; 29] {
+    let mut bytes = [0; 29];
+    bytes[0] = 3;
+    let mut entry = 0;
+    while entry < 3 {
+        let at = 2 + 9 * entry;
+        [bytes[at], bytes[at + 4], bytes[at + 5]] = entries[entry];
+        entry += 1;
+    }
+    bytes
+}
 
 #[test]
 fn p10_finish_ticks_are_written_and_later_bytes_stay() {
@@ -58,30 +65,13 @@ fn p11_a_release_too_soon_is_refused_and_the_run_goes_on() {
     assert_eq!(out[16..24], [1, 0, 0, 0, 3, 0, 0, 0]);
 }
 
-/// (T, C, Y) = (10, 2, 5), (10, 9, 10), (10, 9, 0) on two cores, no slack.
-const CONTENDING: [u8; 42] = [
-    1, // edition
-    2, 0, 1, // cores
-    3, // loops
-    10, 0, 0, 0, 2, 0, 0, 0, 5, 0, 0, 0, //
-    10, 0, 0, 0, 9, 0, 0, 0, 10, 0, 0, 0, //
-    10, 0, 0, 0, 9, 0, 0, 0, 0, 0, 0, 0, //
-    0, // slack
-];
-
-/// Loops 1 and 2 at tick 0, and loop 0 at tick 5, with full budgets.
-const EQUAL_POINTS: [u8; 29] = [
-    3, 0, // entries
-    0, 0, 0, 0, 1, 9, 0, 0, 0, //
-    0, 0, 0, 0, 2, 9, 0, 0, 0, //
-    5, 0, 0, 0, 0, 2, 0, 0, 0, //
-];
-
 #[test]
 fn of_equal_points_the_earlier_release_runs_first() {
+    let table = table([[10, 2, 5], [10, 9, 10], [10, 9, 0]]);
     // Loop 2 has one core. The points of loops 1 and 0 are 10, and loop 1 was released earlier.
+    let log = log([[0, 1, 9], [0, 2, 9], [5, 0, 2]]);
     let mut out = [0xee; 24];
-    assert_eq!(run_log(&CONTENDING, &EQUAL_POINTS, &mut out), Ok((3, 0)));
+    assert_eq!(run_log(&table, &log, &mut out), Ok((3, 0)));
     assert_eq!([out[4], out[12], out[20]], [9, 9, 11]);
 }
 

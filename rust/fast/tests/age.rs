@@ -1,6 +1,9 @@
 //! States and logs in which priority points are often equal: a step and a log run against the
 //! reference. With the proved code they are compared in `comparison`.
 
+mod both;
+
+use both::compare_log;
 use records::State;
 use samples::{LogKind, Random, alike_plan, alike_short, tied, tied_log};
 
@@ -41,11 +44,6 @@ fn logs() {
     for _ in 0..4_000 {
         let table = alike_short(random);
         let log = tied_log(random, &table, LogKind::Near);
-        let (table, bytes) = (table.bytes(), log.bytes());
-        let mut expected = vec![0xee; 8 * log.entries.len()];
-        let mut out = expected.clone();
-        let counts = reference::run_log(&table, &bytes, &mut expected);
-        assert_eq!(fast::run_log(&table, &bytes, &mut out), counts, "{table:?}, {log:?}");
-        assert_eq!(out, expected, "{table:?}, {log:?}");
+        compare_log(&table, &log);
     }
 }

@@ -1,6 +1,9 @@
 //! Tables with few tasks, that is no more than cores, and with one more beside them: every call
 //! against the reference. With the proved code they are compared in `comparison`.
 
+mod both;
+
+use both::compare_log;
 use records::{Refusal, Report, State};
 use reference::Table;
 use samples::{
@@ -85,11 +88,6 @@ fn logs() {
     for _ in 0..2_000 {
         let table = few_short(random);
         let log = log(random, &table, LogKind::Near);
-        let (table, bytes) = (table.bytes(), log.bytes());
-        let mut expected = vec![0xee; 8 * log.entries.len()];
-        let mut out = expected.clone();
-        let counts = reference::run_log(&table, &bytes, &mut expected);
-        assert_eq!(fast::run_log(&table, &bytes, &mut out), counts, "{table:?}, {log:?}");
-        assert_eq!(out, expected, "{table:?}, {log:?}");
+        compare_log(&table, &log);
     }
 }
