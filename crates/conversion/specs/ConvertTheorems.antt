@@ -19,12 +19,12 @@ use borrow.Author.Tests.{le-ltb, eqb-false, eq-eqb, ne-eqb}
 use Rattle.laws.specs.EveryLaws.{below-or-not}
 use Rattle.tasks.specs.declared.Plan.{Plan}
 use Rattle.tasks.specs.declared.Answer.the-variants.{Accepted, Refused}
-use Rattle.tasks.specs.Numbers.{deadlineHigh}
 use Rattle.tasks.specs.TaskSet.{coreForEach, bound}
 use Rattle.tasks.specs.Content.{hasDeadlines, Content, late, noTask, contentOf, planOf}
 use Rattle.tasks.specs.ContentLaws.{content-ext, Fits}
-use Rattle.tasks.specs.Tests.{refuse, firstMet, numberOf, indexOf, outside, badEdition, badDeadline, test28, tests, testPlan}
-use Rattle.tasks.specs.AnswerLaws.{refuse-passed, pass-lowest, lowest-passed, neither, outside-passed, firstMet-passed}
+use Rattle.tasks.specs.Tests.{refuse, firstMet, numberOf, indexOf, badEdition, tests, testPlan}
+use Rattle.tasks.specs.AnswerLaws.{refuse-passed, pass-lowest, orNext-passed, neither, firstMet-passed}
+use Rattle.tasks.specs.LimitsLaws.{tests-split, deadlines-passed}
 use Rattle.tasks.specs.NumberLaws.{Lowest, lowest-met, met-lowest, refuse-number, Numbers, _also_, no-more, tests-number, met-next, met-first}
 use Rattle.numbers.specs.ByteLaws.{Bytes}
 use Rattle.codec.specs.Table.{countedLength, editionIn, contentIn, test1, test2, verdict, bytesOf}
@@ -34,7 +34,7 @@ use Rattle.roundtrip.specs.SectionLaws.{verdict-parts, table-fits}
 use Rattle.roundtrip.specs.BackLaws.{back-edition}
 use Rattle.roundtrip.specs.RoundTrip.{rewritten, plan-back, verdict-back}
 use Rattle.conversion.specs.Converted.{convertedTask, converted, convertedBytes, wantedTest, noOffset, otherDeadline, wayTest, fitTest, convertTest, convertedLength, convertedTo}
-use Rattle.conversion.specs.ConvertedLaws.{way-deadlines, fit-passed, fit-more, fit-each, tests-28, converted-late, converted-kept, table-says, table-passes, ways, other-edition}
+use Rattle.conversion.specs.ConvertedLaws.{way-deadlines, fit-passed, fit-more, fit-each, converted-late, converted-kept, table-says, table-passes, ways, other-edition}
 
 unfoldable pub leftBy : ℕ → List ℕ → List ℕ → List ℕ
 leftBy e t out = take (convertedLength e t (length out)) (convertedTo e t out)
@@ -138,11 +138,9 @@ module _ (e : ℕ) (t : List ℕ) (wanted : badEdition e || eqb (editionIn t) e 
 
   -- 28 leaves a deadline of 1 or more, and it is the offset
   offset-low : hasDeadlines (editionIn t) ≡ true → (i : ℕ) → i < contentIn t .tasks .count → contentIn t .tasks .task i .offset ≢ 0
-  unfolding test28 contentIn
   offset-low d i h z =
-      let tested : outside 1 deadlineHigh (contentIn t .tasks .task i .deadline) ≡ false =
-      rw d at (lowest-passed 28 (λ k. badDeadline (editionIn t) (contentIn t .tasks .task k)) (contentIn t .tasks .count) (tests-28 (contentIn t) passes) i h) in
-      omega (arith, outside-passed 1 deadlineHigh _ tested .0, any-deadline d i, z)
+      let limits = orNext-passed _ _ (sym (tests-split (contentIn t)) ∙ passes) .0 in
+      omega (arith, deadlines-passed (contentIn t) limits (rw same-edition at d) i h .0, any-deadline d i, z)
 
   -- neither 29 nor 30 is met on the way back
   back-way : wayTest (editionIn t) (converted e (contentIn t) .tasks .task) (contentIn t .tasks .count) ≡ Accepted

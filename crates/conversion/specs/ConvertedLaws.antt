@@ -4,7 +4,6 @@
 --     fit-each, fit-more    31, 29 and 30 are 31 where loops are no more than cores, and 29 or 30 where they are more; fit-passed: what they leave
 --     way-ext            29 and 30 look at the tasks below n
 --     of-plain           what a task set's T, C and Y give is the same after the conversion
---     tests-28           a content that meets none of its numbers doesn't meet 28
 --     converted-tests    a converted content meets none of 3 to 13 and 28
 --     plan-says          the plan of a converted content says it; plan-accepts: and meets none of a plan's numbers
 --     converted-late     of the two editions, late is the same
@@ -104,9 +103,6 @@ module _ (c : Content) (a : tests c ≡ Accepted) where
       let r = orNext-passed _ _ (sym (firstMet-append (before28 c) (test28 c ∷ after28 c)) ∙ a) in
       let s = firstMet-passed _ _ (r .1) in
       (r .0, s .0, s .1)
-
-  pub tests-28 : test28 c ≡ Accepted
-  tests-28 = apart .1
 
 module _ (e : ℕ) (c : Content) where
   same-plain : plain (converted e c .tasks) ≡ plain (c .tasks)

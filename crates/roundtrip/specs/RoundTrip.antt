@@ -29,7 +29,7 @@ use Rattle.codec.specs.Table.{editionIn, countedLength, taskSetIn, contentIn, v
 use Rattle.table.specs.Judged.{judgedAs, countedIn, judged}
 use Rattle.writer.specs.Written.{writeTest, writtenLength, writtenTo}
 use Rattle.numbers.specs.ByteLaws.{Bytes}
-use Rattle.tasks.specs.ContentLaws.{Fits, fits-back, plan-fits}
+use Rattle.tasks.specs.ContentLaws.{Fits, fits-back, plan-fits, mark-back, same-exactly}
 use Rattle.roundtrip.specs.SectionLaws.{Parts, verdict-parts, parts-verdict, table-parts, labels-again, tasks-again, slack-again, table-fits}
 use Rattle.sections.specs.WriteLaws.{length-bytes}
 use Rattle.roundtrip.specs.BackLaws.{back-edition, back-cores, back-tasks, back-offers, read-back}
@@ -93,8 +93,12 @@ module _ (p : Plan) (a : testPlan p ≡ Accepted) where
 
   -- "two plans are the same if their used entries and that mark agree"
   pub same-back : Same p (judged (bytesOf (contentOf p)) .plan)
-  unfolding Same tidy
-  same-back = sym (ap (λ (j : Judgement). contentOf (j .plan)) judged-back ∙ fits-back (contentOf p) plan-again-fits)
+  unfolding tidy planOf contentOf
+  same-back =
+      same-exactly p (judged (bytesOf (contentOf p)) .plan) .1 (
+        sym (ap (λ (j : Judgement). contentOf (j .plan)) judged-back ∙ fits-back (contentOf p) plan-again-fits),
+        sym (ap (λ (j : Judgement). j .plan .offered) judged-back ∙ mark-back (p .offered) (p .tasks) (passed .limits .tasks-low)),
+      )
 
 -- an accepted table's judgement
 judged-accepted : (t : List ℕ) → verdict t ≡ Accepted → judged t ≡ judgedAs Accepted (judged t .plan) (countedOf (contentIn t))

@@ -4,7 +4,8 @@
 --     countedIn        the loops that the judgement of a table's bytes names
 --     judged           the judgement of a table's bytes
 --     slackPart        the slack section's entries, without the count byte
-use Prim.Native.Nat.{ℕ}
+--     slackPlace       where they lie, from where the table lies
+use Prim.Native.Nat.{ℕ, _+_}
 use mathlib.Core.List.{List, []}
 use lib.ListN.{length, drop}
 use Rattle.laws.specs.Tab.{tab}
@@ -34,3 +35,7 @@ judged t = judgedAs (verdict t) (unlessRefused (verdict t) (planOf (contentIn t)
 -- "its entries without the count byte, with count 0 or a refused table as an empty part"
 unfoldable pub slackPart : List ℕ → List ℕ
 slackPart t = unlessRefused (verdict t) (drop (slackAt t) t) []
+
+-- "handed back as the caller's own bytes": where the entries of a table lie that lies at p, a block of memory and the first byte's place in it
+unfoldable pub slackPlace : List ℕ → ℕ × ℕ → ℕ × ℕ
+slackPlace t p = (p .0, p .1 + slackAt t)

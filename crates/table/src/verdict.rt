@@ -16,9 +16,11 @@ use tidy::no_plan;
 use tidy::tidy_bytes;
 ghost use mathlib.Core.Path.{_≡_};
 ghost use mathlib.Core.Bool.{cond};
-ghost use Prim.Native.Nat.{_-_, _≤_};
+ghost use Prim.Native.Nat.{_-_, _≤_, _<_};
 ghost use Rattle.tasks.specs.TaskSet.{coreForEach};
-ghost use Rattle.table.specs.Judged.{judged, refusedWith, slackPart};
+ghost use Rattle.tasks.specs.declared.Answer.the-variants.{Accepted};
+ghost use Rattle.codec.specs.Table.{slackCount, verdict};
+ghost use Rattle.table.specs.Judged.{judged, refusedWith, slackPart, slackPlace};
 ghost use Rattle.reader.specs.Counted.{answerOfCounts};
 ghost use Rattle.reader.specs.CountedLaws.{CountsIn};
 ghost use Rattle.table.specs.LoadedLaws.{loaded};
@@ -130,6 +132,7 @@ pub fn uncounted(counts: Counts) -> Answer
 // "The slack section of a read table is handed back as the caller's own bytes"
 pub fn slack_part(table: &[u8]) -> &[u8]
     ensures { λ r. ⌜ now r ≡ slackPart (now (table .entry)) ⌝ }
+    ensures own_bytes { λ r. ⌜ (verdict (now (table .entry)) ≡ Accepted → 0 < slackCount (now (table .entry)) → r .ptr ≡ slackPlace (now (table .entry)) (table .entry .ptr)) ⌝ }
 {
     let judgement = judge(table);
     let answer = judgement.answer;

@@ -9,7 +9,7 @@
 --     tidy                a plan with zeros in its unused places
 --     noTask, zeroPlan    a task and a plan of zeros; zeroTask: whether a task is one
 --     Same                "two plans are the same if their used entries and that mark agree", and "only if editions agree too"
-use Prim.Native.Nat.{ℕ, _-_}
+use Prim.Native.Nat.{ℕ, _-_, _<_}
 use mathlib.Core.Path.{_≡_}
 use mathlib.Core.Bool.{Bool, false, cond, not, _&&_}
 use mathlib.Core.List.{List, []}
@@ -103,5 +103,12 @@ planOf c =
 unfoldable pub tidy : Plan → Plan
 tidy p = planOf (contentOf p)
 
-unfoldable pub Same : Plan → Plan → Type 0
-Same p q = contentOf p ≡ contentOf q
+-- what stands past the numbers of cores and loops does not matter, nor does a deadline that the edition doesn't have
+pub record Same (p q : Plan) : Type 0 where
+  pub editions : p .edition ≡ q .edition
+  pub marks : p .offered ≡ q .offered
+  pub cores : p .cores ≡ q .cores
+  pub loops : p .tasks ≡ q .tasks
+  pub labels : (i : ℕ) → i < p .cores → row (p .labels) i ≡ row (q .labels) i
+  pub entries : (i : ℕ) → i < p .tasks → inEdition (p .edition) (taskOf (p .task) i) ≡ inEdition (q .edition) (taskOf (q .task) i)
+  pub slack : (i : ℕ) → i < p .tasks → row (p .slack) i ≡ row (q .slack) i

@@ -14,24 +14,26 @@
 --     fits-back       the plan of such a content says it; plan-fits: what a plan says fits
 --     content-tidy    so a plan with zeros in its unused places says what the plan says; tidy-tidy: and has no more to lose
 --     mark-back       the mark of a plan with tasks comes back from its slack count
+--     same-exactly    plans are the same exactly if they say the same and have the same mark
 --     tidied-code     the tidied plan, array by array
 --     zero-task       a task that the test of zeros passes is the task of zeros; no-task: and back
 use Prim.Native.Nat.{ℕ, _-_, _≤_, _<_}
 use mathlib.Core.Path.{_≡_, refl, sym, ap, fun-ext, _∙_}
 use mathlib.Core.Bool.{Bool, true, false, cond, not, _||_}
 use mathlib.Core.List.{List}
-use mathlib.Core.Logic.{_⊎_, inl, inr, ⊎-elim}
+use mathlib.Core.Logic.{_↔_, _⊎_, inl, inr, ⊎-elim}
 use native.Mathlib.Omega.{arith}
 use lib.ListN.{getD}
 use lib.Dec.{ltb, eqb}
 use borrow.Author.Tests.{ltb-true, ltb-false, eqb-true, eqb-false, eq-eqb, ne-eqb}
 use Rattle.laws.specs.Tab.{tab, cut}
 use Rattle.laws.specs.TabLaws.{getD-tab, cut-below, cut-above, cut-map}
+use Rattle.laws.specs.EveryLaws.{below-or-not}
 use Rattle.laws.specs.EveryLaws.{both}
 use Rattle.tasks.specs.declared.Task.{Task}
 use Rattle.tasks.specs.declared.Plan.{Plan}
 use Rattle.tasks.specs.TaskSet.{TaskSet, row}
-use Rattle.tasks.specs.Content.{hasDeadlines, inEdition, Content, lateOf, noTask, zeroTask, taskOf, contentOf, planOf, tidy}
+use Rattle.tasks.specs.Content.{hasDeadlines, inEdition, Content, lateOf, noTask, zeroTask, taskOf, contentOf, planOf, tidy, Same}
 
 pub plan-ext :
     (p q : Plan) → p .edition ≡ q .edition → p .offered ≡ q .offered → p .cores ≡ q .cores → p .tasks ≡ q .tasks
@@ -202,6 +204,49 @@ module _ (p : Plan) (m : p .cores ≤ 8) (n : p .tasks ≤ 16) where
 pub mark-back : (b : Bool) (n : ℕ) → 1 ≤ n → not (eqb (cond b n 0) 0) ≡ b
 mark-back true n h = rw (ne-eqb n 0 (λ z. omega arith))
 mark-back false n h = refl
+
+-- rows that agree below a number, cut off there
+cut-same :
+    {A : Type 0} (m n : ℕ) (f g : ℕ → A) (z : A) → m ≡ n → ((i : ℕ) → i < m → f i ≡ g i) → (i : ℕ) → cut m f z i ≡ cut n g z i
+cut-same m n f g z e same i =
+    ⊎-elim
+    (λ (h : i < m). cut-below m f z i h ∙ same i h ∙ sym (cut-below n g z i (omega arith)))
+    (λ (h : m ≤ i). cut-above m f z i h ∙ sym (cut-above n g z i (omega arith)))
+    (below-or-not i m)
+
+-- below the number at which two rows are cut off they agree if what is left does
+cut-apart :
+    {A : Type 0} (m n : ℕ) (f g : ℕ → A) (z : A) → m ≡ n → cut m f z ≡ cut n g z → (i : ℕ) → i < m → f i ≡ g i
+cut-apart {A} m n f g z e same i h =
+    sym (cut-below m f z i h) ∙ ap (λ (r : ℕ → A). r i) same ∙ cut-below n g z i (omega arith)
+
+module _ (p q : Plan) where
+  same-content : Same p q → contentOf p ≡ contentOf q
+  unfolding contentOf
+  same-content S =
+      content-ext (contentOf p) (contentOf q) (S .editions)
+      (set-ext _ _ (S .cores) (S .loops) (cut-same (p .tasks) (q .tasks) _ _ noTask (S .loops) (S .entries)))
+      (fun-ext (cut-same (p .cores) (q .cores) _ _ 0 (S .cores) (S .labels)))
+      (λ i. cond (S .marks i) (S .loops i) 0)
+      (fun-ext (cut-same (p .tasks) (q .tasks) _ _ 0 (S .loops) (S .slack)))
+
+  content-same : contentOf p ≡ contentOf q → p .offered ≡ q .offered → Same p q
+  unfolding contentOf
+  content-same e o =
+      let m : p .cores ≡ q .cores = ap (λ (c : Content). c .tasks .cores) e in
+      let n : p .tasks ≡ q .tasks = ap (λ (c : Content). c .tasks .count) e in
+      record {
+        editions = ap (λ (c : Content). c .edition) e;
+        marks = o;
+        cores = m;
+        loops = n;
+        labels = cut-apart (p .cores) (q .cores) _ _ 0 m (ap (λ (c : Content). c .label) e);
+        entries = cut-apart (p .tasks) (q .tasks) _ _ noTask n (ap (λ (c : Content). c .tasks .task) e);
+        slack = cut-apart (p .tasks) (q .tasks) _ _ 0 n (ap (λ (c : Content). c .slack) e);
+      }
+
+  pub same-exactly : Same p q ↔ ((contentOf p ≡ contentOf q) × (p .offered ≡ q .offered))
+  same-exactly = (λ S. (same-content S, S .marks), λ s. content-same (s .0) (s .1))
 
 pub tidied-code :
     (p : Plan) (labels slack : List ℕ) (task : List Task) → 1 ≤ p .tasks

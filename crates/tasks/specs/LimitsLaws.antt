@@ -2,7 +2,7 @@
 --     limitTests         3 to 10, and 28; slackTests: 11 to 13
 --     tests-split        the tests are these two, one after the other
 --     Labelled           the labels are below 64 and rise
---     deadlines-passed   none of these is met: in edition 2 every deadline is at most 1,600,000
+--     deadlines-passed   none of these is met: in edition 2 every deadline is 1 to 1,600,000
 --     limits-passed      none of these is met: the limits hold, and so does Labelled
 use Prim.Native.Nat.{ℕ, suc, _-_, _≤_, _<_}
 use mathlib.Core.Path.{_≡_}
@@ -93,6 +93,6 @@ module _ (c : Content) where
   pub limits-passed : limitTests c ≡ Accepted → Limits (c .tasks) × Labelled c
   limits-passed a = let r = taken-apart a in (r .0, r .1)
 
-  pub deadlines-passed : limitTests c ≡ Accepted → hasDeadlines (c .edition) ≡ true → (i : ℕ) → i < c .tasks .count → c .tasks .task i .deadline ≤ 1600000
+  pub deadlines-passed : limitTests c ≡ Accepted → hasDeadlines (c .edition) ≡ true → (i : ℕ) → i < c .tasks .count → (1 ≤ c .tasks .task i .deadline) × (c .tasks .task i .deadline ≤ 1600000)
   unfolding test28
-  deadlines-passed a d i h = outside-passed 1 deadlineHigh _ (rw d at (lowest-passed _ _ _ (taken-apart a .2) i h)) .1
+  deadlines-passed a d i h = outside-passed 1 deadlineHigh _ (rw d at (lowest-passed _ _ _ (taken-apart a .2) i h))

@@ -90,7 +90,7 @@ module _ (c : Content) where
       record {
         limits = l .0;
         labelled = l .1;
-        deadline-high = deadlines-passed c (r .0);
+        deadline-high = λ d i h. deadlines-passed c (r .0) d i h .1;
         offers = offers-passed (r11 .0) .0;
         unoffered = offers-passed (r11 .0) .1;
         as-found = found-passed (r12 .0);

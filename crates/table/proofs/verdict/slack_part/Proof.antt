@@ -1,7 +1,7 @@
 -- `table::verdict::slack_part` meets its contract: the bytes of an accepted table from the slack section's entries on.
 use native.Mathlib.Omega.{arith}
 use borrow.Author.Needs.{needs}
-use Rattle.table.specs.PartLaws.{part-none, part-within, part-rest}
+use Rattle.table.specs.PartLaws.{part-none, no-part, part-lies, part-within, part-rest}
 use Rattle.table.proofs.verdict.slack_part.Statement.{statement}
 use Rattle.table.proofs.verdict.slack_part.Tie as tie
 
@@ -18,7 +18,7 @@ slice-aggregate-result : tie.Need-slice-aggregate-result
 slice-aggregate-result c = search needs
 
 returns : tie.Need-returns
-returns c = part-none _ _ (c .before .before .before .judge .ensures) _ _ (c .before .enum-told2 .given .1)
+returns c = (part-none _ _ (c .before .before .before .judge .ensures) _ _ (c .before .enum-told2 .given .1), λ a z. no-part _ _ (c .before .before .before .judge .ensures) _ _ (c .before .enum-told2 .given .1) a)
 
 slack-from-requires : tie.Need-slack-from-requires
 slack-from-requires c κs =
@@ -40,9 +40,11 @@ part-result-end : tie.Need-part-result-end
 part-result-end c = search needs
 
 returns-2 : tie.Need-returns-2
-returns-2 c =
-    rw (c .before .slack-from .ensures)
-    (part-rest _ _ (c .before .before .before .before .judge .ensures) (c .before .before .enum-told .given .1))
+returns-2 c = (
+  rw (c .before .slack-from .ensures)
+      (part-rest _ _ (c .before .before .before .before .judge .ensures) (c .before .before .enum-told .given .1)),
+  λ a z. rw (c .before .slack-from .ensures) (part-lies _ _ (c .before .before .before .before .judge .ensures) (c .before .before .enum-told .given .1) _ _),
+)
 
 pub slack-part-spec : {M : Type 1} → statement M
 slack-part-spec =
