@@ -6,6 +6,8 @@
 --     same-number   and so does its C function
 --     same-found    slack that is not offered is the same for both
 --     same-judged   where slack agrees, the C judgement answers and leaves the same
+--     convert-alike what a conversion leaves is alike to its table
+--     convert-runs  so a log run and its C function answer and leave the same under both; convert-judged: and so does the C judgement
 use Prim.Native.Nat.{ℕ, _≤_, _<_}
 use mathlib.Core.Path.{_≡_, refl, sym, ap, ap₂, _∙_}
 use mathlib.Core.Logic.{⊎-elim}
@@ -37,9 +39,11 @@ use Rattle.delivered.specs.DeliveredLaws.{plan-counts}
 use Rattle.delivered.specs.Demand3.{runOn, plan-passes, log-early, demand-machine}
 use Rattle.replay.specs.declared.run.Ran.{Ran}
 use Rattle.replay.specs.Ran.{runTest, ranOf, runLeaves}
+use Rattle.conversion.specs.Converted.{convertTest}
+use Rattle.conversion.specs.ConvertTheorems.{leftBy, Twins, convert-twins}
 use Rattle.dahomike.specs.Answers.{judgeTest, judgeNumber, reportBytes, judgeLeaves, runNumber}
 use Rattle.outcome.specs.Outcome.{coresOf, loopsOf, separationOf, budgetOf, offsetOf}
-use Rattle.outcome.specs.ReadLaws.{separation-at, budget-at, offset-at}
+use Rattle.outcome.specs.ReadLaws.{same-loops, same-cores, separation-at, budget-at, offset-at}
 
 pub record Alike (t u : List ℕ) : Type 0 where
   pub cores : coresOf t ≡ coresOf u
@@ -167,3 +171,42 @@ module _ (t u : List ℕ) (a : verdict t ≡ Accepted) (d : verdict u ≡ Accept
   pub same-number : (room : ℕ) → runNumber t l room ≡ runNumber u l room
   unfolding runNumber
   same-number room = rw (same-test room, same-run room)
+
+-- Document 02, §6: "Both sides have the same slack, bounds and late". A table and what a conversion leaves of it differ in deadlines alone.
+module _ (t u : List ℕ) (W : Twins t u) where
+  twin-loops : loopsOf t ≡ loopsOf u
+  twin-loops = sym (same-loops t) ∙ sym (W .loops) ∙ same-loops u
+
+  twins-alike : Alike t u
+  twins-alike =
+      record {
+        cores = sym (same-cores t) ∙ sym (W .cores) ∙ same-cores u;
+        loops = twin-loops;
+        separations = λ i h. sym (separation-at t i h) ∙ sym (W .separations i) ∙ separation-at u i (omega (arith, twin-loops));
+        budgets = λ i h. sym (budget-at t i h) ∙ sym (W .budgets i) ∙ budget-at u i (omega (arith, twin-loops));
+        offsets = λ i h. sym (offset-at t i h) ∙ sym (W .offsets i) ∙ offset-at u i (omega (arith, twin-loops));
+      }
+
+module _ (e : ℕ) (t out : List ℕ) (a : convertTest e t (length out) ≡ Accepted) where
+  pub convert-alike : Alike t (leftBy e t out)
+  convert-alike = twins-alike t (leftBy e t out) (convert-twins e t out a)
+
+  module _ (v : verdict t ≡ Accepted) (l : List ℕ) where
+    -- under the table and under what its conversion leaves, in any lent answer
+    pub convert-runs :
+        (lent : List ℕ)
+        → (ranOf t l (length lent) ≡ ranOf (leftBy e t out) l (length lent))
+        × (runLeaves t l lent ≡ runLeaves (leftBy e t out) l lent)
+        × (runNumber t l (length lent) ≡ runNumber (leftBy e t out) l (length lent))
+    convert-runs lent =
+        let u = convert-twins e t out a .accepted in (
+          same-run t (leftBy e t out) v u convert-alike l (length lent),
+          same-left t (leftBy e t out) v u convert-alike l lent,
+          same-number t (leftBy e t out) v u convert-alike l (length lent),
+        )
+
+  pub convert-judged :
+      verdict t ≡ Accepted → (lent : List ℕ)
+      → (judgeNumber t (length lent) ≡ judgeNumber (leftBy e t out) (length lent)) × (judgeLeaves t lent ≡ judgeLeaves (leftBy e t out) lent)
+  convert-judged v lent =
+      let W = convert-twins e t out a in same-judged t (leftBy e t out) convert-alike v (W .accepted) (sym (W .slack)) lent

@@ -1,7 +1,7 @@
 -- The statement holds of every table, log and lent answer that a log run does not refuse, and of every lent buffer that the C judgement does not
 -- refuse for that table. It follows from demand 3, by the laws that write the claims out.
 --     taken-kind, kind-taken      kind 1 stands for a taken entry
---     finish-is                   the number behind it is the finish tick
+--     finish-is                   the number behind it is the finish tick; refusal-is: behind kind 2 it is the refusal's
 --     outcome                     the theorem
 --     outcome-numbers             and the two calls' answers: the number of loops, and the counts of kind 1 and kind 2
 use Prim.Native.Nat.{ℕ, _+_, _*_, _≤_, _<_}
@@ -21,12 +21,12 @@ use Rattle.tasks.specs.AnswerLaws.{firstMet-passed}
 use Rattle.codec.specs.Table.{coreCount, taskCount, contentIn, verdict}
 use Rattle.logs.specs.LogBytes.{entryCount, entriesIn, logTest, reportsTo}
 use Rattle.logs.specs.LogLaws.{entries-length, tick-at, loop-at, demand-at}
-use Rattle.history.specs.Engine.{Outcome as Said, taken, refused, isTaken, Engine}
+use Rattle.history.specs.Engine.{refused, isTaken, Engine}
 use Rattle.history.specs.Log.{Entry, tickAt, loopAt, demandAt, outcome as outcomeOf, Taken, Finishes, Keeps, Claim}
 use Rattle.history.specs.ClaimLaws.{promised, Conditions, in-time-sum, takes-conditions, history-log}
 use Rattle.history.specs.Refusals.{met-high}
-use Rattle.history.specs.Report.{report, report-finished, report-refused, takenCount, refusedCount}
-use Rattle.delivered.specs.Demand3.{runOn, log-early, demand-3, demand-histories, demand-numbers, demand-ends}
+use Rattle.history.specs.Report.{Report, finished, refusal, report, takenCount, refusedCount}
+use Rattle.delivered.specs.Demand3.{runOn, Reports, log-early, demand-3, demand-histories, demand-numbers, demand-ends, demand-reports}
 use Rattle.replay.specs.Ran.{runTest, ranOf, runLeaves}
 use Rattle.dahomike.specs.Answers.{answerNumber, judgeTest, judgeNumber, judgeLeaves, runNumber}
 use Rattle.outcome.specs.Outcome.{loopsOf, separationOf, budgetOf, entriesOf, tickOf, loopOf, demandOf, kindOf, valueOf, slackLeft, boundLeft, withinOf, FourConditions, KeepsTable, Outcome}
@@ -51,6 +51,9 @@ module _ (t l : List ℕ) (a : verdict t ≡ Accepted) (b : logTest l ≡ Accept
 
   claim : Claim E s x L
   claim = demand-3 t a l b
+
+  reports : Reports E L
+  reports = demand-reports t a l b
 
   same-count : entryCount l ≡ entriesOf l
   unfolding entryCount
@@ -100,32 +103,38 @@ module _ (t l : List ℕ) (a : verdict t ≡ Accepted) (b : logTest l ≡ Accept
 
     pub finish-is : (f : ℕ) → Finishes E L e f → valueOf w e ≡ f
     finish-is f F =
-        finish-number (report E L) (entryCount l) out e below f (report-finished E L e f F)
+        finish-number (report E L) (entryCount l) out e below f (reports .kind-1 e f (in-log h) .1 F)
         (omega (arith, late f F, within-high t a (loopOf l e) (known (F .0)), log-early l b e (in-log h), tick-is))
 
     pub taken-kind : Taken E L e → kindOf w e ≡ 1
     taken-kind q =
         let T = claim .in-time e (in-log h) q in
-        finish-kind (report E L) (entryCount l) out e below (T .0) (report-finished E L e (T .0) (T .1))
+        finish-kind (report E L) (entryCount l) out e below (T .0) (reports .kind-1 e (T .0) (in-log h) .1 (T .1))
 
-    refused-kind : (k : ℕ) → outcomeOf E L e ≡ refused k → (kindOf w e ≡ 2) × (valueOf w e ≤ 22)
-    refused-kind k q =
-        let high : k ≤ 22 = met-high E s L e k (sym (demand-numbers t a l b e) ∙ q) in
-        let said = report-refused E L e k q in (
-          refusal-kind (report E L) (entryCount l) out e below k said,
-          omega (arith, refusal-number (report E L) (entryCount l) out e below k said (omega arith)),
-        )
+    number-high : (k : ℕ) → outcomeOf E L e ≡ refused k → k ≤ 22
+    number-high k q = met-high E s L e k (sym (demand-numbers t a l b e) ∙ q)
+
+    pub refusal-is : (k : ℕ) → outcomeOf E L e ≡ refused k → valueOf w e ≡ k
+    refusal-is k q =
+        refusal-number (report E L) (entryCount l) out e below k (reports .kind-2 e k (in-log h) .1 q) (omega (arith, number-high k q))
 
     -- an entry is taken and has kind 1, or it is not and has kind 2 with a number of at most 22
     abbrev Cases : Type 0
     Cases = (Taken E L e × (kindOf w e ≡ 1)) ⊎ ((isTaken (outcomeOf E L e) ≡ false) × (kindOf w e ≡ 2) × (valueOf w e ≤ 22))
 
     kind-is : Cases
-    kind-is = go (outcomeOf E L e) refl
+    kind-is = go (report E L e) refl
       where
-        go : (o : Said) → outcomeOf E L e ≡ o → Cases
-        go taken q = inl (q, taken-kind q)
-        go (refused k) q = inr (ap isTaken q, refused-kind k q .0, refused-kind k q .1)
+        go : (r : Report) → report E L e ≡ r → Cases
+        go (finished f) q =
+            inl (reports .kind-1 e f (in-log h) .0 q .0, finish-kind (report E L) (entryCount l) out e below f q)
+        go (refusal k) q =
+            let o = reports .kind-2 e k (in-log h) .0 q in
+            inr (
+              ap isTaken o,
+              refusal-kind (report E L) (entryCount l) out e below k q,
+              omega (arith, refusal-is k o, number-high k o),
+            )
 
     pub kind-taken : kindOf w e ≡ 1 → Taken E L e
     kind-taken q = go kind-is
