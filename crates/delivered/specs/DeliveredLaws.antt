@@ -1,5 +1,6 @@
 -- The delivered engine mirrors the abstract machine as long as the clock is below 4,000,000,000, so what is claimed of the machine holds of it.
 --     same-answer          the first of 20 to 23 that a release meets, in both forms
+--     Alike                a state is that of a machine that is reached; opens, steps, asks: the calls keep this; stepped: what a step answers
 --     mirrored             the delivered engine mirrors the machine
 --     plan-steps           no step below that clock is refused
 --     plan-history         the claim of all histories, of the delivered engine
@@ -32,7 +33,7 @@ use Rattle.machine.specs.Sound.{reached-sound}
 use Rattle.state.specs.declared.State.{State}
 use Rattle.state.specs.State.{jobsIn, stateOf}
 use Rattle.state.specs.SoundState.{allOf}
-use Rattle.state.specs.Calls.{releaseOf, tickedOf, stepOf}
+use Rattle.state.specs.Calls.{openOf, releaseOf, tickedOf, stepOf}
 use Rattle.state.specs.Fit.{Fit}
 use Rattle.state.specs.FitLaws.{plan-limits, plan-compliant, plan-bounded, in-count}
 use Rattle.state.specs.TidyLaws.{tidy-accepted}
@@ -57,7 +58,7 @@ unfolding answerOf
 same-answer s M i c = refl
 
 module _ (p : Plan) (a : testPlan p ≡ Accepted) where
-  abbrev s : TaskSet
+  abbrev pub s : TaskSet
   s = contentOf p .tasks
 
   few-cores : p .cores ≤ 8
@@ -72,10 +73,10 @@ module _ (p : Plan) (a : testPlan p ≡ Accepted) where
   same-tasks = ap (λ c. c .tasks) (content-tidy p few-cores few-tasks)
 
   -- a state of the engine is that of a machine that is reached, at this clock
-  record Alike (t : ℕ) (u : State) (M : Machine) : Type 0 where
-    view : u ≡ stateOf (tidy p) M
-    reached : Reached s M
-    clock : M .clock ≡ t
+  pub record Alike (t : ℕ) (u : State) (M : Machine) : Type 0 where
+    pub view : u ≡ stateOf (tidy p) M
+    pub reached : Reached s M
+    pub clock : M .clock ≡ t
 
   module _ (t : ℕ) (u : State) (M : Machine) (low : t < 4000000000) (A : Alike t u M) where
     fits : Fit (tidy p) M
@@ -86,7 +87,7 @@ module _ (p : Plan) (a : testPlan p ≡ Accepted) where
     early : M .clock < 4000000000
     early = omega (arith, A .clock)
 
-    stepped : stepOf u ≡ tickedOf (tidy p) s M
+    pub stepped : stepOf u ≡ tickedOf (tidy p) s M
     stepped = rw (A .view, step-state (tidy p) M fits early, same-tasks)
 
     released :
@@ -99,7 +100,7 @@ module _ (p : Plan) (a : testPlan p ≡ Accepted) where
     unfolding tickedOf
     step-taken = ap (λ r. r .answer) stepped
 
-    steps : Alike (suc t) (stepOf u .state) (tick s M)
+    pub steps : Alike (suc t) (stepOf u .state) (tick s M)
     unfolding tickedOf tick advanced
     steps =
         record {
@@ -108,7 +109,7 @@ module _ (p : Plan) (a : testPlan p ≡ Accepted) where
           clock = ap suc (A .clock);
         }
 
-    asks : (i c : ℕ) → Alike t (releaseOf u i c .state) (handedOf s M i c)
+    pub asks : (i c : ℕ) → Alike t (releaseOf u i c .state) (handedOf s M i c)
     unfolding admitted handedOf
     asks i c =
         rw (released i c)
@@ -170,12 +171,15 @@ module _ (p : Plan) (a : testPlan p ≡ Accepted) where
         go false e true q = absurd (true≢false (sym (all-idle q) ∙ e))
         go false e false q = e ∙ sym q
 
-  pub mirrored : Mirrors (engineOf p) (machineEngine s) 4000000000
+  pub opens : Alike 0 (openOf p .state) opened
   unfolding opened
+  opens = record { view = ap (λ r. r .state) (open-state p a); reached = opening; clock = refl }
+
+  pub mirrored : Mirrors (engineOf p) (machineEngine s) 4000000000
   mirrored =
       record {
         Like = Alike;
-        opening = record { view = ap (λ r. r .state) (open-state p a); reached = opening; clock = refl };
+        opening = opens;
         steps = steps;
         asks = λ t u M i c low A. asks t u M low A i c;
         runs = λ t u M i low A. names t u M low A i;

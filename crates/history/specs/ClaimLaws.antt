@@ -6,17 +6,18 @@
 --     takes-conditions  it is taken exactly under them
 --     history-sum       a release that has ended in a history did so at most so many ticks later
 --     history-ends      and once so many ticks have passed it has ended
+--     history-room      a refused release has another number than 23
 --     history-log       so an entry of a log finishes within them if the claim of histories reaches as far as the log's run
 use Prim.Native.Nat.{ℕ, suc, _+_, _≤_, _<_}
 use mathlib.Core.Bool.{cond}
 use mathlib.Core.Path.{_≡_, sym, ap, subst, _∙_}
-use mathlib.Core.Logic.{_↔_}
+use mathlib.Core.Logic.{_↔_, _≢_}
 use mathlib.Core.List.{List, _∷_, _++_}
 use native.Mathlib.Omega.{arith}
 use lib.ListN.{length}
 use lib.Dec.{leb}
 use Rattle.tasks.specs.TaskSet.{TaskSet, bound}
-use Rattle.history.specs.Engine.{taken, Engine, Call, ask, clock, verdict, demanded, Ends, HistoryClaim}
+use Rattle.history.specs.Engine.{taken, refused, Engine, Call, ask, clock, verdict, demanded, Ends, HistoryClaim}
 use Rattle.history.specs.Log.{Entry, tickAt, loopAt, demandAt, until, calls, Taken, owed, whole, Finishes, Admissible, InTime, Claim}
 use Rattle.history.specs.LogLaws.{clock-entry, taken-call, demanded-calls, taken-whole, taken-apart}
 
@@ -79,6 +80,10 @@ module _ (E : Engine) (s : TaskSet) (x : ℕ → ℕ) where
         → (f : ℕ) × Ends E (g ++ ask i c ∷ h) i (demanded E (ask i c ∷ h) i) f
     unfolding bound
     history-ends g h i c low t late = H .ends g h i c low t (omega arith)
+
+    -- "Crying 23 with a place free"
+    pub history-room : (h : List Call) (i c k : ℕ) → clock h < B → verdict E h i c ≡ refused k → k ≢ 23
+    history-room h i c k low r e = H .never-23 h i c low (r ∙ ap refused e)
 
     -- a log's run is a history
     pub history-log :
