@@ -2,3 +2,4 @@ pub mod Outcome
 pub mod ReadLaws
 pub mod OutcomeLaws
 pub mod Editions
+pub mod Sentences

@@ -1,6 +1,6 @@
 -- Sentences as theorems of the definition. Document 02 leaves the wording free, so their texts are ours; the refusals are those of document 01's tables.
 --     Case, cases     a refusal and its sentence: P1 with the second budget 11, P4, a log tick that is too large, two loops
---                     on four cores on the way to the other edition, and a number that is not in the table
+--                     on four cores on the way to the other edition, and two numbers that are not in the table, 0 among them
 --     tells           whether the definition says that sentence
 --     worked          it does in every case
 use Prim.Native.Nat.{ℕ}
@@ -27,6 +27,7 @@ cases =
     ∷ refused 12 0 5 "Refusal 12 for loop 0: its slack must be compliant if it is offered and, if it is found, the smallest that is compliant, or 0 where loops are no more than cores, not 5."
     ∷ refused 15 12 1000000001 "Refusal 15 for entry 12: its tick must be at most 1,000,000,000, not 1000000001."
     ∷ refused 31 0 2 "Refusal 31 for loop 0 onwards: for a conversion the number of loops must be above the number of cores, not 2."
+    ∷ refused 0 3 4 "Refusal 0 for place 3: the meaning of this number is unknown here, and the value found is 4."
     ∷ refused 99 0 0 "Refusal 99 for place 0: the meaning of this number is unknown here, and the value found is 0."
     ∷ []
 
