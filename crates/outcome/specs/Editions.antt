@@ -5,10 +5,11 @@
 --     same-left     and leaves the same in a lent answer
 --     same-number   and so does its C function
 --     same-found    slack that is not offered is the same for both
+--     run-number    what the C function of a run answers is counted on the table's machine
 --     same-judged   where slack agrees, the C judgement answers and leaves the same
 --     convert-alike what a conversion leaves is alike to its table
 --     convert-runs  so a log run and its C function answer and leave the same under both; convert-judged: and so does the C judgement
-use Prim.Native.Nat.{ℕ, _≤_, _<_}
+use Prim.Native.Nat.{ℕ, _+_, _*_, _≤_, _<_}
 use mathlib.Core.Path.{_≡_, refl, sym, ap, ap₂, _∙_}
 use mathlib.Core.Logic.{⊎-elim}
 use mathlib.Core.List.{List, _++_}
@@ -41,7 +42,7 @@ use Rattle.replay.specs.declared.run.Ran.{Ran}
 use Rattle.replay.specs.Ran.{runTest, ranOf, runLeaves}
 use Rattle.conversion.specs.Converted.{convertTest}
 use Rattle.conversion.specs.ConvertTheorems.{leftBy, Twins, convert-twins}
-use Rattle.dahomike.specs.Answers.{judgeTest, judgeNumber, reportBytes, judgeLeaves, runNumber}
+use Rattle.dahomike.specs.Answers.{answerNumber, judgeTest, judgeNumber, reportBytes, judgeLeaves, runNumber}
 use Rattle.outcome.specs.Outcome.{coresOf, loopsOf, separationOf, budgetOf, offsetOf}
 use Rattle.outcome.specs.ReadLaws.{same-loops, same-cores, separation-at, budget-at, offset-at}
 
@@ -113,6 +114,13 @@ module _ (t : List ℕ) (a : verdict t ≡ Accepted) (l : List ℕ) (b : logTest
   counted-refused =
       plan-counts (judged t .plan) (plan-passes t a) (entriesIn l) (log-early l b) .1
       ∙ ap (λ (c : Content). refusedCount (machineEngine (c .tasks)) (entriesIn l)) (judged-fits t a)
+
+  pub run-number :
+      (room : ℕ) → runTest t l room ≡ Accepted
+      → runNumber t l room
+      ≡ takenCount (machineEngine (contentIn t .tasks)) (entriesIn l) + 65536 * refusedCount (machineEngine (contentIn t .tasks)) (entriesIn l)
+  unfolding runNumber answerNumber ranOf
+  run-number room e = rw (e, counted-taken, counted-refused)
 
 module _ (t u : List ℕ) (a : verdict t ≡ Accepted) (d : verdict u ≡ Accepted) (A : Alike t u) (l : List ℕ) where
   same-test : (room : ℕ) → runTest t l room ≡ runTest u l room

@@ -191,7 +191,7 @@ tableWith e m loops offered =
 abbrev tableOf : Case → List ℕ
 tableOf c = tableWith 1 (c .cores) (c .loops) (c .offered)
 
-abbrev entryBytes : Entry → List ℕ
+abbrev pub entryBytes : Entry → List ℕ
 entryBytes e = digits 4 (e .tick) ++ e .loop ∷ digits 4 (e .demand)
 
 unfoldable pub logOf : Case → List ℕ
