@@ -28,16 +28,20 @@ def documents(tree):
 
 
 class Citations:
-    """All citations of all documents: faults, and what is cited."""
+    """All citations of all documents: faults, what is cited, and where each document cites it first."""
 
     def __init__(self, tree):
         self.tree, self.faults = tree, []
-        self.names, self.edits = set(), {}
+        self.names, self.edits, self.places = set(), {}, {}
         for path in documents(tree):
             self._read(path)
 
     def _fault(self, path, line, what):
         self.faults.append((path, line, what))
+
+    def _cite(self, path, line, source, name):
+        self.names.add((source, name))
+        self.places.setdefault(path, {}).setdefault((source, name), line)
 
     def _read(self, path):
         fenced, heading = False, []
@@ -97,14 +101,14 @@ class Citations:
         if not holding:
             self._fault(path, number, f"{files[0].crate}/{files[0].module} has no name {name}")
         for file in holding:
-            self.names.add((file.path, name))
+            self._cite(path, number, file.path, name)
 
     def _word(self, path, number, name, block):
         file, declared = block
         text = "\n".join(file.plain[declared.line : declared.end + 1])
         if NAME.match(name) and name not in text:
             self._fault(path, number, f"{declared.name} in {file.path} has no {name}")
-        self.names.add((file.path, name))
+        self._cite(path, number, file.path, name)
 
     def _span(self, path, number, span):
         """The block and the file that a span cites, or nothing."""
@@ -133,7 +137,7 @@ class Citations:
         if name not in source.names():
             self._fault(path, number, f"{source.path} has no name {name}")
             return None, source
-        self.names.add((source.path, name))
+        self._cite(path, number, source.path, name)
         block = source.block(name)
         return (source, block) if block else None, source
 
