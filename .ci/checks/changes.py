@@ -11,7 +11,7 @@ import statements
 
 def between(old, new):
     parts = [
-        ("Kept statements", statements.kept(old), statements.kept(new)),
+        ("Kept statements", statements.kept(old, new), statements.kept(new)),
         ("Definitions", spec_blocks(old, True), spec_blocks(new, True)),
         ("Statements of laws", spec_blocks(old, False, "statement"), spec_blocks(new, False, "statement")),
         ("Contracts", contracts(old), contracts(new)),

@@ -6,7 +6,8 @@ A code span of a document is one of:
     `crate/label`                            crates/crate/must-fail/label.edit
     `folder/path`                            a path from the repository's root
 Spans in brackets behind the first two are fields or words of that declaration: `history/Log: Claim` (`takes`). In a table, the spans of a row that
-begins with `crate/File`, and of a column whose heading has it, are names of that file.
+begins with `crate/File`, and of a column whose heading has it, are names of that file. docs/STATEMENTS.md copies the sources, so that it cites a name
+does not keep the name from being unused.
 """
 
 import fnmatch
@@ -20,6 +21,7 @@ PAIR = re.compile(r"^([a-z_]\w*)/([a-z_]\w*)$")
 PATH = re.compile(r"^[\w.*-]+(?:/[\w.*-]+)+/?$")
 LINK = re.compile(r"\]\(([^)#:]+)(?:#[^)]*)?\)")
 NAME = re.compile(r"^[^\s(){}/.,;]+$")
+KEPT = "docs/STATEMENTS.md"
 
 
 def documents(tree):
@@ -40,7 +42,8 @@ class Citations:
         self.faults.append((path, line, what))
 
     def _cite(self, path, line, source, name):
-        self.names.add((source, name))
+        if path != KEPT:
+            self.names.add((source, name))
         self.places.setdefault(path, {}).setdefault((source, name), line)
 
     def _read(self, path):

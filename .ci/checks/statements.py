@@ -124,9 +124,10 @@ def name_of(file, block):
     return f"{file.crate}/{file.module}: {block.name}"
 
 
-def kept(tree):
-    """The statements that the page keeps, as the sources have them."""
-    found = {entry.key(): entry.source(tree) for entry in entries(tree)}
+def kept(tree, later=None):
+    """The statements that the page keeps, as the sources have them; before there was a page, those of a later one."""
+    page = entries(tree) or entries(later or tree)
+    found = {entry.key(): entry.source(tree) for entry in page}
     return {key: tuple(line for _, line in statement(*source)) for key, source in found.items() if source}
 
 
