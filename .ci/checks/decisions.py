@@ -35,7 +35,7 @@ def check(tree):
 
 
 def paragraphs(text):
-    """Each paragraph as its code spans with their lines, without those in brackets behind another."""
+    """Each paragraph as its code spans with their lines, without those in brackets behind a cited name."""
     found, spans = [], []
     for number, line in enumerate(text.splitlines(), 1):
         if not line.strip() or line.startswith("    "):
@@ -47,7 +47,8 @@ def paragraphs(text):
             between = line[end : match.start()]
             bracket = before and (between == " (" or bracket and ")" not in between)
             if not bracket:
-                before = SPEC.match(match.group(1)) or CODE.match(match.group(1))
+                cited = SPEC.match(match.group(1)) or CODE.match(match.group(1))
+                before = cited and cited.group(3)
                 spans.append((number, match.group(1)))
             end = match.end()
     return found + [spans]
