@@ -1,12 +1,17 @@
-"""What changed between two commits, by name: definitions, statements of laws, contracts, code, proofs and edits, with the lines added and removed.
+"""What changed between two commits, by name: kept statements, definitions, statements of laws, contracts, code, proofs and edits, with the lines
+added and removed.
 
-A declaration that stands unchanged in another file counts as moved. Comments and imports are left out."""
+Kept statements are those of docs/STATEMENTS.md, with the headers of their sections. A declaration that stands unchanged in another file counts as moved.
+Comments and imports are left out."""
 
 import difflib
+
+import statements
 
 
 def between(old, new):
     parts = [
+        ("Kept statements", statements.kept(old, new), statements.kept(new)),
         ("Definitions", spec_blocks(old, True), spec_blocks(new, True)),
         ("Statements of laws", spec_blocks(old, False, "statement"), spec_blocks(new, False, "statement")),
         ("Contracts", contracts(old), contracts(new)),

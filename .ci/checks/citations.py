@@ -6,7 +6,8 @@ A code span of a document is one of:
     `crate/label`                            crates/crate/must-fail/label.edit
     `folder/path`                            a path from the repository's root
 Spans in brackets behind the first two are fields or words of that declaration: `history/Log: Claim` (`takes`). In a table, the spans of a row that
-begins with `crate/File`, and of a column whose heading has it, are names of that file.
+begins with `crate/File`, and of a column whose heading has it, are names of that file. docs/STATEMENTS.md copies the sources, so that it cites a name
+does not keep the name from being unused.
 """
 
 import fnmatch
@@ -20,6 +21,7 @@ PAIR = re.compile(r"^([a-z_]\w*)/([a-z_]\w*)$")
 PATH = re.compile(r"^[\w.*-]+(?:/[\w.*-]+)+/?$")
 LINK = re.compile(r"\]\(([^)#:]+)(?:#[^)]*)?\)")
 NAME = re.compile(r"^[^\s(){}/.,;]+$")
+KEPT = "docs/STATEMENTS.md"
 
 
 def documents(tree):
@@ -28,16 +30,21 @@ def documents(tree):
 
 
 class Citations:
-    """All citations of all documents: faults, and what is cited."""
+    """All citations of all documents: faults, what is cited, and where each document cites it first."""
 
     def __init__(self, tree):
         self.tree, self.faults = tree, []
-        self.names, self.edits = set(), {}
+        self.names, self.edits, self.places = set(), {}, {}
         for path in documents(tree):
             self._read(path)
 
     def _fault(self, path, line, what):
         self.faults.append((path, line, what))
+
+    def _cite(self, path, line, source, name):
+        if path != KEPT:
+            self.names.add((source, name))
+        self.places.setdefault(path, {}).setdefault((source, name), line)
 
     def _read(self, path):
         fenced, heading = False, []
@@ -97,14 +104,14 @@ class Citations:
         if not holding:
             self._fault(path, number, f"{files[0].crate}/{files[0].module} has no name {name}")
         for file in holding:
-            self.names.add((file.path, name))
+            self._cite(path, number, file.path, name)
 
     def _word(self, path, number, name, block):
         file, declared = block
         text = "\n".join(file.plain[declared.line : declared.end + 1])
         if NAME.match(name) and name not in text:
             self._fault(path, number, f"{declared.name} in {file.path} has no {name}")
-        self.names.add((file.path, name))
+        self._cite(path, number, file.path, name)
 
     def _span(self, path, number, span):
         """The block and the file that a span cites, or nothing."""
@@ -133,7 +140,7 @@ class Citations:
         if name not in source.names():
             self._fault(path, number, f"{source.path} has no name {name}")
             return None, source
-        self.names.add((source.path, name))
+        self._cite(path, number, source.path, name)
         block = source.block(name)
         return (source, block) if block else None, source
 

@@ -1,5 +1,5 @@
-"""The C functions are declared alike in Rattle, in Rust and in the C header: names, order and types of parameters, and the result. So is the length
-of the longest sentence, which callers lend.
+"""The C functions are declared alike in Rattle, in Rust and in the C header: names, order and types of parameters, and the result. A number that
+stands in several places is the same in all of them: the length of the longest sentence, which callers lend, and how many bytes `plan` reads.
 
 A parameter becomes a pair of name and type: `u8*` for a pointer to one or more of a type, with `const ` where it is only read, and `u8*8` for a
 pointer to an array of 8. A slice of Rattle is a pointer and a length."""
@@ -10,12 +10,20 @@ BORDERS = (
     ("dahomike", "rust/dahomike/src/lib.rs", "include/dahomike.h"),
     ("trial", "rust/trial/src/lib.rs", None),
 )
-LONGEST = (
-    ("crates/wording/specs/Sentence.antt", r"^longest = (\d+)$"),
-    ("crates/sentence/src/lib.rt", r"^pub const LONGEST: usize = (\d+);$"),
-    ("rust/dahomike/src/lib.rs", r"^pub const LONGEST_SENTENCE: usize = (\d+);$"),
-    ("include/dahomike.h", r"^#define DAHOMIKE_LONGEST_SENTENCE (\d+)$"),
-)
+SHARED = {
+    "the longest sentence has": (
+        ("crates/wording/specs/Sentence.antt", r"^longest = (\d+)$"),
+        ("crates/sentence/src/lib.rt", r"^pub const LONGEST: usize = (\d+);$"),
+        ("rust/dahomike/src/lib.rs", r"^pub const LONGEST_SENTENCE: usize = (\d+);$"),
+        ("include/dahomike.h", r"^#define DAHOMIKE_LONGEST_SENTENCE (\d+)$"),
+    ),
+    "the program plan reads at most": (
+        ("crates/text/specs/TextLaws.antt", r"^pub long-text : .* (\d+) ≤ length t → printed \(take \1 t\) ≡ printed t$"),
+        ("crates/plan/src/main.rt", r"^const MOST: usize = (\d+);$"),
+        ("docs/CLAIMS.md", r"`plan/main.rt: main` reads at most ([\d,]+) bytes"),
+        ("docs/DECISIONS.md", r"^\*\*The program reads at most ([\d,]+) bytes\.\*\*"),
+    ),
+}
 C_TYPES = {"uint8_t": "u8", "uint16_t": "u16", "uint32_t": "u32", "uint64_t": "u64", "size_t": "usize", "bool": "bool"}
 
 
@@ -33,21 +41,22 @@ def check(tree):
                 faults.append((path, 1, f"is missing: it declares the C functions of {crate}"))
                 continue
             faults += compare(proved, path, read(tree.text[path]))
-    return faults + longest(tree)
+    return faults + [fault for what, places in SHARED.items() for fault in shared(tree, what, places)]
 
 
-def longest(tree):
-    """The faults of the places that give the longest sentence's length: each gives it, and the same as the definition."""
+def shared(tree, what, places):
+    """The faults of the places that give a number: each gives it, and the same as the first, which is the proved one."""
     faults, first = [], None
-    for path, form in LONGEST:
+    for path, form in places:
         found = re.search(form, tree.text.get(path, ""), re.M)
         if not found:
-            faults.append((path, 1, "the length of the longest sentence is not given"))
+            faults.append((path, 1, f"it is not said how many bytes {what}"))
             continue
-        first = first or found.group(1)
-        if found.group(1) != first:
+        number = found.group(1).replace(",", "")
+        first = first or number
+        if number != first:
             line = tree.text[path][: found.start()].count("\n") + 1
-            faults.append((path, line, f"the longest sentence has {found.group(1)} bytes here, and {first} in {LONGEST[0][0]}"))
+            faults.append((path, line, f"{what} {number} bytes here, and {first} in {places[0][0]}"))
     return faults
 
 

@@ -110,10 +110,12 @@ class Import:
 
 
 class Block:
-    """A declaration: its lines, its fields or constructors, and for antt where its statement ends."""
+    """A declaration: its lines, its fields or constructors, and for antt the headers of the sections that it stands in and where its statement
+    ends."""
 
-    def __init__(self, name, kind, line, indent, public):
+    def __init__(self, name, kind, line, indent, public, sections=()):
         self.name, self.kind, self.line, self.indent, self.public = name, kind, line, indent, public
+        self.sections = sections
         self.end = line
         self.parts = []
         self.contract = (line, line)
@@ -179,8 +181,8 @@ class Spec(File):
             i += 1
 
     def _read_blocks(self):
-        """Declarations stand at the left margin, or at the margin of the modules that they are in."""
-        margins = [(-1, 0)]
+        """Declarations stand at the left margin, or at the margin of the sections (`module _ … where`) that they are in."""
+        margins, sections = [(-1, 0)], []
         header = None
         for i, line in enumerate(self.plain):
             if i in self.import_lines or not line.strip():
@@ -190,29 +192,31 @@ class Spec(File):
                 margins[-1] = (margins[-1][0], indent)
             while header is None and indent <= margins[-1][0]:
                 margins.pop()
+                sections.pop()
             if header is None and re.match(r"^\s*module\s", line):
-                header = indent
+                header = (indent, i)
             if header is not None:
                 if re.search(r"(^|\s)where$", line.rstrip()):
-                    margins.append((header, None))
+                    margins.append((header[0], None))
+                    sections.append((header[1], i))
                     header = None
                 continue
             if indent == margins[-1][1]:
-                self._declare(i, line)
+                self._declare(i, line, tuple(sections))
         for block in self.blocks:
             self._extend(block)
 
-    def _declare(self, i, line):
+    def _declare(self, i, line, sections):
         made = TYPE.match(line)
         if made:
-            self.blocks.append(Block(made.group(4), made.group(3), i, len(made.group(1)), "pub" in made.group(2)))
+            self.blocks.append(Block(made.group(4), made.group(3), i, len(made.group(1)), "pub" in made.group(2), sections))
             return
         made = SIGNATURE.match(line)
         if made and made.group(3).split()[0] not in KEYWORDS:
             for name in made.group(3).split():
                 written_so = "-" not in name and re.search("[a-z][A-Z]", name)
                 kind = "definition" if written_so or re.search("unfoldable|abbrev", made.group(2)) else "law"
-                self.blocks.append(Block(name, kind, i, len(made.group(1)), "pub" in made.group(2)))
+                self.blocks.append(Block(name, kind, i, len(made.group(1)), "pub" in made.group(2), sections))
 
     def _extend(self, block):
         """The block goes on while lines are deeper, or are clauses of the same name."""

@@ -6,8 +6,7 @@ import re
 from source import SPEC_MODULE, SIGNATURE, occurs, word
 
 
-def check(tree, citations):
-    uses = Uses(tree)
+def check(tree, citations, uses):
     faults = []
     for file in tree.antt():
         faults += imports(file) if "/proofs/" in file.path else heads(file) + list(imports(file))

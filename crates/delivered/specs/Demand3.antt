@@ -1,8 +1,8 @@
--- Demand 3, whole: of every accepted table's bytes and every log's bytes past 14 and 15. What a reader must believe is in Delivered.antt, in
--- history/specs/Engine.antt and history/specs/Log.antt, and in the definitions that the contracts of `open`, `release` and `step` equal.
+-- Demand 3, whole: of every accepted table's bytes and every log's bytes past 14 and 15. What a reader must believe is in Delivered.antt, in the files
+-- Engine, Log and Report of history/specs, in logs/specs/LogBytes.antt, and in the definitions that the contracts of `open`, `release` and `step` equal.
 --     runOn t           the engine opened on the plan of the table t
 --     Reports           what a log run writes of the entries is what *taken* and *finishes* say
---     plan-passes       an accepted table's plan meets none of 3 to 13; log-early: no tick of a log past 15 is too late
+--     plan-passes       an accepted table's plan meets none of 1, 3 to 13 and 28; log-early: no tick of a log past 15 is too late
 --     demand-3          the theorem: the three claims of every entry, one record over the whole log
 --     demand-ends       the run ends below the clock's end
 --     demand-quiet      after it nothing is pending; demand-steps: no step of it is refused

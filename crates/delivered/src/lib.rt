@@ -1,1 +1,1 @@
-// No code: what a run of calls shows, what a release log's entries mean, and demand 3 proved of the abstract machine, are in specs/.
+// No code: the delivered engine as its calls show it, and demand 3 proved of it, are in specs/.

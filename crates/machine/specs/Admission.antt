@@ -26,7 +26,7 @@ unfoldable pub joinTests : ℕ → ℕ → ℕ → ℕ → ℕ → Option ℕ �
 joinTests T C t c n last =
     firstMet (refuse 21 (badDemand C c) ∷ refuse 22 (within T t last) ∷ refuse 23 (crowded n) ∷ [])
 
--- "a release 18 to 23", here those that look at no state
+-- "A step tests 18 and 19, a release 18 to 23": 18 and 19 are of a state, and these are of the machine that it stands for
 unfoldable pub admitTests : TaskSet → Machine → ℕ → ℕ → Answer
 admitTests s M i c =
     orNext (refuse 20 (unknown s i))

@@ -21,7 +21,7 @@ pub struct Stop {
     pub heads: usize,
 }
 
-// Task `i` finished a job at clock `now`: its entry gets its report, and the task's next job, if any, takes its place among the heads. Answers
+// Task `i` finished a job at `clock`: its entry gets its report, and the task's next job, if any, takes its place among the heads. Answers
 // how many heads there are then.
 fn finish(
     i: usize,
