@@ -13,13 +13,12 @@ use native.Mathlib.Omega.{arith}
 use lib.ListN.{length, getD, take, drop}
 use lib.Seq.{take-at}
 use Rattle.laws.specs.EveryLaws.{below-or-not}
-use Rattle.tasks.specs.declared.Answer.the-variants.{Accepted}
 use Rattle.decimal.specs.Decimal.{words}
 use Rattle.wording.specs.Sentence.{sentenceOf}
 use Rattle.wording.specs.LetterLaws.{StandsIn}
 use Rattle.wording.specs.SentenceTheorems.{sentence-injective, other-unknown, known-not-unknown, sentence-printed, sentence-stop, one-stop}
 use Rattle.wording.specs.ComposeLaws.{room-enough}
-use Rattle.wording.specs.Told.{sentenceTest, sentenceLeaves}
+use Rattle.wording.specs.Told.{sentenceLeaves}
 use Rattle.dahomike.specs.Answers.{answerNumber, sentenceNumber}
 
 pub record Handed (k i v room : ℕ) : Type 0 where

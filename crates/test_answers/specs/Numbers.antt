@@ -4,13 +4,14 @@
 --     answers              refused calls of each C function and those that aren't, but for log runs that aren't refused
 --     answerAll            whether every answer is its number
 --     worked-answers       they are
+--     counts               whether a run is not refused, and takes and refuses so many entries on the table's machine
 --     p10-number, p11-number    the log runs of P10 and P11
 use Prim.Native.Nat.{ℕ, _+_, _*_}
 use mathlib.Core.Bool.{Bool, true, _&&_}
-use mathlib.Core.Path.{_≡_, refl, ap₂, _∙_}
+use mathlib.Core.Path.{_≡_, ap₂, _∙_}
 use mathlib.Core.List.{List, [], _∷_, _++_, map}
 use lib.ListN.{length}
-use lib.Dec.{T, eqb}
+use lib.Dec.{T, eqb, eqb→eq}
 use Rattle.laws.specs.First.{first}
 use Rattle.laws.specs.Sum.{sum, count, sumOver}
 use Rattle.laws.specs.Settle.{same, settle}
@@ -22,6 +23,7 @@ use Rattle.tasks.specs.declared.Answer.the-variants.{Accepted}
 use Rattle.tasks.specs.TaskSet.{plainTask as loop, hyperperiod, share, weight, surplus, counted, amount, cover, covers, needed, row, raise, found, bound}
 use Rattle.tasks.specs.Content.{noTask, countedOf}
 use Rattle.tasks.specs.Tests.{lowest, firstMet, outside, badLabel, test3, test4, test5, test6, test7, test8, test28, test9, test10, test11, test12, test13, tests}
+use Rattle.tasks.specs.AnswerLaws.{firstMet-passed}
 use Rattle.machine.specs.Machine.{opened, joined, admitted, waiting, point, before, chosen, runs, served, advanced, tick}
 use Rattle.machine.specs.Admission.{joinTests, admitTests}
 use Rattle.history.specs.Engine.{verdict as asked}
@@ -41,7 +43,7 @@ use Rattle.wording.specs.Sentence.{wordings, wording, sentenceOf}
 use Rattle.wording.specs.Told.{sentenceTest}
 use Rattle.dahomike.specs.Answers.{answerNumber, judgeTest, judgeNumber, countedTest, countedNumber, wishTest, wishNumber, runNumber, sentenceNumber, convertNumber}
 use Rattle.outcome.specs.Editions.{run-number}
-use Rattle.worked.specs.Cases.{p1, p3, entry, entryBytes, concat, tableWith}
+use Rattle.worked.specs.Cases.{p1, p3, entry, entryBytes, concat, tableWith, sameAnswer, parts, accepts}
 
 pub record Answered : Type 0 where
   pub answer : ℕ
@@ -113,9 +115,30 @@ worked-answers = tt
 
 -- ---- log runs that aren't refused, counted on the machine: all three entries of P10 are taken, and two of P11's
 
--- so many entries taken and so many refused of a log under P3
-counts : List ℕ → ℕ → ℕ → Bool
-counts l taken refused =
-    eqb (takenCount (machineEngine (contentIn (p3With 0) .tasks)) (entriesIn l)) taken
-    && eqb (refusedCount (machineEngine (contentIn (p3With 0) .tasks)) (entriesIn l)) refused
+-- table, log and lent answer are accepted, and so many entries are taken and so many refused
+unfoldable pub counts : List ℕ → List ℕ → ℕ → ℕ → ℕ → Bool
+counts t l room taken refused =
+    sameAnswer (runTest t l room) Accepted
+    && (eqb (takenCount (machineEngine (contentIn t .tasks)) (entriesIn l)) taken
+    && eqb (refusedCount (machineEngine (contentIn t .tasks)) (entriesIn l)) refused)
 
+counted-number :
+    (t l : List ℕ) (room taken refused : ℕ) → T (counts t l room taken refused) → runNumber t l room ≡ taken + 65536 * refused
+unfolding counts runTest
+counted-number t l room taken refused c =
+    let first = parts (sameAnswer (runTest t l room) Accepted) _ c in
+    let rest = parts (eqb (takenCount (machineEngine (contentIn t .tasks)) (entriesIn l)) taken) _ (first .1) in
+    let test = accepts (runTest t l room) (first .0) in
+    let table = firstMet-passed (verdict t) _ test in
+    run-number t (table .0) l (firstMet-passed (logTest l) _ (table .1) .0) room test
+    ∙ ap₂ (λ (a b : ℕ). a + 65536 * b) (eqb→eq _ _ (rest .0)) (eqb→eq _ _ (rest .1))
+
+both : T (counts (p3With 0) p10Log 24 3 0 && counts (p3With 0) p11Log 24 2 1)
+unfolding counts logWith concat tableWith sameAnswer first sum count sumOver tab cut place ranked largest lcm lcmBelow hyperperiod share weight surplus counted amount cover covers needed row raise same settle found bound noTask lowest firstMet outside badLabel test3 test4 test5 test6 test7 test8 test28 test9 test10 test11 test12 test13 tests byte number digits coreCount taskCount tasksAt slackCount slackAt taskIn taskSetIn contentIn test1 test2 verdict taskSize plainBytes taskBytes entryCount entryIn entriesIn test14 test15 logTest runTest opened joinTests admitTests joined admitted waiting point before chosen runs served advanced tick asked largestTick back until calls outcome answerOf handedOf takenCount refusedCount member
+both = tt
+
+pub p10-number : runNumber (p3With 0) p10Log 24 ≡ 3
+p10-number = counted-number (p3With 0) p10Log 24 3 0 (parts (counts (p3With 0) p10Log 24 3 0) _ both .0)
+
+pub p11-number : runNumber (p3With 0) p11Log 24 ≡ 65538
+p11-number = counted-number (p3With 0) p11Log 24 2 1 (parts (counts (p3With 0) p10Log 24 3 0) _ both .1)

@@ -10,6 +10,7 @@
 --     Shown, texts, prints    a table's edition and loops and the text that `plan` prints for them
 --     worked       the definitions agree in every case, with the log run on the abstract machine, and in every text
 --     worked-runs  and so does the delivered engine's run; all-delivered: as in any list of cases
+--     parts, accepts    a test of two parts, and one of an answer, taken apart
 --     SheetCase, sheets, meets    a wish sheet's edition and loops and what document 02, §3, says of them: P1's, and sheets of ours beside the limits
 --     worked-sheets               the definitions say the same of every sheet
 use Prim.Native.Nat.{ℕ, suc}
@@ -267,7 +268,7 @@ pub runAll : List Case → Bool
 runAll [] = true
 runAll (c ∷ l) = runAgrees c && runAll l
 
-parts : (a b : Bool) → T (a && b) → T a × T b
+pub parts : (a b : Bool) → T (a && b) → T a × T b
 parts true b t = (tt, t)
 parts false b t = absurd t
 
@@ -275,7 +276,7 @@ both : (a b : Bool) → T a → T b → T (a && b)
 both true b s t = t
 both false b s t = s
 
-accepts : (a : Answer) → T (sameAnswer a Accepted) → a ≡ Accepted
+pub accepts : (a : Answer) → T (sameAnswer a Accepted) → a ≡ Accepted
 unfolding sameAnswer
 accepts Accepted t = refl
 accepts (Refused k i) t = absurd t
