@@ -4,7 +4,7 @@ An entry is a line that is just `crate/File: name`, and below it, indented, the 
     every law that docs/CLAIMS.md cites and that nothing uses: no other declaration of its file names it, and no other file;
     every record or type with parameters that a statement of the page names, since it says something of what it is given, and so on through these;
     every definition that a statement of the page names and whose file is not on README.md's list of definitions to believe (believed.py).
-Of worked examples (the crate `worked`, the files Worked and Met) only the laws are asked for. Their definitions are lists of cases and the tests over
+Of worked examples (the crates `worked` and `test_answers`, the files Worked and Met) only the laws are asked for. Their definitions are lists of cases and the tests over
 them, and edits try those. What a statement names it names as its file of origin does, so that the page can be read. More may stand on the page; nothing
 stands there twice."""
 
@@ -16,7 +16,7 @@ from source import occurs
 
 PAGE, CLAIMS = "docs/STATEMENTS.md", "docs/CLAIMS.md"
 ENTRY = re.compile(r"^`(\w+)/([A-Z]\w*): (\S+)`$")
-WORKED = re.compile(r"^worked/|/(Worked|Met)$")
+WORKED = re.compile(r"^(worked|test_answers)/|/(Worked|Met)$")
 INDENT = "    "
 
 

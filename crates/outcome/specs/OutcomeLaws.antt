@@ -114,7 +114,7 @@ module _ (t l : List ℕ) (a : verdict t ≡ Accepted) (b : logTest l ≡ Accept
     number-high : (k : ℕ) → outcomeOf E L e ≡ refused k → k ≤ 22
     number-high k q = met-high E s L e k (sym (demand-numbers t a l b e) ∙ q)
 
-    pub refusal-is : (k : ℕ) → outcomeOf E L e ≡ refused k → valueOf w e ≡ k
+    refusal-is : (k : ℕ) → outcomeOf E L e ≡ refused k → valueOf w e ≡ k
     refusal-is k q =
         refusal-number (report E L) (entryCount l) out e below k (reports .kind-2 e k (in-log h) .1 q) (omega (arith, number-high k q))
 
