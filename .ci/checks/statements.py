@@ -5,7 +5,8 @@ An entry is a line that is just `crate/File: name`, and below it, indented, the 
     every record or type with parameters that a statement of the page names, since it says something of what it is given, and so on through these;
     every definition that a statement of the page names and whose file is not on README.md's list of definitions to believe (believed.py).
 Of worked examples (the crates `worked` and `test_answers`, the files Worked and Met) only the laws are asked for. Their definitions are lists of cases and the tests over
-them, and edits try those. What a statement names it names as its file of origin does, so that the page can be read. More may stand on the page; nothing
+them, and edits try those. A field of a record with parameters is read by a proof, or the page has its record: one that is only ever given can be
+weakened unseen. What a statement names it names as its file of origin does, so that the page can be read. More may stand on the page; nothing
 stands there twice."""
 
 import re
@@ -18,6 +19,7 @@ PAGE, CLAIMS = "docs/STATEMENTS.md", "docs/CLAIMS.md"
 ENTRY = re.compile(r"^`(\w+)/([A-Z]\w*): (\S+)`$")
 WORKED = re.compile(r"^(worked|test_answers)/|/(Worked|Met)$")
 INDENT = "    "
+READ = re.compile(r"\.([^\s(){}\[\],;.\"⌜⌝]+)")
 
 
 class Uncited:
@@ -66,7 +68,7 @@ def check(tree, citations, uses):
             faults.append((PAGE, entry.line, f"{entry.key()} stands here a second time"))
         seen[entry.key()] = entry
         faults += differences(tree, entry)
-    return faults + unkept(tree, citations, uses, seen) + unexplained(tree, seen)
+    return faults + unkept(tree, citations, uses, seen) + unexplained(tree, seen) + unread(tree, uses, seen)
 
 
 def differences(tree, entry):
@@ -109,6 +111,18 @@ def unexplained(tree, seen):
                 faults.append((PAGE, entry.line, f"{entry.key()} names {name_of(file, block)}, whose statement is not on the page"))
         for item in meaning.renamed(*entry.source(tree)):
             faults.append((PAGE, entry.line, f"{entry.key()} names {item.alias}, which is {item.name} under another name"))
+    return faults
+
+
+def unread(tree, uses, seen):
+    """Fields that say something and that no proof reads, of records that the page does not have."""
+    faults, read = [], set(READ.findall(uses.parts))
+    for file in tree.specs.values():
+        for block in file.blocks:
+            if block.kind == "record" and has_parameters(file, block) and name_of(file, block) not in seen:
+                for part, line in block.parts:
+                    if part not in read:
+                        faults.append((file.path, line + 1, f"nothing reads {part} of {block.name}, and {PAGE} does not have its statement"))
     return faults
 
 
