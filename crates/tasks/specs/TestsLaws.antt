@@ -19,7 +19,7 @@ use Rattle.tasks.specs.Content.{hasDeadlines, Content, contentOf}
 use Rattle.tasks.specs.Limits.{Limits, Enough, Bounded}
 use Rattle.tasks.specs.Tests.{refuse, badEdition, test11, test12, test13, tests, testPlan}
 use Rattle.tasks.specs.AnswerLaws.{orNext-passed, refuse-passed, lowest-passed, firstMet-passed}
-use Rattle.tasks.specs.LimitsLaws.{limitTests, slackTests, tests-split, limits-passed, deadlines-passed}
+use Rattle.tasks.specs.LimitsLaws.{limitTests, slackTests, tests-split, Labelled, limits-passed, deadlines-passed}
 use Rattle.tasks.specs.SlackLaws.{covers-compliant, compliant-ext}
 use Rattle.tasks.specs.FoundLaws.{found-zeros, found-compliant}
 use Rattle.tasks.specs.BoundLaws.{bound-more}
@@ -27,6 +27,7 @@ use Rattle.tasks.specs.BoundLaws.{bound-more}
 -- what holds where none of 3 to 13 and 28 is met
 pub record Passed (c : Content) : Type 0 where
   pub limits : Limits (c .tasks)
+  pub labelled : Labelled c
   pub deadline-high : hasDeadlines (c .edition) ≡ true → (i : ℕ) → i < c .tasks .count → c .tasks .task i .deadline ≤ 1600000
   pub offers : (c .offers ≡ 0) ⊎ (c .offers ≡ c .tasks .count)
   -- where loops are no more than cores no slack is offered
@@ -82,17 +83,18 @@ module _ (c : Content) where
   unfolding slackTests
   tests-passed a =
       let r = orNext-passed (limitTests c) (slackTests c) (sym (tests-split c) ∙ a) in
-      let l = limits-passed c (r .0) .0 in
+      let l = limits-passed c (r .0) in
       let r11 = firstMet-passed _ _ (r .1) in
       let r12 = firstMet-passed _ _ (r11 .1) in
       let r13 = firstMet-passed _ _ (r12 .1) in
       record {
-        limits = l;
+        limits = l .0;
+        labelled = l .1;
         deadline-high = λ d i h. deadlines-passed c (r .0) d i h .1;
         offers = offers-passed (r11 .0) .0;
         unoffered = offers-passed (r11 .0) .1;
         as-found = found-passed (r12 .0);
-        compliant = compliant-passed l (r12 .0);
+        compliant = compliant-passed (l .0) (r12 .0);
         bounded = bounded-passed (r13 .0);
       }
 
