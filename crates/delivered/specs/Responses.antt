@@ -3,16 +3,15 @@
 --     plan-responses      each response that a step answers is at most its loop's bound, on the engine opened on a plan
 --     plan-room           no release is answered 23
 --     demand-responses, demand-room    the same of an accepted table
-use Prim.Native.Nat.{ℕ, zero, suc, _≤_, _<_}
+use Prim.Native.Nat.{ℕ, suc, _≤_, _<_}
 use mathlib.Core.Bool.{Bool, true, false}
 use mathlib.Core.Path.{_≡_, refl, sym, ap, subst, _∙_}
 use mathlib.Core.Logic.{_⊎_, inl, inr, ⊎-elim}
 use mathlib.Core.List.{List, [], _∷_}
 use native.Mathlib.Omega.{arith}
-use lib.ListN.{getD, replicate}
 use borrow.Author.Tests.{eq-eqb}
 use Rattle.laws.specs.EveryLaws.{below-or-not}
-use Rattle.laws.specs.TabLaws.{getD-tab, getD-tab-out}
+use Rattle.laws.specs.TabLaws.{getD-tab, getD-tab-out, getD-alike}
 use Rattle.tasks.specs.declared.Plan.{Plan}
 use Rattle.tasks.specs.declared.Answer.the-variants.{Accepted, Refused}
 use Rattle.tasks.specs.Numbers.{clockEnd}
@@ -38,11 +37,6 @@ use Rattle.history.specs.ClaimLaws.{history-room}
 use Rattle.delivered.specs.Delivered.{engineOf}
 use Rattle.delivered.specs.DeliveredLaws.{Alike, stepped, steps, asks, opens, plan-history}
 use Rattle.delivered.specs.Demand3.{runOn, plan-passes}
-
-getD-zeros : (n i : ℕ) → _≡_ {A = ℕ} (getD (replicate n 0) i 0) 0
-getD-zeros zero i = refl
-getD-zeros (suc n) zero = refl
-getD-zeros (suc n) (suc i) = getD-zeros n i
 
 -- ---- a state at the clock's end meets 18 or 19, and every call hands it back
 
@@ -136,7 +130,7 @@ module _ (p : Plan) (a : testPlan p ≡ Accepted) where
       (λ (k : 16 ≤ i). rw (getD-tab-out (responses (runs (contentOf p .tasks) (H .machine)) (H .machine)) 16 i 0 k) (omega arith))
       (below-or-not i 16)))
       (λ (l : 4000000000 ≤ clock h).
-      rw (end-steps (state (engineOf p) h) (at-end (held h) l), getD-zeros 16 i) (omega arith))
+      rw (end-steps (state (engineOf p) h) (at-end (held h) l), getD-alike {A = ℕ} 16 i 0) (omega arith))
       (below-or-not (clock h) 4000000000)
 
   pub plan-room : (h : List Call) (i c j : ℕ) → releaseOf (state (engineOf p) h) i c .answer ≡ Refused 23 j → ⊥

@@ -4,8 +4,10 @@
 --     tab-ext           rows that agree below n have the same list
 --     ext-tab           a list of n entries that are the row's is tab f n
 --     tab-replicate     a constant row
+--     getD-alike        an array of one value alone, read anywhere
 --     set-tab           a store is a change of the row at one index
 --     cut-below         below n the cut row is the row; cut-above: from n on it is z
+--     cut-ext           rows that agree below n, cut off there; cut-apart: and back
 --     cut-map           a row of what g makes of another, cut off
 --     cut-all           filled up to its length an array is the row's tab
 --     getD-tab-cut      a tab read anywhere is the row cut off at its length
@@ -16,7 +18,7 @@
 --     filled-next       a store at i fills it up to i + 1
 use Prim.Native.Nat.{ℕ, zero, suc, _+_, _≤_, _<_}
 use mathlib.Core.Bool.{Bool, true, false, cond}
-use mathlib.Core.Path.{_≡_, refl, sym, _∙_}
+use mathlib.Core.Path.{_≡_, refl, sym, ap, _∙_}
 use mathlib.Core.Logic.{⊎-elim}
 use mathlib.Core.List.{List, [], _∷_}
 use native.Mathlib.Nat.{not-suc-le-zero, le-of-suc-le-suc, eq-or-lt-of-le}
@@ -26,6 +28,7 @@ use lib.ListN.{length, getD, set, take, replicate, length-append, length-set, le
 use lib.Seq.{ext-getD, getD-at, getD-take, getD-set-same, getD-set-other}
 use borrow.Author.Tests.{ltb-true, ltb-false, lt-ltb, le-ltb, eqb-true, eqb-false}
 use Rattle.laws.specs.Tab.{tab, cut}
+use Rattle.laws.specs.EveryLaws.{below-or-not}
 
 module _ {A : Type 0} where
   pub length-tab : (f : ℕ → A) (n : ℕ) → length (tab f n) ≡ n
@@ -57,6 +60,11 @@ module _ {A : Type 0} where
   pub tab-replicate : (z : A) (n : ℕ) → tab (λ i. z) n ≡ replicate n z
   tab-replicate z n = sym (ext-tab (λ i. z) (replicate n z) n z (length-replicate n z) (λ i h. getD-replicate n i z z h))
 
+  pub getD-alike : (n i : ℕ) (z : A) → getD (replicate n z) i z ≡ z
+  getD-alike zero i z = refl
+  getD-alike (suc n) zero z = refl
+  getD-alike (suc n) (suc i) z = getD-alike n i z
+
   pub set-tab : (f : ℕ → A) (n i : ℕ) (v : A) → set (tab f n) i v ≡ tab (λ j. cond (eqb j i) v (f j)) n
   set-tab f n i v =
       ext-tab
@@ -78,6 +86,17 @@ module _ {A : Type 0} where
   pub cut-above : (n : ℕ) (f : ℕ → A) (z : A) (i : ℕ) → n ≤ i → cut n f z i ≡ z
   unfolding cut
   cut-above n f z i h = rw (le-ltb i n h)
+
+  pub cut-ext : (m n : ℕ) (f g : ℕ → A) (z : A) → m ≡ n → ((i : ℕ) → i < m → f i ≡ g i) → (i : ℕ) → cut m f z i ≡ cut n g z i
+  cut-ext m n f g z e same i =
+      ⊎-elim
+      (λ (h : i < m). cut-below m f z i h ∙ same i h ∙ sym (cut-below n g z i (omega arith)))
+      (λ (h : m ≤ i). cut-above m f z i h ∙ sym (cut-above n g z i (omega arith)))
+      (below-or-not i m)
+
+  pub cut-apart : (m n : ℕ) (f g : ℕ → A) (z : A) → m ≡ n → cut m f z ≡ cut n g z → (i : ℕ) → i < m → f i ≡ g i
+  cut-apart m n f g z e same i h =
+      sym (cut-below m f z i h) ∙ ap (λ (r : ℕ → A). r i) same ∙ cut-below n g z i (omega arith)
 
   pub cut-map : {B : Type 0} (g : B → A) (n : ℕ) (f : ℕ → B) (z : A) (w : B) → g w ≡ z → (i : ℕ) → cut n (λ j. g (f j)) z i ≡ g (cut n f w i)
   unfolding cut

@@ -11,7 +11,7 @@ use lib.Seq.{getD-append-add}
 use lib.Dec.{ltb, eqb}
 use borrow.Author.Tests.{ltb-true, ltb-false, ne-eqb}
 use Rattle.laws.specs.Tab.{tab}
-use Rattle.laws.specs.TabLaws.{ext-tab}
+use Rattle.laws.specs.TabLaws.{ext-tab, getD-alike}
 use Rattle.laws.specs.Member.{member}
 use Rattle.laws.specs.MemberLaws.{member-append}
 use Rattle.tasks.specs.declared.Answer.the-variants.{Accepted}
@@ -37,18 +37,13 @@ padded l d n h =
     (length-append l (replicate (n - length l) d) ∙ rw (length-replicate (n - length l) d) (omega arith))
     (λ k m. at k (ltb k (length l)) refl))
   where
-    rest : (m k : ℕ) → getD (replicate m d) k d ≡ d
-    rest zero k = refl
-    rest (suc m) zero = refl
-    rest (suc m) (suc k) = rest m k
-
     at : (k : ℕ) (b : Bool) → ltb k (length l) ≡ b → getD (l ++ replicate (n - length l) d) k d ≡ getD l k d
     at k true e = List·getD-append l (replicate (n - length l) d) d k (ltb-true k (length l) e)
     at k false e =
         let far : length l ≤ k = ltb-false k (length l) e in
         let there : length l + (k - length l) ≡ k = omega arith in
         (rw there at (getD-append-add l (replicate (n - length l) d) (k - length l) d))
-        ∙ rest (n - length l) (k - length l)
+        ∙ getD-alike (n - length l) (k - length l) d
         ∙ sym (List·getD-eq-default l d far)
 
 never-named : (i d m : ℕ) → eqb i d ≡ false → member i (replicate m d) ≡ false

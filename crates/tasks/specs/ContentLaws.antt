@@ -27,8 +27,7 @@ use lib.ListN.{getD}
 use lib.Dec.{ltb, eqb}
 use borrow.Author.Tests.{ltb-true, ltb-false, eqb-true, eqb-false, eq-eqb, ne-eqb}
 use Rattle.laws.specs.Tab.{tab, cut}
-use Rattle.laws.specs.TabLaws.{getD-tab, cut-below, cut-above, cut-map}
-use Rattle.laws.specs.EveryLaws.{below-or-not}
+use Rattle.laws.specs.TabLaws.{getD-tab, cut-below, cut-above, cut-ext, cut-apart, cut-map}
 use Rattle.laws.specs.EveryLaws.{both}
 use Rattle.tasks.specs.declared.Task.{Task}
 use Rattle.tasks.specs.declared.Plan.{Plan}
@@ -205,30 +204,15 @@ pub mark-back : (b : Bool) (n : ℕ) → 1 ≤ n → not (eqb (cond b n 0) 0) �
 mark-back true n h = rw (ne-eqb n 0 (λ z. omega arith))
 mark-back false n h = refl
 
--- rows that agree below a number, cut off there
-cut-same :
-    {A : Type 0} (m n : ℕ) (f g : ℕ → A) (z : A) → m ≡ n → ((i : ℕ) → i < m → f i ≡ g i) → (i : ℕ) → cut m f z i ≡ cut n g z i
-cut-same m n f g z e same i =
-    ⊎-elim
-    (λ (h : i < m). cut-below m f z i h ∙ same i h ∙ sym (cut-below n g z i (omega arith)))
-    (λ (h : m ≤ i). cut-above m f z i h ∙ sym (cut-above n g z i (omega arith)))
-    (below-or-not i m)
-
--- below the number at which two rows are cut off they agree if what is left does
-cut-apart :
-    {A : Type 0} (m n : ℕ) (f g : ℕ → A) (z : A) → m ≡ n → cut m f z ≡ cut n g z → (i : ℕ) → i < m → f i ≡ g i
-cut-apart {A} m n f g z e same i h =
-    sym (cut-below m f z i h) ∙ ap (λ (r : ℕ → A). r i) same ∙ cut-below n g z i (omega arith)
-
 module _ (p q : Plan) where
   same-content : Same p q → contentOf p ≡ contentOf q
   unfolding contentOf
   same-content S =
       content-ext (contentOf p) (contentOf q) (S .editions)
-      (set-ext _ _ (S .cores) (S .loops) (cut-same (p .tasks) (q .tasks) _ _ noTask (S .loops) (S .entries)))
-      (fun-ext (cut-same (p .cores) (q .cores) _ _ 0 (S .cores) (S .labels)))
+      (set-ext _ _ (S .cores) (S .loops) (cut-ext (p .tasks) (q .tasks) _ _ noTask (S .loops) (S .entries)))
+      (fun-ext (cut-ext (p .cores) (q .cores) _ _ 0 (S .cores) (S .labels)))
       (λ i. cond (S .marks i) (S .loops i) 0)
-      (fun-ext (cut-same (p .tasks) (q .tasks) _ _ 0 (S .loops) (S .slack)))
+      (fun-ext (cut-ext (p .tasks) (q .tasks) _ _ 0 (S .loops) (S .slack)))
 
   content-same : contentOf p ≡ contentOf q → p .offered ≡ q .offered → Same p q
   unfolding contentOf
