@@ -1,6 +1,7 @@
 -- Document 02, §6, of bytes: what the two sides of a conversion share, there and back, and when 29, 30 and 31 are met.
 --     leftBy            the bytes that a conversion leaves in a buffer, as many as it answers
 --     Twins             an accepted table that says the same cores, T, C, Y and slack, with the same bounds and late
+--     table-passed      a table that is converted is accepted
 --     convert-twins     what a conversion leaves is that of the table; convert-edition: in the wanted edition
 --     there-and-back    converted to the first edition, it is the first bytes
 --     convert-short     a buffer of 332 bytes is never too short
@@ -160,7 +161,7 @@ module _ (e : ℕ) (t out : List ℕ) (a : convertTest e t (length out) ≡ Acce
   unfolding convertTest wantedTest
   wanted-passed = refuse-passed 1 _ (firstMet-passed _ _ a .0)
 
-  table-passed : verdict t ≡ Accepted
+  pub table-passed : verdict t ≡ Accepted
   unfolding convertTest
   table-passed = firstMet-passed _ _ (firstMet-passed _ _ a .1) .0
 

@@ -41,7 +41,7 @@ use Rattle.delivered.specs.Demand3.{runOn, plan-passes, log-early, demand-machi
 use Rattle.replay.specs.declared.run.Ran.{Ran}
 use Rattle.replay.specs.Ran.{runTest, ranOf, runLeaves}
 use Rattle.conversion.specs.Converted.{convertTest}
-use Rattle.conversion.specs.ConvertTheorems.{leftBy, Twins, convert-twins}
+use Rattle.conversion.specs.ConvertTheorems.{leftBy, Twins, table-passed, convert-twins}
 use Rattle.dahomike.specs.Answers.{answerNumber, judgeTest, judgeNumber, reportBytes, judgeLeaves, runNumber}
 use Rattle.outcome.specs.Outcome.{coresOf, loopsOf, separationOf, budgetOf, offsetOf}
 use Rattle.outcome.specs.ReadLaws.{same-loops, same-cores, separation-at, budget-at, offset-at}
@@ -199,22 +199,23 @@ module _ (e : ℕ) (t out : List ℕ) (a : convertTest e t (length out) ≡ Acce
   pub convert-alike : Alike t (leftBy e t out)
   convert-alike = twins-alike t (leftBy e t out) (convert-twins e t out a)
 
-  module _ (v : verdict t ≡ Accepted) (l : List ℕ) where
-    -- under the table and under what its conversion leaves, in any lent answer
-    pub convert-runs :
-        (lent : List ℕ)
-        → (ranOf t l (length lent) ≡ ranOf (leftBy e t out) l (length lent))
-        × (runLeaves t l lent ≡ runLeaves (leftBy e t out) l lent)
-        × (runNumber t l (length lent) ≡ runNumber (leftBy e t out) l (length lent))
-    convert-runs lent =
-        let u = convert-twins e t out a .accepted in (
-          same-run t (leftBy e t out) v u convert-alike l (length lent),
-          same-left t (leftBy e t out) v u convert-alike l lent,
-          same-number t (leftBy e t out) v u convert-alike l (length lent),
-        )
+  -- under the table and under what its conversion leaves, in any lent answer or buffer
+  pub convert-runs :
+      (l lent : List ℕ)
+      → (ranOf t l (length lent) ≡ ranOf (leftBy e t out) l (length lent))
+      × (runLeaves t l lent ≡ runLeaves (leftBy e t out) l lent)
+      × (runNumber t l (length lent) ≡ runNumber (leftBy e t out) l (length lent))
+  convert-runs l lent =
+      let v = table-passed e t out a in
+      let u = convert-twins e t out a .accepted in (
+        same-run t (leftBy e t out) v u convert-alike l (length lent),
+        same-left t (leftBy e t out) v u convert-alike l lent,
+        same-number t (leftBy e t out) v u convert-alike l (length lent),
+      )
 
   pub convert-judged :
-      verdict t ≡ Accepted → (lent : List ℕ)
+      (lent : List ℕ)
       → (judgeNumber t (length lent) ≡ judgeNumber (leftBy e t out) (length lent)) × (judgeLeaves t lent ≡ judgeLeaves (leftBy e t out) lent)
-  convert-judged v lent =
-      let W = convert-twins e t out a in same-judged t (leftBy e t out) convert-alike v (W .accepted) (sym (W .slack)) lent
+  convert-judged lent =
+      let W = convert-twins e t out a in
+      same-judged t (leftBy e t out) convert-alike (table-passed e t out a) (W .accepted) (sym (W .slack)) lent

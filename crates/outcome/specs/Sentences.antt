@@ -3,7 +3,7 @@
 --     Handed          what a caller hands over: a number, an index, a value and the buffer's length
 --     toldBy          the bytes that are left, as many as the answer says
 --     told-apart      two calls that leave the same told the same number, index and value
---     told-unknown    the word `unknown` stands among the bytes exactly if the number is not one of 1 to 31
+--     told-unknown    the word `unknown` stands among the bytes exactly if the number is not in the table
 --     told-line       each byte is printed, and exactly the last is a full stop
 use Prim.Native.Nat.{ℕ, _+_, _≤_, _<_}
 use mathlib.Core.Path.{_≡_, refl, sym, _∙_}
@@ -14,7 +14,7 @@ use lib.ListN.{length, getD, take, drop}
 use lib.Seq.{take-at}
 use Rattle.laws.specs.EveryLaws.{below-or-not}
 use Rattle.decimal.specs.Decimal.{words}
-use Rattle.wording.specs.Sentence.{sentenceOf}
+use Rattle.wording.specs.Sentence.{lastKnown, sentenceOf}
 use Rattle.wording.specs.LetterLaws.{StandsIn}
 use Rattle.wording.specs.SentenceTheorems.{sentence-injective, other-unknown, known-not-unknown, sentence-printed, sentence-stop, one-stop}
 use Rattle.wording.specs.ComposeLaws.{room-enough}
@@ -45,17 +45,17 @@ told-apart k i v k' i' v' out out' h h' e =
 
 module _ (k i v : ℕ) (out : List ℕ) (h : Handed k i v (length out)) where
   -- "A number outside the table … gets a sentence with the word `unknown`, and no other has it."
-  pub told-unknown : StandsIn (words "unknown") (toldBy k i v out) ↔ ((k < 1) ⊎ (31 < k))
+  pub told-unknown : StandsIn (words "unknown") (toldBy k i v out) ↔ ((k < 1) ⊎ (lastKnown < k))
   told-unknown = rw (told-is k i v out h) (outside, within)
     where
-      within : (k < 1) ⊎ (31 < k) → StandsIn (words "unknown") (sentenceOf k i v)
-      within o = other-unknown k i v (λ n. ⊎-elim (λ (l : k < 1). omega (arith, n .0)) (λ (l : 31 < k). omega (arith, n .1)) o)
+      within : (k < 1) ⊎ (lastKnown < k) → StandsIn (words "unknown") (sentenceOf k i v)
+      within o = other-unknown k i v (λ n. ⊎-elim (λ (l : k < 1). omega (arith, n .0)) (λ (l : lastKnown < k). omega (arith, n .1)) o)
 
-      outside : StandsIn (words "unknown") (sentenceOf k i v) → (k < 1) ⊎ (31 < k)
+      outside : StandsIn (words "unknown") (sentenceOf k i v) → (k < 1) ⊎ (lastKnown < k)
       outside s =
           ⊎-elim (λ (l : k < 1). inl l)
           (λ (low : 1 ≤ k).
-          ⊎-elim (λ (l : 31 < k). inr l) (λ (high : k ≤ 31). absurd (known-not-unknown k i v (low, high) s)) (below-or-not 31 k))
+          ⊎-elim (λ (l : lastKnown < k). inr l) (λ (high : k ≤ lastKnown). absurd (known-not-unknown k i v (low, high) s)) (below-or-not lastKnown k))
           (below-or-not k 1)
 
   pub told-line :

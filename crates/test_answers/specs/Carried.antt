@@ -29,7 +29,6 @@ use Rattle.tasks.specs.declared.Answer.the-variants.{Accepted}
 use Rattle.tasks.specs.TaskSet.{plainTask as loop, hyperperiod, share, weight, surplus, counted, amount, cover, covers, needed, row, raise, found, bound}
 use Rattle.tasks.specs.Content.{Content, noTask, lateOf, late}
 use Rattle.tasks.specs.Tests.{lowest, firstMet, outside, badLabel, test3, test4, test5, test6, test7, test8, test28, test9, test10, test11, test12, test13, tests}
-use Rattle.tasks.specs.AnswerLaws.{firstMet-passed}
 use Rattle.tasks.specs.LimitsLaws.{limitTests}
 use Rattle.tasks.specs.TaskTheorems.{H-is-least}
 use Rattle.numbers.specs.Bytes.{byte, number, digits, entries}
@@ -39,7 +38,7 @@ use Rattle.table.specs.Judged.{judged}
 use Rattle.writer.specs.Written.{writtenLength, writtenTo}
 use Rattle.roundtrip.specs.RoundTrip.{table-again}
 use Rattle.conversion.specs.Converted.{convertedTask, converted, wantedTest, wayTest, fitTest, convertTest, convertedLength, convertedTo}
-use Rattle.conversion.specs.ConvertTheorems.{leftBy, convert-twins, convert-edition, there-and-back}
+use Rattle.conversion.specs.ConvertTheorems.{leftBy, table-passed, convert-twins, convert-edition, there-and-back}
 use Rattle.worked.specs.Cases.{p1, concat, tableWith, sameAnswer, parts, accepts}
 use Rattle.worked.specs.Editions.{p1Due}
 
@@ -51,22 +50,22 @@ pub record Carried : Type 0 where
   pub bounds : List ℕ
   pub lates : List ℕ
 
-abbrev in-1 : List ℕ → List ℕ → List ℕ → List ℕ → Carried
-in-1 offered slack bounds lates =
+abbrev undated : List ℕ → List ℕ → List ℕ → List ℕ → Carried
+undated offered slack bounds lates =
     record { table = tableWith 1 2 p1 offered; edition = 1; wanted = 2; slack = slack; bounds = bounds; lates = lates }
 
 -- with each offset as deadline
-abbrev in-2 : List ℕ → List ℕ → List ℕ → List ℕ → Carried
-in-2 offered slack bounds lates =
+abbrev dated : List ℕ → List ℕ → List ℕ → List ℕ → Carried
+dated offered slack bounds lates =
     record { table = tableWith 2 2 (p1Due 10 10 90) offered; edition = 2; wanted = 1; slack = slack; bounds = bounds; lates = lates }
 
 -- "P5: P1 offering 6, 6, 1"
 pub carried : List Carried
 carried =
-    in-1 [] (6 ∷ 6 ∷ 0 ∷ []) (25 ∷ 25 ∷ 110 ∷ []) (15 ∷ 15 ∷ 20 ∷ [])
-    ∷ in-2 [] (6 ∷ 6 ∷ 0 ∷ []) (25 ∷ 25 ∷ 110 ∷ []) (15 ∷ 15 ∷ 20 ∷ [])
-    ∷ in-1 (6 ∷ 6 ∷ 1 ∷ []) (6 ∷ 6 ∷ 1 ∷ []) (25 ∷ 25 ∷ 111 ∷ []) (15 ∷ 15 ∷ 21 ∷ [])
-    ∷ in-2 (6 ∷ 6 ∷ 1 ∷ []) (6 ∷ 6 ∷ 1 ∷ []) (25 ∷ 25 ∷ 111 ∷ []) (15 ∷ 15 ∷ 21 ∷ [])
+    undated [] (6 ∷ 6 ∷ 0 ∷ []) (25 ∷ 25 ∷ 110 ∷ []) (15 ∷ 15 ∷ 20 ∷ [])
+    ∷ dated [] (6 ∷ 6 ∷ 0 ∷ []) (25 ∷ 25 ∷ 110 ∷ []) (15 ∷ 15 ∷ 20 ∷ [])
+    ∷ undated (6 ∷ 6 ∷ 1 ∷ []) (6 ∷ 6 ∷ 1 ∷ []) (25 ∷ 25 ∷ 111 ∷ []) (15 ∷ 15 ∷ 21 ∷ [])
+    ∷ dated (6 ∷ 6 ∷ 1 ∷ []) (6 ∷ 6 ∷ 1 ∷ []) (25 ∷ 25 ∷ 111 ∷ []) (15 ∷ 15 ∷ 21 ∷ [])
     ∷ []
 
 abbrev lent : List ℕ
@@ -130,7 +129,7 @@ all-bytes t e i =
     (below-or-not i (length t))
 
 row-of : (c : Carried) → T (ready c) → Row c
-unfolding ready convertTest
+unfolding ready
 row-of c t =
     let p0 = parts (sameAnswer (convertTest (c .wanted) (c .table) (length lent)) Accepted) _ t in
     let p1 = parts (eqb (editionIn (c .table)) (c .edition)) _ (p0 .1) in
@@ -140,14 +139,13 @@ row-of c t =
     let p5 = parts (sameList (slackIn (contentIn (c .table))) (c .slack)) _ (p4 .1) in
     let p6 = parts (sameList (boundsIn (contentIn (c .table))) (c .bounds)) _ (p5 .1) in
     let test = accepts (convertTest (c .wanted) (c .table) (length lent)) (p0 .0) in
-    let accepted : verdict (c .table) ≡ Accepted = firstMet-passed (verdict (c .table)) _ (firstMet-passed (wantedTest (c .wanted) (c .table)) _ test .1) .0 in
     let bytes = all-bytes (c .table) (holds _ (p3 .0)) in
     let room = leb→le (length (c .table)) (length lent) (p4 .0) in
     let edition = eqb→eq (editionIn (c .table)) (c .edition) (p1 .0) in
     let three = eqb→eq (contentIn (c .table) .tasks .count) 3 (p2 .0) in
     let W = convert-twins (c .wanted) (c .table) lent test in
     let back = there-and-back (c .wanted) (c .table) lent test bytes lent room in
-    let again = table-again (c .table) accepted bytes lent room in
+    let again = table-again (c .table) (table-passed (c .wanted) (c .table) lent test) bytes lent room in
     record {
       edition = convert-edition (c .wanted) (c .table) lent test;
       slack = ap (λ (x : ℕ → ℕ). tab x 3) (W .slack) ∙ same-list _ _ (holds _ (p5 .0));
