@@ -1,8 +1,8 @@
 """What a declaration of antt says: its statement, word for word, and the declarations of the repository that it names.
 
     statement    the headers of the sections that it stands in and its signature, up to the first clause; of a record, and of a definition, the
-                 whole declaration. Comments are left out, indentation stays.
-    named        the declarations that a statement names, each with its file: its own file's, and those that the file imports
+                 whole declaration; of a function of Rattle its signature and its contract. Comments are left out, indentation stays.
+    named        the declarations of antt that a statement names, each with its file: its own file's, and those that the file imports
     renamed      the names in a statement that its file imports under another name than their own
 
 A law's name has a hyphen, or its type says something. A definition is marked `abbrev` or `unfoldable`, or is written likeThis, or its result is a
@@ -42,7 +42,7 @@ def has_parameters(file, block):
 def statement(file, block):
     """Its lines, each with its number in the file."""
     parts = [range(first, last + 1) for first, last in block.sections]
-    parts.append(range(block.line, block.body if is_law(file, block) else block.end + 1))
+    parts.append(range(block.line, block.body if block.kind == "fn" or is_law(file, block) else block.end + 1))
     return [(i + 1, file.plain[i].rstrip()) for part in parts for i in part if file.plain[i].strip()]
 
 
@@ -52,7 +52,8 @@ class Meaning:
 
     def named(self, file, block):
         words, taken = self._words(file, block)
-        found = [(file, other) for other in file.blocks if other.name in words and other is not block]
+        own = [] if block.kind == "fn" else file.blocks
+        found = [(file, other) for other in own if other.name in words and other is not block]
         for item in taken:
             module = SPEC_MODULE.match(item.path)
             declared = self.declared(module.groups(), item.name) if module else None

@@ -1,13 +1,15 @@
 """docs/STATEMENTS.md has the statements that no proof holds in place, word for word.
 
-An entry is a line that is just `crate/File: name`, and below it, indented, the statement of that name (meaning.py). It is the source's. The page has
+An entry is a line that is just `crate/File: name`, or `crate/file.rt: name` of a function, and below it, indented, the statement of that name
+(meaning.py). It is the source's. The page has
+    the contract of every call of README.md's table;
     every law that docs/CLAIMS.md cites and that nothing uses: no other declaration of its file names it, and no other file;
     every record or type with parameters that a statement of the page names, since it says something of what it is given, and so on through these;
     every definition that a statement of the page names and whose file is not on README.md's list of definitions to believe (believed.py).
-Of worked examples (the crates `worked` and `test_answers`, the files Worked and Met) only the laws are asked for. Their definitions are lists of cases and the tests over
-them, and edits try those. A field of a record with parameters is read by a proof, or the page has its record: one that is only ever given can be
-weakened unseen. What a statement names it names as its file of origin does, so that the page can be read. More may stand on the page; nothing
-stands there twice."""
+Of worked examples (the crates `worked` and `test_answers`, the files Worked and Met) only the laws are asked for. Their definitions are lists of cases
+and the tests over them, and edits try those. A field of a record with parameters is read by a proof, or the page has its record: one that is only ever
+given can be weakened unseen. What a statement names it names as its file of origin does, so that the page can be read. More may stand on the page;
+nothing stands there twice."""
 
 import re
 
@@ -16,7 +18,7 @@ from meaning import PROJECTION, Meaning, has_parameters, is_law, statement
 from source import occurs
 
 PAGE, CLAIMS = "docs/STATEMENTS.md", "docs/CLAIMS.md"
-ENTRY = re.compile(r"^`(\w+)/([A-Z]\w*): (\S+)`$")
+ENTRY = re.compile(r"^`(\w+)/([A-Z]\w*|\w+\.rt): (\S+)`$")
 WORKED = re.compile(r"^(worked|test_answers)/|/(Worked|Met)$")
 INDENT = "    "
 READ = re.compile(r"\.([^\s(){}\[\],;.\"⌜⌝]+)")
@@ -38,7 +40,8 @@ class Entry:
 
     def source(self, tree):
         """The file and the declaration that the entry is of, or nothing."""
-        file = tree.specs.get((self.crate, self.module))
+        kept = tree.code if self.module.endswith(".rt") else tree.specs
+        file = kept.get((self.crate, self.module))
         block = file.block(self.name) if file else None
         return (file, block) if block else None
 
@@ -68,7 +71,7 @@ def check(tree, citations, uses):
             faults.append((PAGE, entry.line, f"{entry.key()} stands here a second time"))
         seen[entry.key()] = entry
         faults += differences(tree, entry)
-    return faults + unkept(tree, citations, uses, seen) + unexplained(tree, seen) + unread(tree, uses, seen)
+    return faults + uncalled(tree, seen) + unkept(tree, citations, uses, seen) + unexplained(tree, seen) + unread(tree, uses, seen)
 
 
 def differences(tree, entry):
@@ -84,6 +87,13 @@ def differences(tree, entry):
         if at == len(entry.shown) or at == len(there) or entry.shown[at] != line:
             return [(PAGE, entry.first + min(at, len(entry.shown) - 1), f"{entry.key()} differs, {file.path}:{number} has {line.strip()}")]
     return []
+
+
+def uncalled(tree, seen):
+    """Offered calls whose contract the page does not have."""
+    kept = {(entry.crate, entry.name) for entry in seen.values() if entry.module.endswith(".rt")}
+    calls = ((line, crate, name) for line, crate, name in believed.offered(tree) if (crate, name) not in kept)
+    return [(believed.PAGE, line, f"{PAGE} does not have the contract of {name}") for line, crate, name in calls]
 
 
 def unkept(tree, citations, uses, seen):
