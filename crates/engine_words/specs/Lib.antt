@@ -1,0 +1,3 @@
+pub mod Words
+pub mod PartLaws
+pub mod WordsLaws
