@@ -1,3 +1,4 @@
 pub mod Words
 pub mod PartLaws
 pub mod WordsLaws
+pub mod StoredLaws

@@ -9,14 +9,17 @@
 --     tab-row            a list of n numbers, read by its row
 --     entries-part       a part is the entries that it is cut into
 --     row-part           a part's words, one by one
+--     stored-none, stored-next, stored-all    a row stored one by one over a list
 use Prim.Native.Nat.{ℕ, zero, suc, _+_, _*_, _≤_, _<_}
 use mathlib.Core.Path.{_≡_, refl, sym, ap, _∙_}
 use mathlib.Core.List.{List, [], _∷_, _++_, append-assoc, append-nil}
 use native.Mathlib.Nat.{add-zero, add-suc, zero-add, add-assoc, mul-zero, mul-suc}
+use native.Mathlib.Numerals.{add-one}
 use native.Mathlib.Omega.{arith}
-use lib.ListN.{length, drop, List·getD-append, length-append}
-use lib.Seq.{ext-getD, getD-append-add, sets}
+use lib.ListN.{length, set, drop-of-length-le, List·getD-append}
+use lib.Seq.{getD-append-add, sets}
 use Rattle.laws.specs.Tab.{tab}
+use Rattle.laws.specs.SetsLaws.{sets-next, sets-whole}
 use Rattle.laws.specs.TabLaws.{length-tab, getD-tab, ext-tab, tab-ext}
 use Rattle.tasks.specs.TaskSet.{row}
 use Rattle.numbers.specs.Bytes.{entries}
@@ -69,3 +72,17 @@ pub entries-part : (ws : List ℕ) (k at n : ℕ) → entries (λ i. part ws (at
 unfolding entries part tab
 entries-part ws k at zero = rw mul-zero
 entries-part ws k at (suc n) = rw (entries-part ws k at n, mul-suc) (part-next ws at (k * n) k (at + k * n) refl)
+
+module _ (f : ℕ → ℕ) (l : List ℕ) where
+  pub stored-none : (at : ℕ) → l ≡ sets l at (tab f 0)
+  unfolding tab
+  stored-none at = refl
+
+  pub stored-next : (at k i : ℕ) → k ≡ at + i → set (sets l at (tab f i)) k (f i) ≡ sets l at (tab f (i + 1))
+  unfolding tab
+  stored-next at k i e = sets-next l at k (tab f i) (f i ∷ []) (omega (arith, length-tab f i)) ∙ rw add-one
+
+  pub stored-all : (n : ℕ) → length l ≡ n → sets l 0 (tab f n) ≡ tab f n
+  stored-all n e =
+      sets-whole l (tab f n) (omega (arith, length-tab f n))
+      ∙ rw (length-tab f n, drop-of-length-le l {i = n} (omega arith)) (append-nil (tab f n))

@@ -1,7 +1,8 @@
 -- That the words of a state and the state that words say are each the other's inverse.
 --     flag-word, word-flag        a flag as a word and back
---     Whole                       the lists of a state have as many places as its record, and its bytes are bytes
+--     Whole                       the arrays of a state have their lengths, and its bytes are bytes, as in every value of its type
 --     length-plan, length-machine, length-words      how many words there are
+--     edition-byte, label-byte    bytes of words that fit
 --     plan-again, machine-again   the words of what words say
 --     words-said                  words that fit are the words of the state that they say
 --     words-fit                   the words of a state fit
@@ -30,6 +31,7 @@ use Rattle.numbers.specs.ByteLaws.{length-entries, byte-entries, entries-same}
 use Rattle.state.specs.declared.State.{State}
 use Rattle.state.specs.State.{flagAt, zeroState}
 use Rattle.state.specs.SoundState.{allOf, soundOf}
+use Rattle.state.specs.Fit.{Shaped}
 use Rattle.state.specs.AllLaws.{all-at, of-all}
 use Rattle.engine_words.specs.Words.{flagWord, taskWords, planWords, machineWords, wordsOf, part, isByte, isFlag, fits, taskIn, planIn, fieldsIn, said}
 use Rattle.engine_words.specs.PartLaws.{length-part, row-part, tab-row, row-left, row-right, part-all, part-next, part-left, part-right, part-first, entries-part}
@@ -55,7 +57,7 @@ flag-fits false = refl
 two : (a b : List ℕ) {m n : ℕ} → length a ≡ m → length b ≡ n → length (a ++ b) ≡ m + n
 two a b e q = length-append a b ∙ rw (e, q)
 
-length-tasks : (l : List Task) → length (entries (λ i. taskWords (taskOf l i)) 16) ≡ 64
+pub length-tasks : (l : List Task) → length (entries (λ i. taskWords (taskOf l i)) 16) ≡ 64
 unfolding taskWords
 length-tasks l = length-entries 4 (λ i. taskWords (taskOf l i)) (λ i. refl) 16
 
@@ -104,6 +106,12 @@ module _ (ws : List ℕ) (f : fits ws ≡ true) where
   unfolding fits
   fit = all-four (isByte (row ws 0)) (isFlag (row ws 1)) (allOf (λ i. isByte (row ws (4 + i))) 8) (allOf (λ i. isFlag (row ws (109 + i))) 16) f
 
+  pub edition-byte : row ws 0 ≤ 255
+  edition-byte = leb-true (row ws 0) 255 (fit .0)
+
+  pub label-byte : (i : ℕ) → i < 8 → row ws (4 + i) ≤ 255
+  label-byte i h = leb-true (row ws (4 + i)) 255 (all-at (λ i. isByte (row ws (4 + i))) 8 i (fit .2) h)
+
   head-again : row ws 0 ∷ flagWord (eqb (row ws 1) 1) ∷ row ws 2 ∷ row ws 3 ∷ [] ≡ part ws 0 4
   unfolding part tab
   head-again = rw (flag-word (row ws 1) (fit .1))
@@ -148,16 +156,9 @@ module _ (ws : List ℕ) (f : fits ws ≡ true) where
 -- ---- what the words of a state say
 
 pub record Whole (s : State) : Type 0 where
+  pub shaped : Shaped s
   pub edition : isByte (s .plan .edition) ≡ true
   pub labels : (i : ℕ) → i < 8 → isByte (row (s .plan .labels) i) ≡ true
-  pub label-places : length (s .plan .labels) ≡ 8
-  pub task-places : length (s .plan .task) ≡ 16
-  pub slack-places : length (s .plan .slack) ≡ 16
-  pub jobs-places : length (s .jobs) ≡ 16
-  pub flag-places : length (s .released) ≡ 16
-  pub last-places : length (s .last) ≡ 16
-  pub remaining-places : length (s .remaining) ≡ 256
-  pub release-places : length (s .release) ≡ 256
 
 module _ (s : State) (W : Whole s) where
   abbrev p : Plan
@@ -192,7 +193,7 @@ module _ (s : State) (W : Whole s) where
       in-plan 4 8 (omega arith)
       ∙ part-right head (labels ++ (tasks ++ slack)) 4 0 8 refl
       ∙ part-first labels (tasks ++ slack) 8 (length-tab _ 8)
-      ∙ tab-row (p .labels) 8 (W .label-places)
+      ∙ tab-row (p .labels) 8 (W .shaped .plan .labels)
 
   slack-back : part ws 76 16 ≡ p .slack
   slack-back =
@@ -201,7 +202,7 @@ module _ (s : State) (W : Whole s) where
       ∙ part-right labels (tasks ++ slack) 72 64 16 (omega (arith, length-tab (row (p .labels)) 8))
       ∙ part-right tasks slack 64 0 16 (omega (arith, length-tasks (p .task)))
       ∙ part-all slack 16 (length-tab _ 16)
-      ∙ tab-row (p .slack) 16 (W .slack-places)
+      ∙ tab-row (p .slack) 16 (W .shaped .plan .slack)
 
   task-word : (i j : ℕ) → i < 16 → j < 4 → row ws (12 + 4 * i + j) ≡ row (taskWords (taskOf (p .task) i)) j
   unfolding wordsOf planWords taskWords row byte
@@ -218,7 +219,7 @@ module _ (s : State) (W : Whole s) where
 
   tasks-back : tab (λ i. taskIn ws (12 + 4 * i)) 16 ≡ p .task
   unfolding taskOf
-  tasks-back = tab-ext _ (taskOf (p .task)) 16 task-back ∙ sym (ext-tab (taskOf (p .task)) (p .task) 16 noTask (W .task-places) (λ i h. refl))
+  tasks-back = tab-ext _ (taskOf (p .task)) 16 task-back ∙ sym (ext-tab (taskOf (p .task)) (p .task) 16 noTask (W .shaped .plan .task) (λ i h. refl))
 
   pub plan-back : planIn ws ≡ p
   unfolding planIn wordsOf planWords row
@@ -261,23 +262,23 @@ module _ (s : State) (W : Whole s) where
       ∙ part-right last (remaining ++ release) (16 + k) k n (omega (arith, length-tab (row (s .last)) 16))
 
   jobs-back : part ws 93 16 ≡ s .jobs
-  jobs-back = behind-clock 93 0 16 refl ∙ part-first jobs _ 16 (length-tab _ 16) ∙ tab-row (s .jobs) 16 (W .jobs-places)
+  jobs-back = behind-clock 93 0 16 refl ∙ part-first jobs _ 16 (length-tab _ 16) ∙ tab-row (s .jobs) 16 (W .shaped .jobs)
 
   flags-back : part ws 109 16 ≡ flags
   flags-back = behind-jobs 109 0 16 refl ∙ part-first flags _ 16 (length-tab _ 16)
 
   last-back : part ws 125 16 ≡ s .last
-  last-back = behind-flags 125 0 16 refl ∙ part-first last _ 16 (length-tab _ 16) ∙ tab-row (s .last) 16 (W .last-places)
+  last-back = behind-flags 125 0 16 refl ∙ part-first last _ 16 (length-tab _ 16) ∙ tab-row (s .last) 16 (W .shaped .last)
 
   remaining-back : part ws 141 256 ≡ s .remaining
-  remaining-back = behind-last 141 0 256 refl ∙ part-first remaining release 256 (length-tab _ 256) ∙ tab-row (s .remaining) 256 (W .remaining-places)
+  remaining-back = behind-last 141 0 256 refl ∙ part-first remaining release 256 (length-tab _ 256) ∙ tab-row (s .remaining) 256 (W .shaped .remaining)
 
   release-back : part ws 397 256 ≡ s .release
   release-back =
       behind-last 397 256 256 refl
       ∙ part-right remaining release 256 0 256 (omega (arith, length-tab (row (s .remaining)) 256))
       ∙ part-all release 256 (length-tab _ 256)
-      ∙ tab-row (s .release) 256 (W .release-places)
+      ∙ tab-row (s .release) 256 (W .shaped .release)
 
   flag-back : (i : ℕ) → i < 16 → row ws (109 + i) ≡ flagWord (flagAt s i)
   unfolding row
@@ -288,7 +289,7 @@ module _ (s : State) (W : Whole s) where
   unfolding flagAt
   released-back =
       tab-ext _ (flagAt s) 16 (λ i h. rw (flag-back i h) (word-flag (flagAt s i)))
-      ∙ sym (ext-tab (flagAt s) (s .released) 16 false (W .flag-places) (λ i h. refl))
+      ∙ sym (ext-tab (flagAt s) (s .released) 16 false (W .shaped .released) (λ i h. refl))
 
   clock-back : row ws 92 ≡ s .clock
   unfolding wordsOf machineWords row
@@ -333,20 +334,32 @@ zero-unsound = refl
 pub misfit-unsound : (ws : List ℕ) → fits ws ≡ false → soundOf (said ws) ≡ false
 misfit-unsound ws e = rw (misfit-zero ws e) zero-unsound
 
+zero-shaped : Shaped zeroState
+unfolding zeroState zeroPlan
+zero-shaped =
+    record {
+      plan = record { labels = refl; task = refl; slack = refl };
+      jobs = refl;
+      released = refl;
+      last = refl;
+      remaining = length-replicate {A = ℕ} 256 0;
+      release = length-replicate {A = ℕ} 256 0;
+    }
+
 zero-whole : Whole zeroState
 unfolding zeroState zeroPlan row
-zero-whole =
+zero-whole = record { shaped = zero-shaped; edition = refl; labels = λ i h. rw (getD-alike {A = ℕ} 8 i 0) }
+
+fields-shaped : (ws : List ℕ) → Shaped (fieldsIn ws)
+unfolding fieldsIn planIn
+fields-shaped ws =
     record {
-      edition = refl;
-      labels = λ i h. rw (getD-alike {A = ℕ} 8 i 0);
-      label-places = refl;
-      task-places = refl;
-      slack-places = refl;
-      jobs-places = refl;
-      flag-places = refl;
-      last-places = refl;
-      remaining-places = length-replicate {A = ℕ} 256 0;
-      release-places = length-replicate {A = ℕ} 256 0;
+      plan = record { labels = length-part ws 4 8; task = length-tab _ 16; slack = length-part ws 76 16 };
+      jobs = length-part ws 93 16;
+      released = length-tab _ 16;
+      last = length-part ws 125 16;
+      remaining = length-part ws 141 256;
+      release = length-part ws 397 256;
     }
 
 pub said-whole : (ws : List ℕ) → Whole (said ws)
@@ -357,15 +370,8 @@ said-whole ws = go (fits ws) refl
     go true f =
         rw f
         (record {
+          shaped = fields-shaped ws;
           edition = fit ws f .0;
           labels = λ i h. rw (row-part ws 4 8 i h) (all-at (λ i. isByte (row ws (4 + i))) 8 i (fit ws f .2) h);
-          label-places = length-part ws 4 8;
-          task-places = length-tab _ 16;
-          slack-places = length-part ws 76 16;
-          jobs-places = length-part ws 93 16;
-          flag-places = length-tab _ 16;
-          last-places = length-part ws 125 16;
-          remaining-places = length-part ws 141 256;
-          release-places = length-part ws 397 256;
         })
     go false f = subst Whole (sym (misfit-zero ws f)) zero-whole
