@@ -36,7 +36,8 @@ use Rattle.writer.specs.Written.{answerOfWritten, lengthOfWritten}
 use Rattle.conversion.specs.Converted.{convertTest, convertedLength}
 use Rattle.replay.specs.declared.run.Ran.{Ran}
 use Rattle.replay.specs.Ran.{runTest, ranOf}
-use Rattle.dahomike.specs.Answers.{answerNumber, judgeTest, judgeNumber, judgeLeaves, wishTest, wishNumber, wishLeaves, countedTest, countedNumber, countedLeaves, runNumber, sentenceNumber, convertNumber, roomTest, entryOf}
+use Rattle.dahomike_answer.specs.Number.{answerNumber}
+use Rattle.dahomike.specs.Answers.{judgeTest, judgeNumber, judgeLeaves, wishTest, wishNumber, wishLeaves, countedTest, countedNumber, countedLeaves, runNumber, sentenceNumber, convertNumber, roomTest, entryOf}
 use Rattle.dahomike.specs.ReportLaws.{Reported, answered-is}
 
 -- ---- the judgement

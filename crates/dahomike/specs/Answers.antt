@@ -1,5 +1,4 @@
--- What the C functions answer and leave behind, for every input.
---     answerNumber    the 64-bit number of an answer
+-- What the C functions answer and leave behind, for every input; the number of an answer is dahomike_answer's `answerNumber`.
 --     judgeTest       1 to 13 and 28, and then 24
 --     judgeNumber     the judgement's answer
 --     reportBytes     slack and bound for each loop
@@ -24,7 +23,7 @@ use Rattle.tasks.specs.declared.Plan.{Plan}
 use Rattle.tasks.specs.declared.Answer.{Answer}
 use Rattle.tasks.specs.TaskSet.{coreForEach, boundBy, bound, row}
 use Rattle.tasks.specs.Content.{Content, taskOf}
-use Rattle.tasks.specs.Tests.{refuse, firstMet, numberOf, indexOf, unlessRefused}
+use Rattle.tasks.specs.Tests.{refuse, firstMet, unlessRefused}
 use Rattle.numbers.specs.Bytes.{digits, entries}
 use Rattle.codec.specs.Table.{taskCount, contentIn, verdict}
 use Rattle.table.specs.Judged.{countedIn}
@@ -34,10 +33,7 @@ use Rattle.wishes.specs.Wish.{solved}
 use Rattle.sheet.specs.Wished.{wishVerdict}
 use Rattle.wording.specs.Sentence.{sentenceOf}
 use Rattle.wording.specs.Told.{sentenceTest}
-
--- "Each of the two answers one 64-bit number: n for judgement, … and 4,294,967,296 × refusal number + index for a refused call."
-unfoldable pub answerNumber : Answer → ℕ → ℕ
-answerNumber a n = unlessRefused a n (4294967296 * numberOf a + indexOf a)
+use Rattle.dahomike_answer.specs.Number.{answerNumber}
 
 -- "24. The buffer lent … to the C judgement is too short, tested after 3 to 13."
 unfoldable pub judgeTest : List ℕ → ℕ → Answer

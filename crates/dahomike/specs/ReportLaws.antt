@@ -27,7 +27,8 @@ use Rattle.tasks.specs.Tests.{firstMet, unlessRefused, tests}
 use Rattle.tasks.specs.TestsLaws.{tests-limits, tests-bounded}
 use Rattle.numbers.specs.Bytes.{digits, entries}
 use Rattle.numbers.specs.ByteLaws.{length-digits, length-entries, entries-same}
-use Rattle.dahomike.specs.Answers.{answerNumber, roomTest, reportBytes, foundBytes, boundIn, entrySize, entryBytes, entryOf, Reportable}
+use Rattle.dahomike_answer.specs.Number.{answerNumber}
+use Rattle.dahomike.specs.Answers.{roomTest, reportBytes, foundBytes, boundIn, entrySize, entryBytes, entryOf, Reportable}
 
 pub record Reported (c : Content) (p : Plan) : Type 0 where
   pub plan-is : p ≡ planOf c

@@ -1,5 +1,6 @@
 // The functions that the desktop planner calls as C functions, over byte slices: a pointer and a length each.
 use converter::convert;
+use dahomike_answer::refused;
 use decimal::put_words;
 use numbers::put4;
 use replay::run_log;
@@ -21,21 +22,12 @@ ghost use lib.Seq.{sets};
 ghost use Rattle.numbers.specs.Bytes.{digits, entries};
 ghost use Rattle.conversion.specs.Converted.{convertedTo};
 ghost use Rattle.replay.specs.Ran.{runLeaves};
-ghost use Rattle.dahomike.specs.Answers.{answerNumber, judgeNumber, judgeLeaves, countedNumber, countedLeaves, wishNumber, wishLeaves, runNumber, sentenceNumber, convertNumber, entrySize, entryBytes, entryOf, roomTest, Reportable};
+ghost use Rattle.dahomike_answer.specs.Number.{answerNumber};
+ghost use Rattle.dahomike.specs.Answers.{judgeNumber, judgeLeaves, countedNumber, countedLeaves, wishNumber, wishLeaves, runNumber, sentenceNumber, convertNumber, entrySize, entryBytes, entryOf, roomTest, Reportable};
 ghost use Rattle.dahomike.specs.ReportLaws.{Reported};
 ghost use Rattle.tasks.specs.Content.{Content};
 ghost use Rattle.tasks.specs.Tests.{unlessRefused};
 ghost use Rattle.wording.specs.Told.{sentenceLeaves};
-
-// "4,294,967,296 × refusal number + index for a refused call"
-fn refused(answer: Answer) -> u64
-    ensures { λ r. ⌜ r ≡ answerNumber answer 0 ⌝ }
-{
-    match answer {
-        Answer::Accepted => 0,
-        Answer::Refused { number, index } => 4294967296 * (number as u64) + (index as u64),
-    }
-}
 
 // A task's slack and bound, 4 bytes each, from `at` on.
 fn put_pair(out: &mut [u8], at: usize, slack: u32, bound: u32)

@@ -13,6 +13,11 @@ ghost use Rattle.tasks.specs.TaskSet.{row};
 ghost use Rattle.state.specs.SoundState.{allOf};
 ghost use Rattle.engine_words.specs.Words.{part, isByte, isFlag, fits, taskIn, planIn, fieldsIn};
 
+// A caller learns from it that lent words are 653, which a reference to an array does not say. Nothing is left of it in the compiled code.
+pub fn sized(words: [u32; 653])
+    ensures { λ _. ⌜ length words ≡ 653 ⌝ }
+{}
+
 // A word as a count of 64 bits.
 fn count(word: u32) -> usize
     ensures { λ r. ⌜ r ≡ word ⌝ }
@@ -167,7 +172,7 @@ fn plan(words: &[u32; 653]) -> Plan
     }
 }
 
-pub fn state(words: &[u32; 653]) -> State
+pub fn read(words: &[u32; 653]) -> State
     requires { ⌜ fits (now words) ≡ true ⌝ }
     ensures { λ r. ⌜ r ≡ fieldsIn (now (words .entry)) ⌝ }
 {

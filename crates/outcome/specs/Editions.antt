@@ -42,7 +42,8 @@ use Rattle.replay.specs.declared.run.Ran.{Ran}
 use Rattle.replay.specs.Ran.{runTest, ranOf, runLeaves}
 use Rattle.conversion.specs.Converted.{convertTest}
 use Rattle.conversion.specs.ConvertTheorems.{leftBy, Twins, table-passed, convert-twins}
-use Rattle.dahomike.specs.Answers.{answerNumber, judgeTest, judgeNumber, reportBytes, judgeLeaves, runNumber}
+use Rattle.dahomike_answer.specs.Number.{answerNumber}
+use Rattle.dahomike.specs.Answers.{judgeTest, judgeNumber, reportBytes, judgeLeaves, runNumber}
 use Rattle.outcome.specs.Outcome.{coresOf, loopsOf, separationOf, budgetOf, offsetOf}
 use Rattle.outcome.specs.ReadLaws.{same-loops, same-cores, separation-at, budget-at, offset-at}
 

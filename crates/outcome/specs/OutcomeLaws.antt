@@ -28,7 +28,8 @@ use Rattle.history.specs.Refusals.{met-high}
 use Rattle.history.specs.Report.{Report, finished, refusal, report, takenCount, refusedCount}
 use Rattle.delivered.specs.Demand3.{runOn, Reports, log-early, demand-3, demand-histories, demand-numbers, demand-ends, demand-reports}
 use Rattle.replay.specs.Ran.{runTest, ranOf, runLeaves}
-use Rattle.dahomike.specs.Answers.{answerNumber, judgeTest, judgeNumber, judgeLeaves, runNumber}
+use Rattle.dahomike_answer.specs.Number.{answerNumber}
+use Rattle.dahomike.specs.Answers.{judgeTest, judgeNumber, judgeLeaves, runNumber}
 use Rattle.outcome.specs.Outcome.{loopsOf, separationOf, budgetOf, entriesOf, tickOf, loopOf, demandOf, kindOf, valueOf, slackLeft, boundLeft, withinOf, FourConditions, KeepsTable, Outcome}
 use Rattle.outcome.specs.ReadLaws.{same-loops, same-cores, separation-at, budget-at, offset-at, finish-kind, refusal-kind, finish-number, refusal-number, within-high, slack-at, bound-at}
 

@@ -19,7 +19,8 @@ use Rattle.wording.specs.LetterLaws.{StandsIn}
 use Rattle.wording.specs.SentenceTheorems.{sentence-injective, other-unknown, known-not-unknown, sentence-printed, sentence-stop, one-stop}
 use Rattle.wording.specs.ComposeLaws.{room-enough}
 use Rattle.wording.specs.Told.{sentenceLeaves}
-use Rattle.dahomike.specs.Answers.{answerNumber, sentenceNumber}
+use Rattle.dahomike_answer.specs.Number.{answerNumber}
+use Rattle.dahomike.specs.Answers.{sentenceNumber}
 
 pub record Handed (k i v room : ℕ) : Type 0 where
   pub number : k < 4294967296

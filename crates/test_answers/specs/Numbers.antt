@@ -41,7 +41,8 @@ use Rattle.logs.specs.LogBytes.{entryCount, entryIn, entriesIn, test14, test15,
 use Rattle.replay.specs.Ran.{runTest}
 use Rattle.wording.specs.Sentence.{wordings, wording, sentenceOf}
 use Rattle.wording.specs.Told.{sentenceTest}
-use Rattle.dahomike.specs.Answers.{answerNumber, judgeTest, judgeNumber, countedTest, countedNumber, wishTest, wishNumber, runNumber, sentenceNumber, convertNumber}
+use Rattle.dahomike_answer.specs.Number.{answerNumber}
+use Rattle.dahomike.specs.Answers.{judgeTest, judgeNumber, countedTest, countedNumber, wishTest, wishNumber, runNumber, sentenceNumber, convertNumber}
 use Rattle.outcome.specs.Editions.{run-number}
 use Rattle.worked.specs.Cases.{p1, p3, entry, entryBytes, concat, tableWith, sameAnswer, parts, accepts}
 

@@ -10,7 +10,7 @@ use Rattle.tasks.specs.declared.Answer.{Answer}
 use Rattle.table.specs.declared.Judgement.{Judgement}
 use Rattle.table.specs.Judged.{judged}
 use Rattle.table.specs.NamesLaws.{names-count, names-few}
-use Rattle.dahomike.specs.Answers.{answerNumber}
+use Rattle.dahomike_answer.specs.Number.{answerNumber}
 use Rattle.dahomike.specs.AnswerLaws.{counted-refused, counted-short, counted-done}
 use Rattle.dahomike.proofs.dahomike_counted.Statement.{statement}
 use Rattle.dahomike.proofs.dahomike_counted.Tie as tie

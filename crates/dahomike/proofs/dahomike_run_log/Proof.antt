@@ -1,6 +1,6 @@
 -- `dahomike::dahomike_run_log` meets its contract.
 use Rattle.tasks.specs.declared.Answer.{Answer}
-use Rattle.dahomike.specs.Answers.{answerNumber}
+use Rattle.dahomike_answer.specs.Number.{answerNumber}
 use Rattle.dahomike.specs.AnswerLaws.{run-refused, run-done}
 use mathlib.Core.Path.{ap, _∙_}
 use borrow.Author.Needs.{needs}

@@ -1,10 +1,10 @@
--- `dahomike::refused` meets its contract.
+-- `dahomike_answer::refused` meets its contract.
 use mathlib.Core.Path.{sym, ap}
 use Rattle.tasks.specs.declared.Answer.{Answer}
-use Rattle.dahomike.specs.Answers.{answerNumber}
+use Rattle.dahomike_answer.specs.Number.{answerNumber}
 use borrow.Author.Needs.{needs}
-use Rattle.dahomike.proofs.refused.Statement.{statement}
-use Rattle.dahomike.proofs.refused.Tie as tie
+use Rattle.dahomike_answer.proofs.refused.Statement.{statement}
+use Rattle.dahomike_answer.proofs.refused.Tie as tie
 
 enum-told : tie.Need-enum-told
 enum-told c = search needs

@@ -1,9 +1,9 @@
--- `engine_store::read::state` meets its contract.
+-- `engine_store::read::read` meets its contract.
 use borrow.Author.Needs.{needs}
 use Rattle.tasks.specs.TaskSet.{row}
 use Rattle.engine_words.specs.Words.{fieldsIn}
-use Rattle.engine_store.proofs.read.state.Statement.{statement}
-use Rattle.engine_store.proofs.read.state.Tie as tie
+use Rattle.engine_store.proofs.read.read.Statement.{statement}
+use Rattle.engine_store.proofs.read.read.Tie as tie
 
 returns : tie.Need-returns
 unfolding fieldsIn row
@@ -13,8 +13,8 @@ returns c =
     let k = p .before in
     rw (p .plan .ensures, j .jobs .ensures, c .before .flags .ensures, c .numbers .ensures, k .before .before .places .ensures, k .places2 .ensures)
 
-pub state-spec : {M : Type 1} → statement M
-state-spec =
+pub read-spec : {M : Type 1} → statement M
+read-spec =
     tie.close
     (tie.spec
     (λ c κs. search needs)
