@@ -4,13 +4,13 @@ use tasks::edition::has_deadlines;
 use tasks::limits;
 use tidy::is_no_task;
 ghost use mathlib.Core.Path.{_≡_};
-ghost use mathlib.Core.Bool.{not, _&&_, _||_};
-ghost use Prim.Native.Nat.{_+_, _-_, _/_, _%_, _<_};
+ghost use mathlib.Core.Bool.{true, not, _&&_, _||_};
+ghost use Prim.Native.Nat.{ℕ, _+_, _-_, _≤_, _<_};
 ghost use Rattle.tasks.specs.TaskSet.{row};
 ghost use Rattle.tasks.specs.Content.{hasDeadlines, zeroTask};
 ghost use lib.Dec.{ltb, leb, eqb};
-ghost use Rattle.state.specs.SoundState.{allOf, loopTest, placeTest};
-ghost use Rattle.clauses.specs.SoundTests.{labelZero, taskZero, loopHolds, placeHolds};
+ghost use Rattle.state.specs.SoundState.{allOf, loopTest};
+ghost use Rattle.clauses.specs.SoundTests.{labelZero, taskZero, loopHolds, placeHolds, placeIn};
 
 fn pred(k: usize) -> usize
     ensures { λ r. ⌜ r ≡ k - 1 ⌝ }
@@ -182,35 +182,12 @@ pub fn loops(
     true
 }
 
-// "each loop's pending releases rise by at least T"
-fn rises(place: usize, previous: u32, separation: u32, release: u32) -> bool
-    ensures { λ r. ⌜ r ≡ eqb place 0 || leb (previous + separation) release ⌝ }
+// The clauses about a used place: "each loop's pending releases rise by at least T and are not after the clock", "remaining work is 1 to C".
+// `least` is what the release has to reach.
+fn used_sound(least: u64, budget: u32, clock: u32, release: u32, remaining: u32) -> bool
+    ensures { λ r. ⌜ r ≡ leb least release && (leb release clock && (leb 1 remaining && leb remaining budget)) ⌝ }
 {
-    if place == 0 {
-        return true;
-    }
-    previous as u64 + separation as u64 <= release as u64
-}
-
-fn place_sound(
-    separation: u32,
-    budget: u32,
-    clock: u32,
-    jobs: usize,
-    place: usize,
-    previous: u32,
-    release: u32,
-    remaining: u32,
-) -> bool
-    ensures { λ r. ⌜ r ≡ placeTest separation budget clock jobs place previous release remaining ⌝ }
-{
-    if jobs <= place {
-        if release != 0 {
-            return false;
-        }
-        return remaining == 0;
-    }
-    if !rises(place, previous, separation, release) {
+    if (release as u64) < least {
         return false;
     }
     if clock < release {
@@ -222,35 +199,88 @@ fn place_sound(
     remaining <= budget
 }
 
-fn place_at(
+// What the release after this one has to reach.
+fn later(release: u32, separation: u32) -> u64
+    ensures { λ r. ⌜ r ≡ release + separation ⌝ }
+{
+    release as u64 + separation as u64
+}
+
+// The used places of loop `i`. The first release has to reach nothing.
+fn used_places(
+    i: usize,
     separation: u32,
     budget: u32,
     clock: u32,
-    k: usize,
-    jobs: &[usize; 16],
+    jobs: usize,
     release: &[u32; 256],
     remaining: &[u32; 256],
 ) -> bool
-    requires { ⌜ k < 256 ⌝ }
-    ensures { λ r. ⌜
-        r
-        ≡ placeTest separation budget clock (row (now (jobs .entry)) (k / 16)) (k % 16)
-        (row (now (release .entry)) (k - 1)) (row (now (release .entry)) k) (row (now (remaining .entry)) k)
-        ⌝ }
+    requires { ⌜ (i < 16) × (jobs ≤ 16) ⌝ }
+    ensures { λ r. ⌜ r ≡ allOf (placeIn separation budget clock jobs (now (release .entry)) (now (remaining .entry)) i) jobs ⌝ }
 {
-    let previous = release[pred(k)];
-    place_sound(
-        separation,
-        budget,
-        clock,
-        jobs[k / 16],
-        k % 16,
-        previous,
-        release[k],
-        remaining[k],
-    )
+    let first = 16 * i;
+    let mut least = 0u64;
+    let mut p = 0;
+    while p < jobs {
+        let released = release[first + p];
+        if !used_sound(least, budget, clock, released, remaining[first + p]) {
+            return false;
+        }
+        least = later(released, separation);
+        p += 1;
+    }
+    true
 }
 
+fn zero_too(zero: bool, number: u32) -> bool
+    ensures { λ r. ⌜ r ≡ eqb number 0 && zero ⌝ }
+{
+    if number != 0 {
+        return false;
+    }
+    zero
+}
+
+// "every unused place … is zero": those of loop `i`. Each is looked at, also after one that is not zero, so that the compiler can take several
+// at a time.
+fn unused_places(i: usize, jobs: usize, release: &[u32; 256], remaining: &[u32; 256]) -> bool
+    requires { ⌜ (i < 16) × (jobs ≤ 16) ⌝ }
+    ensures { λ r. ⌜
+        ((T C t : ℕ)
+        → allOf (placeIn T C t jobs (now (release .entry)) (now (remaining .entry)) i) jobs ≡ true
+        → r ≡ allOf (placeIn T C t jobs (now (release .entry)) (now (remaining .entry)) i) 16)
+        ⌝ }
+{
+    let first = 16 * i;
+    let mut zero = true;
+    let mut p = jobs;
+    while p < 16 {
+        zero = zero_too(zero_too(zero, remaining[first + p]), release[first + p]);
+        p += 1;
+    }
+    zero
+}
+
+fn loop_places(
+    i: usize,
+    separation: u32,
+    budget: u32,
+    clock: u32,
+    jobs: usize,
+    release: &[u32; 256],
+    remaining: &[u32; 256],
+) -> bool
+    requires { ⌜ (i < 16) × (jobs ≤ 16) ⌝ }
+    ensures { λ r. ⌜ r ≡ allOf (placeIn separation budget clock jobs (now (release .entry)) (now (remaining .entry)) i) 16 ⌝ }
+{
+    if !used_places(i, separation, budget, clock, jobs, release, remaining) {
+        return false;
+    }
+    unused_places(i, jobs, release, remaining)
+}
+
+// The clauses about all 256 places, loop by loop, of loops that hold at most 16 jobs each.
 pub fn places(
     task: [Task; 16],
     clock: u32,
@@ -258,15 +288,24 @@ pub fn places(
     release: &[u32; 256],
     remaining: &[u32; 256],
 ) -> bool
+    requires { ⌜ ((i : ℕ) → i < 16 → row (now jobs) i ≤ 16) ⌝ }
     ensures { λ r. ⌜ r ≡ allOf (placeHolds task clock (now (jobs .entry)) (now (release .entry)) (now (remaining .entry))) 256 ⌝ }
 {
-    let mut k = 0;
-    while k < 256 {
-        let t = task[k / 16];
-        if !place_at(t.separation, t.budget, clock, k, jobs, release, remaining) {
+    let mut i = 0;
+    while i < 16 {
+        let t = task[i];
+        if !loop_places(
+            i,
+            t.separation,
+            t.budget,
+            clock,
+            jobs[i],
+            release,
+            remaining,
+        ) {
             return false;
         }
-        k += 1;
+        i += 1;
     }
     true
 }

@@ -1,5 +1,5 @@
 -- `soundness::sound` meets its contract.
-use Rattle.clauses.specs.SoundTests.{sound-parts}
+use Rattle.clauses.specs.SoundTests.{sound-parts, loops-room}
 use borrow.Author.Tests.{le-leb, lt-leb, not-true, not-false}
 use mathlib.Core.Path.{sym, _∙_}
 use borrow.Author.Needs.{needs}
@@ -40,7 +40,7 @@ returns-5 : tie.Need-returns-5
 returns-5 c = rw (sound-parts (c .before .before .before .before .before .before .before .before .before .before .before .before .before .before .before .before .before .before .before .before .before .before .before .before .before .args .state), sym (c .before .before .before .before .before .before .before .before .before .before .before .before .before .before .before .test .ensures) ∙ c .before .before .before .before .before .before .before .before .before .before .before .before .before .enum-told .given .1, sym (c .before .before .before .before .before .before .before .before .before .before .before .labels-zero .ensures) ∙ not-false _ (c .before .before .before .before .before .before .before .before .before .before .if1 .left), sym (c .before .before .before .before .before .before .before .before .tasks-zero .ensures) ∙ not-false _ (c .before .before .before .before .before .before .before .if2 .left), le-leb _ _ (c .before .before .before .before .before .before .if3 .left), sym (c .before .loops .ensures) ∙ not-true _ (c .if4 .taken))
 
 places-requires : tie.Need-places-requires
-places-requires c κs = search needs
+places-requires c κs = loops-room _ _ _ _ _ _ (sym (c .before .before .before .before .loops .ensures) ∙ not-false _ (c .before .before .before .if4 .left))
 
 returns-6 : tie.Need-returns-6
 returns-6 c = rw (sound-parts (c .before .before .before .before .before .before .before .before .before .before .before .before .before .before .before .before .before .before .before .before .before .before .before .before .before .before .before .before .before .args .state), sym (c .before .before .before .before .before .before .before .before .before .before .before .before .before .before .before .before .before .before .before .test .ensures) ∙ c .before .before .before .before .before .before .before .before .before .before .before .before .before .before .before .before .before .enum-told .given .1, sym (c .before .before .before .before .before .before .before .before .before .before .before .before .before .before .before .labels-zero .ensures) ∙ not-false _ (c .before .before .before .before .before .before .before .before .before .before .before .before .before .before .if1 .left), sym (c .before .before .before .before .before .before .before .before .before .before .before .before .tasks-zero .ensures) ∙ not-false _ (c .before .before .before .before .before .before .before .before .before .before .before .if2 .left), le-leb _ _ (c .before .before .before .before .before .before .before .before .before .before .if3 .left), sym (c .before .before .before .before .before .loops .ensures) ∙ not-false _ (c .before .before .before .before .if4 .left)) (c .places .ensures)
