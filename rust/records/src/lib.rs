@@ -4,6 +4,8 @@
 
 #![forbid(unsafe_code)]
 
+pub mod layout;
+
 /// Why a call was refused: the number of document 01 and the index that it gives with it.
 #[derive(Clone, Copy, Debug, PartialEq, Eq)]
 pub struct Refusal {

@@ -19,6 +19,7 @@ mod state;
 mod table;
 mod text;
 mod wish;
+mod words;
 
 pub use records::{IDLE, Refusal, Report, State, Task, Tasks};
 
@@ -33,3 +34,4 @@ pub use state::{Clause, Job, LAST_TICK, MOST_JOBS, broken, known, open, queue, s
 pub use table::{Table, is_few};
 pub use text::text;
 pub use wish::{wish, wish_by_trying, wish_into};
+pub use words::{Words, open_words, release_words, state_in, step_words, words_of};
