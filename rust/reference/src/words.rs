@@ -4,8 +4,8 @@
 //! taken release, 0 or 1; 125 to 140 last taken releases; 141 to 396 remaining work of the 256
 //! places; 397 to 652 their release ticks."
 
-use crate::{judge, open, release, step};
-use records::{Refusal, Report, State, Task, Tasks};
+use crate::{State, judge, open, release, step};
+use records::{Refusal, Report, Task};
 
 /// The words of a state.
 pub type Words = [u32; 653];
@@ -13,10 +13,9 @@ pub type Words = [u32; 653];
 /// The words of a state, one field after the other.
 pub fn words_of(state: &State) -> Words {
     let mut words = vec![u32::from(state.edition), u32::from(state.offered)];
-    words.extend([count_word(state.cores), count_word(state.tasks.count)]);
+    words.extend([count_word(state.cores), count_word(state.count)]);
     words.extend(state.labels.map(u32::from));
-    for place in 0..16 {
-        let task = state.tasks.at(place);
+    for task in state.tasks {
         words.extend([task.separation, task.budget, task.offset, task.deadline]);
     }
     words.extend(state.slack);
@@ -40,18 +39,14 @@ pub fn state_in(words: &Words) -> Option<State> {
     let edition = byte(reader.word())?;
     let offered = flag(reader.word())?;
     let cores = reader.word() as usize;
-    let mut tasks = Tasks::zeros(reader.word() as usize);
-    let labels = each(reader.words(), byte)?;
-    for place in 0..16 {
-        let [separation, budget, offset, deadline] = reader.words();
-        tasks.set(place, Task { separation, budget, offset, deadline });
-    }
+    let count = reader.word() as usize;
     Some(State {
         edition,
         offered,
         cores,
-        labels,
-        tasks,
+        count,
+        labels: each(reader.words(), byte)?,
+        tasks: [(); 16].map(|()| task(reader.words())),
         slack: reader.words(),
         clock: reader.word(),
         jobs: reader.words().map(|jobs| jobs as usize),
@@ -78,6 +73,10 @@ impl Reader<'_> {
         let [word] = self.words();
         word
     }
+}
+
+fn task([separation, budget, offset, deadline]: [u32; 4]) -> Task {
+    Task { separation, budget, offset, deadline }
 }
 
 fn byte(word: u32) -> Option<u8> {
