@@ -1,20 +1,26 @@
--- `test_same_state::same_labels` is safe and ends: the labels that are left are the measure.
+-- `test_engine::same::same_responses` is safe and ends: the loops that are left are the measure.
 use Prim.Native.Nat.{_-_, _≤_}
 use borrow.Author.Needs.{needs}
-use Rattle.test_same_state.proofs.same_labels.Statement.{statement}
-use Rattle.test_same_state.proofs.same_labels.Tie as tie
+use Rattle.test_engine.proofs.same.same_responses.Statement.{statement}
+use Rattle.test_engine.proofs.same.same_responses.Tie as tie
 
 abbrev Inv-loop : tie.InvT-loop
-Inv-loop a b i₀ i = i ≤ 8
+Inv-loop a b i₀ i = i ≤ 16
 
 abbrev μ-loop : tie.MeasureT-loop
-μ-loop a b i₀ i = 8 - i
+μ-loop a b i₀ i = 16 - i
 
 loop-holds : tie.Need-loop-holds Inv-loop μ-loop
 loop-holds c = search needs
 
+mul-if1 : tie.Need-mul-if1 Inv-loop μ-loop
+mul-if1 c = search needs
+
 element-copy-out-if1 : tie.Need-element-copy-out-if1 Inv-loop μ-loop
 element-copy-out-if1 c = search needs
+
+mul-if1-2 : tie.Need-mul-if1-2 Inv-loop μ-loop
+mul-if1-2 c = search needs
 
 element-copy-out-if1-2 : tie.Need-element-copy-out-if1-2 Inv-loop μ-loop
 element-copy-out-if1-2 c = search needs
@@ -34,14 +40,16 @@ loop-again c = search needs
 returns-2 : tie.Need-returns-2 Inv-loop μ-loop
 returns-2 c = search needs
 
-pub same-labels-spec : {M : Type 1} → statement M
-same-labels-spec =
+pub same-responses-spec : {M : Type 1} → statement M
+same-responses-spec =
     tie.close
     (tie.spec
     Inv-loop
     μ-loop
     loop-holds
+    mul-if1
     element-copy-out-if1
+    mul-if1-2
     element-copy-out-if1-2
     returns
     add-i
