@@ -2,13 +2,13 @@
 stands in several places is the same in all of them: the length of the longest sentence, which callers lend, and how many bytes `plan` reads.
 
 A parameter becomes a pair of name and type: `u8*` for a pointer to one or more of a type, with `const ` where it is only read, and `u8*8` for a
-pointer to an array of 8. A slice of Rattle is a pointer and a length."""
+pointer to an array of 8. A slice of Rattle is a pointer and a length. An array of C may have a length that the header defines by name."""
 
 import re
 
 BORDERS = (
     ("dahomike", "rust/dahomike/src/lib.rs", "include/dahomike.h"),
-    ("trial", "rust/trial/src/lib.rs", None),
+    ("dahomike_engine", "rust/dahomike_engine/src/lib.rs", "include/dahomike_engine.h"),
 )
 SHARED = {
     "the longest sentence has": (
@@ -35,8 +35,6 @@ def check(tree):
             if file.crate == crate:
                 proved.update(rattle(file))
         for path, read in ((rust, rust_functions), (header, c_functions)):
-            if path is None:
-                continue
             if path not in tree.text:
                 faults.append((path, 1, f"is missing: it declares the C functions of {crate}"))
                 continue
@@ -127,11 +125,13 @@ def rust_functions(text):
 def c_functions(text):
     found = {}
     bare = re.sub(r"/\*.*?\*/", lambda m: re.sub(r"[^\n]", " ", m.group()), text, flags=re.S)
+    lengths = dict(re.findall(r"^#define (\w+) (\d+)$", bare, re.M))
     for made in re.finditer(r"^(\w+)\s+(\w+)\(([^)]*)\);", bare, re.M):
         parameters = []
         for part in made.group(3).split(","):
-            const, kind, star, name = re.match(r"\s*(const )?(\w+)\s*(\*?)\s*(\w+)", part).groups()
-            parameters.append((name, (const or "") + C_TYPES.get(kind, kind) + star))
+            const, kind, star, name, length = re.match(r"\s*(const )?(\w+)\s*(\*?)\s*(\w+)(?:\[(\w+)\])?", part).groups()
+            array = f"*{lengths.get(length, length)}" if length else ""
+            parameters.append((name, (const or "") + C_TYPES.get(kind, kind) + star + array))
         line = bare[: made.start()].count("\n") + 1
         found[made.group(2)] = (line, (parameters, C_TYPES.get(made.group(1), made.group(1))))
     return found

@@ -1,4 +1,4 @@
-// Lines that make a call, print its case under the name at the line's end and, of a release or a step, take the state that it hands back.
+// Lines that make a call and print its case under the name at the line's end.
 use state::State;
 use tasks::Plan;
 use test_converts::converted;
@@ -77,18 +77,6 @@ fn sentence(words: &[u8]) {
     );
 }
 
-// `release I DEMAND NAME`.
-fn release(state: State, words: &[u8]) -> State {
-    let task = number(words, 0);
-    let demand = number(words, task.next);
-    calls::release(
-        rest(words, demand.next),
-        state,
-        task.value as usize,
-        (demand.value % 4294967296) as u32,
-    )
-}
-
 // A call of the table alone or of numbers alone. Whether the line is one.
 fn of_table(table: &[u8], what: &[u8], words: &[u8]) -> bool {
     if check::same(what, b"judge") {
@@ -114,14 +102,27 @@ fn of_table(table: &[u8], what: &[u8], words: &[u8]) -> bool {
     false
 }
 
-fn stateless(world: World, what: &[u8], words: &[u8]) {
+// A call of the engine: an opening of the plan, or a step of the lent state. Whether the line is one.
+fn of_engine(plan: Plan, state: State, what: &[u8], words: &[u8]) -> bool {
+    if check::same(what, b"open") {
+        calls::open(words, plan);
+        return true;
+    }
+    if check::same(what, b"lent") {
+        lent(words, state);
+        return true;
+    }
+    false
+}
+
+pub fn act(world: World, what: &[u8], words: &[u8]) {
     let draft = world.table;
     let bytes = draft.bytes;
     let table = front(&bytes, draft.length);
     let log = world.log;
     let plan = world.plan;
     let state = world.state;
-    if of_table(table, what, words) {
+    if of_table(table, what, words) || of_engine(plan, state, what, words) {
         return;
     }
     if check::same(what, b"write") {
@@ -132,33 +133,5 @@ fn stateless(world: World, what: &[u8], words: &[u8]) {
         run_log(table, log, words);
         return;
     }
-    if check::same(what, b"open") {
-        calls::open(words, plan);
-        return;
-    }
-    if check::same(what, b"unsound") {
-        calls::unsound(words, state);
-        return;
-    }
-    if check::same(what, b"lent") {
-        lent(words, state);
-        return;
-    }
     say::text(b"not understood: a call's line\n");
-}
-
-pub fn act(mut world: World, what: &[u8], words: &[u8]) -> World {
-    let state = world.state;
-    if check::same(what, b"release") {
-        let next = release(state, words);
-        world.state = next;
-        return world;
-    }
-    if check::same(what, b"step") {
-        let next = calls::step(words, state);
-        world.state = next;
-        return world;
-    }
-    stateless(world, what, words);
-    world
 }

@@ -1,8 +1,9 @@
 // A case of `step_in_place`: what it answers and leaves in the lent state, beside what `step` hands back.
+use crate::calls::answered;
+use crate::same::same_state;
+use crate::same::same_step;
 use state::State;
 use state::Stepped;
-use test_same_state::same_state;
-use test_same_state::same_step;
 use test_script::say;
 
 // The answer of a call, and the state that was lent to it.
@@ -26,7 +27,7 @@ pub fn lent(name: &[u8], state: State) {
     let stepped = left.stepped;
     let there = left.state;
     let answer = stepped.answer;
-    test_show::answer(b"step in place", answer);
+    answered(b"step in place", answer);
     let other = engine::step(state);
     let next = other.state;
     say::fact(b"it answers as step does", same_step(stepped, other));

@@ -1,3 +1,6 @@
-// Cases of the engine's calls: what each call answers, and the lines that a case prints.
+// Cases of states: states in the making, and what an opening of a plan and `step_in_place` answer. The other calls of the engine are tried by the
+// tests of rust/dahomike_engine.
 pub mod calls;
 pub mod lent;
+pub mod made;
+mod same;

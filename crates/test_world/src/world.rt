@@ -1,7 +1,7 @@
 // What the lines of a script have made so far.
 use state::State;
 use tasks::Plan;
-use test_states::made;
+use test_engine::made;
 use test_tables::draft;
 use test_tables::draft::Draft;
 

@@ -1,13 +1,15 @@
-//! Times a step, which tests whether the state is sound, and a tick, which doesn't, on busy states
-//! of 16 tasks on 8 cores, each task with 16 jobs.
+//! Times one step and one release on the words of a state, proved and plain. Both test whether the
+//! state is sound.
 //!
-//! A step is timed with the copy of the state that it starts from. A tick is what each further one
-//! of a row of steps adds: the proved code tests the first state of a row only.
+//! Every task holds 16 jobs before a step and 15 before a release. Each turn starts from the same
+//! words; the copies that it works on are made before its time is taken.
 
 use std::hint::black_box;
 
-use reference::{Plan, State, Table, judge};
-use samples::{Random, Shape, brisk, busy, tight};
+use dahomike_engine::{Engine, Report};
+use fast::Words;
+use reference::{Plan, State, Table, judge, words_of};
+use samples::{Random, Shape, brisk, busy, ready, tight};
 
 use crate::turns::{best, median, seconds, take_turns};
 
@@ -16,97 +18,74 @@ const STATES: usize = 50;
 
 /// Turns that each form takes, each once through the states: short ones, so that some are not
 /// disturbed by other work.
-const TURNS: usize = 801;
+const TURNS: usize = 2001;
 
-/// Ticks after the first step of a row.
-const MORE: usize = 32;
+const SHAPES: [Shape; 2] = [Shape { cores: 8, tasks: 16 }, Shape { cores: 2, tasks: 3 }];
 
-const SHAPE: Shape = Shape { cores: 8, tasks: 16 };
+type Make = fn(&mut Random, Shape) -> Table;
 
-/// The seconds of each turn: a step, and a row of steps.
-struct Times {
-    step: Vec<f64>,
-    row: Vec<f64>,
-}
-
-impl Times {
-    fn of(turns: Vec<(f64, f64)>) -> Times {
-        let (step, row) = turns.into_iter().unzip();
-        Times { step, row }
-    }
-
-    /// A tick by the best turn or by the median one.
-    fn tick(&self, by: fn(&[f64]) -> f64) -> f64 {
-        (by(&self.row) - by(&self.step)) / MORE as f64
-    }
-}
+const KINDS: [(&str, Make); 2] =
+    [("jobs finish in nearly every tick", brisk), ("jobs seldom finish", tight)];
 
 pub fn run() {
+    println!("engine, {STATES} states of each kind, {TURNS} turns");
+    for shape in SHAPES {
+        for (kind, make) in KINDS {
+            println!("{:2} tasks on {} cores, {kind}:", shape.tasks, shape.cores);
+            time("step", &words(shape, make, busy), proved_step, plain_step);
+            time("release", &words(shape, make, ready), proved_release, plain_release);
+        }
+    }
+}
+
+fn time(name: &str, words: &[Words], proved: fn(&mut Engine), plain: fn(&mut Words)) {
+    let engines: Vec<Engine> = words.iter().copied().map(Engine::from_words).collect();
+    let (proved, plain) = take_turns(TURNS, || turn(&engines, proved), || turn(words, plain));
     println!(
-        "states of 16 tasks on 8 cores, each task with 16 jobs, {STATES} of each kind, \
-         {TURNS} turns"
-    );
-    time("jobs finish in nearly every tick", |random| brisk(random, SHAPE));
-    time("jobs seldom finish", |random| tight(random, SHAPE));
-}
-
-fn time(kind: &str, make: fn(&mut Random) -> Table) {
-    let states = busy_states(make);
-    let (proved, plain) =
-        take_turns(TURNS, || turn(&states, proved_row), || turn(&states, plain_row));
-    let (proved, plain) = (Times::of(proved), Times::of(plain));
-    println!("{kind}:");
-    let step = |by: fn(&[f64]) -> f64| (by(&proved.step), by(&plain.step));
-    let tick = |by| (proved.tick(by), plain.tick(by));
-    print("step", step(best), step(median));
-    print("tick", tick(best), tick(median));
-}
-
-/// The seconds of a step and of a row of steps, in a form that takes a state and makes so many more
-/// steps after the first.
-fn turn(states: &[State], form: fn(&State, usize)) -> (f64, f64) {
-    let timed = |more| {
-        let pass = || states.iter().for_each(|state| form(black_box(state), more));
-        seconds(1, pass) / states.len() as f64
-    };
-    (timed(0), timed(MORE))
-}
-
-/// The seconds of the proved and of the plain form, by the best turn and by the median one.
-fn print(name: &str, best: (f64, f64), median: (f64, f64)) {
-    println!(
-        "  {name}: proved {:5.0} ns  plain {:5.0} ns  \
+        "  {name:7}: proved {:5.0} ns  plain {:5.0} ns  \
          time ratio proved/plain {:.2} (of the median turns {:.2})",
-        1e9 * best.0,
-        1e9 * best.1,
-        best.0 / best.1,
-        median.0 / median.1,
+        1e9 * best(&proved),
+        1e9 * best(&plain),
+        best(&proved) / best(&plain),
+        median(&proved) / median(&plain),
     );
 }
 
-fn busy_states(make: fn(&mut Random) -> Table) -> Vec<State> {
+/// The seconds of one call, of a call on a copy of each state.
+fn turn<S: Clone>(states: &[S], call: fn(&mut S)) -> f64 {
+    let mut copies = states.to_vec();
+    let pass = || copies.iter_mut().for_each(|state| call(black_box(state)));
+    seconds(1, pass) / states.len() as f64
+}
+
+/// The words of states of accepted tables.
+fn words(shape: Shape, make: Make, state: fn(&mut Random, &Plan) -> State) -> Vec<Words> {
     let mut random = Random::new(2011);
-    let mut states = Vec::new();
-    while states.len() < STATES {
-        let plan: Option<Plan> = judge(&make(&mut random).bytes()).ok();
-        states.extend(plan.map(|plan| busy(&mut random, &plan)));
+    let mut words = Vec::new();
+    while words.len() < STATES {
+        let plan: Option<Plan> = judge(&make(&mut random, shape).bytes()).ok();
+        words.extend(plan.map(|plan| words_of(&state(&mut random, &plan))));
     }
-    states
+    words
 }
 
-fn proved_row(state: &State, more: usize) {
-    let mut state = state.clone();
-    let (answer, report) = trial::steps(&mut state, more);
-    assert!(answer.is_ok());
-    black_box((&state, &report));
+fn proved_step(engine: &mut Engine) {
+    let mut report = Report::IDLE;
+    assert!(engine.step_into(&mut report).is_ok());
+    black_box(&report);
 }
 
-fn plain_row(state: &State, more: usize) {
-    let mut state = state.clone();
-    let report = fast::step(&mut state);
-    assert!(black_box(report).is_ok());
-    for _ in 0..more {
-        black_box(fast::tick(&mut state));
-    }
-    black_box(&state);
+fn plain_step(words: &mut Words) {
+    let mut report = Report::IDLE;
+    assert!(fast::step(words, &mut report).is_ok());
+    black_box(&report);
+}
+
+/// A release of task 2 with one tick of work.
+fn proved_release(engine: &mut Engine) {
+    assert!(engine.release(2, 1).is_ok());
+}
+
+fn plain_release(words: &mut Words) {
+    assert!(fast::release(words, 2, 1).is_ok());
 }

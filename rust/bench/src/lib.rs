@@ -1,5 +1,5 @@
 //! Times the proved code against the plain code written for speed, in the same run: the judgement,
-//! conversions, wishes, the engine's step and tick, and the log run.
+//! conversions, wishes, the engine's step and release, and the log run.
 
 #![forbid(unsafe_code)]
 

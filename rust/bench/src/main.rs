@@ -1,4 +1,4 @@
-//! Times the judgement, conversions, wishes, and the engine's step and tick.
+//! Times the judgement, conversions and wishes.
 
 #![forbid(unsafe_code)]
 
@@ -6,5 +6,4 @@ fn main() {
     bench::judge::run();
     bench::convert::run();
     bench::wish::run();
-    bench::engine::run();
 }

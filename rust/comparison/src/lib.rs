@@ -1,6 +1,6 @@
 //! Compares the proved code, and the plain code written for speed, with the reference: of a
 //! judgement, a log run, a sentence, a wish and a conversion the answer and every byte of the lent
-//! buffer and around it, of a release or a step the answer and every field that it hands back. A
+//! buffer and around it, of the engine's calls the answer and every word and number lent to them. A
 //! log run is held to demand 3 as well, and to the order in which jobs run; a sentence, a wish and a
 //! conversion to what document 02 says of them. Tables with few loops, that is no more than cores,
 //! are counted by names of their own, and so are equal priority points. All but sentences are of
@@ -34,7 +34,7 @@ mod wishes;
 pub use conversion_tally::ConversionTally;
 pub use conversions::{compare_conversion, compare_conversion_at};
 pub use edition_names::EDITIONS_AT_LEAST;
-pub use engine::{compare_release, compare_step, compare_steps};
+pub use engine::{Call, compare_call, compare_release, compare_step};
 pub use engine_tally::EngineTally;
 pub use log_families::{FAR, FEW_FAR, FEW_NEAR, Family, NEAR, TIED_FAR, TIED_NEAR, compare_logs};
 pub use log_tally::LogTally;

@@ -1,11 +1,11 @@
 //! The C calls on the largest tables, the longest log, the longest sentence and a slow wish sheet
-//! in a thread with a stack of 64 KiB. A call that needs more ends the whole test program.
+//! in a thread with a stack of 64 KiB.
 
-use std::thread::Builder;
+#[path = "../../small_stack.rs"]
+mod small_stack;
 
 use dahomike::{convert, counted, judge, run_log, sentence_into, wish};
-
-const STACK: usize = 64 * 1024;
+use small_stack::on_small_stack;
 
 const ENTRIES: u32 = 65_535;
 
@@ -59,12 +59,6 @@ fn log() -> Vec<u8> {
         log.extend(8u32.to_le_bytes());
     }
     log
-}
-
-/// What these calls give in a thread with a small stack.
-fn on_small_stack<T: Send + 'static>(calls: impl FnOnce() -> T + Send + 'static) -> T {
-    let thread = Builder::new().stack_size(STACK).spawn(calls).expect("the thread starts");
-    thread.join().expect("the calls come back")
 }
 
 #[test]

@@ -5,8 +5,9 @@
 
 use std::hint::black_box;
 
+use crate::table::{DEADLINE, Fields, OFFSET};
 use crate::{Judged, refuse};
-use records::{Refusal, Tasks};
+use records::Refusal;
 
 /// Judges a table and writes it to `out` in the wanted edition, as the C function does. The
 /// judgement names the counted tasks too, and they are not worked out in vain: it is timed.
@@ -21,16 +22,16 @@ pub fn convert(table: &[u8], edition: u32, out: &mut [u8]) -> Result<usize, Refu
         return refuse(31, 0);
     }
     if edition == 2 {
-        test(29, &judged.tasks, |tasks, k| tasks.offset[k] != 0)?;
+        test(29, judged.tasks.used(), |task| task[OFFSET] != 0)?;
         write::<12, 16>(2, table, &judged, out)
     } else {
-        test(30, &judged.tasks, |tasks, k| tasks.deadline[k] == tasks.offset[k])?;
+        test(30, judged.tasks.used(), |task| task[DEADLINE] == task[OFFSET])?;
         write::<16, 12>(1, table, &judged, out)
     }
 }
 
-fn test(number: u32, tasks: &Tasks, passes: fn(&Tasks, usize) -> bool) -> Result<(), Refusal> {
-    match (0..tasks.count).find(|&k| !passes(tasks, k)) {
+fn test(number: u32, tasks: &[Fields], passes: fn(&Fields) -> bool) -> Result<(), Refusal> {
+    match tasks.iter().position(|task| !passes(task)) {
         Some(k) => refuse(number, k),
         None => Ok(()),
     }

@@ -12,19 +12,20 @@ mod engine;
 mod heads;
 mod log;
 mod slack;
+mod sound;
 mod table;
 mod wish;
 
 pub use convert::convert;
-pub use engine::{release, step, tick};
+pub use engine::{Words, open, release, step};
 pub use log::{run_log, run_log_by_ticks};
 pub use wish::{wish_by_rounds_into, wish_into, wish_rounds};
 
 use std::hint::black_box;
 
-use records::{Refusal, Tasks};
+use records::Refusal;
 use slack::{Names, Rates};
-use table::{Sections, TASKS, is_few, read_tasks};
+use table::{Fields, Sections, TASKS, Tasks, is_few, read_tasks};
 
 /// Judges a table and writes slack and bound of each task to `out`, as the C judgement does. The
 /// judgement names the counted tasks too, and they are not worked out in vain: it is timed.
@@ -59,11 +60,11 @@ impl Judged {
     fn of(table: &[u8]) -> Result<Judged, Refusal> {
         let sections = Sections::split(table)?;
         let cores = sections.cores()?;
-        let mut tasks = Tasks::zeros(0);
+        let mut tasks = Tasks::NONE;
         read_tasks(sections.tasks, &mut tasks)?;
-        let rates = Rates::of(&tasks, cores)?;
-        let (slack, names) = slack(&rates, &tasks, sections.slack)?;
-        let bound = bounds(&tasks, &slack, cores)?;
+        let rates = Rates::of(tasks.used(), cores)?;
+        let (slack, names) = slack(&rates, sections.slack)?;
+        let bound = bounds(tasks.used(), &slack, cores)?;
         Ok(Judged { cores, tasks, slack, names, bound })
     }
 
@@ -73,16 +74,13 @@ impl Judged {
 }
 
 /// The slack, found or offered, and the tasks counted at it: 11 and 12.
-fn slack(
-    rates: &Rates,
-    tasks: &Tasks,
-    offer: &[[u8; 4]],
-) -> Result<([u32; TASKS], Names), Refusal> {
-    let few = is_few(rates.cores, tasks.count);
+fn slack(rates: &Rates, offer: &[[u8; 4]]) -> Result<([u32; TASKS], Names), Refusal> {
+    let count = rates.tasks.len();
+    let few = is_few(rates.cores, count);
     if offer.is_empty() {
         return Ok(if few { ([0; TASKS], [0; TASKS]) } else { rates.search() });
     }
-    if few || offer.len() != tasks.count {
+    if few || offer.len() != count {
         return refuse(11, 0);
     }
     let mut slack = [0; TASKS];
@@ -96,13 +94,13 @@ fn slack(
 }
 
 /// The bound of each task: 13.
-fn bounds(tasks: &Tasks, slack: &[u32; TASKS], cores: usize) -> Result<[u64; TASKS], Refusal> {
-    let few = is_few(cores, tasks.count);
+fn bounds(tasks: &[Fields], slack: &[u32; TASKS], cores: usize) -> Result<[u64; TASKS], Refusal> {
+    let few = is_few(cores, tasks.len());
     let mut bounds = [0; TASKS];
-    for k in 0..tasks.count {
-        let wait = if few { 0 } else { u64::from(tasks.offset[k]) + u64::from(slack[k]) };
-        bounds[k] = wait + u64::from(tasks.budget[k]);
-        if bounds[k] > 16 * u64::from(tasks.separation[k]) {
+    for (k, &[separation, budget, offset, _]) in tasks.iter().enumerate() {
+        let wait = if few { 0 } else { u64::from(offset) + u64::from(slack[k]) };
+        bounds[k] = wait + u64::from(budget);
+        if bounds[k] > 16 * u64::from(separation) {
             return refuse(13, k);
         }
     }

@@ -99,12 +99,11 @@ impl<'a, const LEAP: u32> Run<'a, LEAP> {
             return 17;
         }
         self.advance(tick);
-        let tasks = &self.judged.tasks;
-        if task >= tasks.count {
+        let Some(&[separation, budget, offset, _]) = self.judged.tasks.used().get(task) else {
             return 20;
-        }
+        };
         // A 0 less 1 wraps to the largest number, so one comparison tests both ends.
-        if demand.wrapping_sub(1) >= tasks.budget[task] {
+        if demand.wrapping_sub(1) >= budget {
             return 21;
         }
         if tick < self.open_from[task] {
@@ -113,8 +112,8 @@ impl<'a, const LEAP: u32> Run<'a, LEAP> {
         if self.queues[task].count == JOBS {
             return 23;
         }
-        self.open_from[task] = tick + tasks.separation[task];
-        let key = heads::key(tick, tasks.offset[task], task);
+        self.open_from[task] = tick + separation;
+        let key = heads::key(tick, offset, task);
         let job = Job { key, work: demand, entry: index as u16 };
         self.queues[task].push(job);
         if self.queues[task].count == 1 {

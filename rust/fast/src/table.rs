@@ -1,9 +1,31 @@
 //! The table's bytes taken apart and its own fields tested: 1 to 8, or 26 on a wish sheet, and 28.
 
 use crate::refuse;
-use records::{Refusal, Task, Tasks};
+use records::Refusal;
 
 pub const TASKS: usize = 16;
+
+/// T, C, Y and D of a task, as they stand in the words of a state.
+pub type Fields = [u32; 4];
+
+pub const SEPARATION: usize = 0;
+pub const BUDGET: usize = 1;
+pub const OFFSET: usize = 2;
+pub const DEADLINE: usize = 3;
+
+/// Sixteen places for tasks, of which the first `count` are used.
+pub struct Tasks {
+    pub count: usize,
+    pub places: [Fields; TASKS],
+}
+
+impl Tasks {
+    pub const NONE: Tasks = Tasks { count: 0, places: [[0; 4]; TASKS] };
+
+    pub fn used(&self) -> &[Fields] {
+        &self.places[..self.count]
+    }
+}
 
 const LONGEST_SEPARATION: u32 = 100_000;
 
@@ -58,13 +80,14 @@ impl<'a> Sections<'a> {
     }
 }
 
-/// The number of cores with these labels: 3 and 4.
-pub fn cores_of(labels: &[u8]) -> Result<usize, Refusal> {
+/// The number of cores with these labels, bytes or words: 3 and 4.
+pub fn cores_of<L: Copy + Into<u32>>(labels: &[L]) -> Result<usize, Refusal> {
     if !(2..=8).contains(&labels.len()) {
         return refuse(3, 0);
     }
     let mut lowest = 0;
     for (core, &label) in labels.iter().enumerate() {
+        let label = label.into();
         if label < lowest || label > 63 {
             return refuse(4, core);
         }
@@ -123,16 +146,15 @@ fn read_fields<const SIZE: usize>(
     for (i, entry) in entries.iter().enumerate() {
         let fields = entry.as_chunks().0;
         let [separation, budget, offset] = [0, 1, 2].map(|at| u32::from_le_bytes(fields[at]));
-        tasks.separation[i] = separation;
-        tasks.budget[i] = budget;
-        tasks.offset[i] = offset;
+        tasks.places[i] = [separation, budget, offset, 0];
         // A 0 less 1 wraps to the largest number, so one comparison tests both ends.
         failing[0] |= u32::from(separation.wrapping_sub(1) >= LONGEST_SEPARATION) << i;
         failing[1] |= u32::from(budget.wrapping_sub(1) >= separation) << i;
         failing[2] |= u32::from(fails(separation, budget, offset)) << i;
         if let Some(&deadline) = fields.get(3) {
-            tasks.deadline[i] = u32::from_le_bytes(deadline);
-            failing[3] |= u32::from(!deadline_passes(tasks.deadline[i])) << i;
+            let deadline = u32::from_le_bytes(deadline);
+            tasks.places[i][DEADLINE] = deadline;
+            failing[3] |= u32::from(!deadline_passes(deadline)) << i;
         }
     }
     for (number, tasks) in [6, 7, third, 28].into_iter().zip(failing) {
@@ -149,19 +171,16 @@ fn deadline_passes(deadline: u32) -> bool {
 
 /// Whether tasks that are not read from bytes pass 5 to 8, and 28 in edition 2, with zeros past
 /// `count` and for every deadline of edition 1.
-pub fn tasks_pass(tasks: &Tasks, edition: u8) -> bool {
-    let count = tasks.count;
+pub fn tasks_pass(places: &[Fields], count: usize, edition: u32) -> bool {
     if count == 0 || count > TASKS {
         return false;
     }
-    (0..TASKS).all(|i| {
-        let Task { separation, budget, offset, deadline } = tasks.at(i);
-        if i >= count {
-            return separation == 0 && budget == 0 && offset == 0 && deadline == 0;
-        }
+    let (used, unused) = places.split_at(count);
+    let passes = |&[separation, budget, offset, deadline]: &Fields| {
         separation.wrapping_sub(1) < LONGEST_SEPARATION
             && budget.wrapping_sub(1) < separation
             && offset <= separation
             && if edition == 1 { deadline == 0 } else { deadline_passes(deadline) }
-    })
+    };
+    used.iter().all(passes) && unused.iter().all(|fields| *fields == [0; 4])
 }

@@ -6,8 +6,8 @@
 
 use crate::refuse;
 use crate::slack::{Ranking, Rates, Smallest};
-use crate::table::{Sections, TASKS, read_wishes};
-use records::{Refusal, Tasks};
+use crate::table::{SEPARATION, Sections, TASKS, Tasks, read_wishes};
+use records::Refusal;
 
 /// Rounds before the first leap: most sheets take fewer, and a leap costs as much as m of them.
 const ROUNDS_BEFORE_LEAPS: u32 = 64;
@@ -52,12 +52,13 @@ impl Sheet {
     fn read(bytes: &[u8]) -> Result<Sheet, Refusal> {
         let sections = Sections::split(bytes)?;
         let cores = sections.cores()?;
-        let mut tasks = Tasks::zeros(0);
+        let mut tasks = Tasks::NONE;
         read_wishes(sections.tasks, cores, &mut tasks)?;
         let mut room = [0; TASKS];
-        for (k, room) in room[..tasks.count].iter_mut().enumerate() {
-            *room = tasks.offset[k] - tasks.budget[k];
-            tasks.offset[k] = tasks.separation[k].min(*room);
+        for (room, task) in room.iter_mut().zip(&mut tasks.places[..tasks.count]) {
+            let [separation, budget, wish, _] = task;
+            *room = *wish - *budget;
+            *wish = (*separation).min(*room);
         }
         Ok(Sheet { cores, tasks, room, offers_slack: !sections.slack.is_empty() })
     }
@@ -72,11 +73,11 @@ struct Search<'a> {
 impl Search<'_> {
     /// 9 to 11.
     fn of(sheet: &Sheet) -> Result<Search<'_>, Refusal> {
-        let rates = Rates::of(&sheet.tasks, sheet.cores)?;
+        let rates = Rates::of(sheet.tasks.used(), sheet.cores)?;
         if sheet.offers_slack {
             return refuse(11, 0);
         }
-        let smallest = Smallest::of(&sheet.tasks, sheet.cores);
+        let smallest = Smallest::of(sheet.tasks.used(), sheet.cores);
         Ok(Search { rates, room: &sheet.room, smallest })
     }
 
@@ -134,21 +135,21 @@ impl Search<'_> {
         let Rates { tasks, cores, share, .. } = &self.rates;
         let mut weights = [0; TASKS];
         let mut surpluses = 0;
-        for i in 0..tasks.count {
-            let whole = slack[i] + tasks.separation[i];
+        for (i, task) in tasks.iter().enumerate() {
+            let whole = slack[i] + task[SEPARATION];
             let reach = whole.min(self.room[i]);
             weights[i] = share[i] * u64::from(reach);
             surpluses += share[i] * u64::from(whole - reach);
         }
-        surpluses + ranking.largest(&weights, cores - 1, tasks.count)
+        surpluses + ranking.largest(&weights, cores - 1, tasks.len())
     }
 
     fn slope(&self, slack: &[u32; TASKS], ranking: &Ranking) -> u64 {
         let Rates { tasks, cores, share, .. } = &self.rates;
         let counted = ranking.counted(cores - 1);
         let mut slope = 0;
-        for i in 0..tasks.count {
-            let cut = slack[i] + tasks.separation[i] >= self.room[i];
+        for (i, task) in tasks.iter().enumerate() {
+            let cut = slack[i] + task[SEPARATION] >= self.room[i];
             let rises = slack[i] > 0 && (cut || counted >> i & 1 == 1);
             slope += if rises { share[i] } else { 0 };
         }
@@ -165,13 +166,14 @@ fn write(sheet: &Sheet, slack: Option<[u32; TASKS]>, out: &mut [u8]) -> Result<u
     let Some(slack) = slack else {
         return refuse(27, 0);
     };
-    let (tasks, count) = (&sheet.tasks, sheet.tasks.count);
+    let count = sheet.tasks.count;
     let Some(out) = out.get_mut(..12 * count) else {
         return refuse(24, 0);
     };
     for (k, entry) in out.as_chunks_mut::<12>().0.iter_mut().enumerate() {
-        let reach = (slack[k] + tasks.separation[k]).min(sheet.room[k]);
-        let numbers = [reach - slack[k], slack[k], reach + tasks.budget[k]];
+        let [separation, budget, ..] = sheet.tasks.places[k];
+        let reach = (slack[k] + separation).min(sheet.room[k]);
+        let numbers = [reach - slack[k], slack[k], reach + budget];
         for (field, number) in entry.as_chunks_mut().0.iter_mut().zip(numbers) {
             *field = u32::to_le_bytes(number);
         }

@@ -4,7 +4,8 @@
 mod both;
 
 use both::compare_log;
-use records::State;
+use records::Report;
+use reference::{State, step_words, words_of};
 use samples::{LogKind, Random, alike_plan, alike_short, tied, tied_log};
 
 /// Whether of two heads with equal points one runs since it was released earlier, though its task is
@@ -27,10 +28,11 @@ fn states() {
     for _ in 0..10_000 {
         let plan = alike_plan(random);
         let state = tied(random, &plan);
-        let mut stepped = state.clone();
-        let expected = reference::step(&state);
-        assert_eq!(fast::step(&mut stepped), Ok(expected.report), "{state:?}");
-        assert_eq!(stepped, expected.state, "{state:?}");
+        let (mut stepped, mut expected) = (words_of(&state), words_of(&state));
+        let mut report = Report::IDLE;
+        assert_eq!(fast::step(&mut stepped, &mut report), Ok(()), "{state:?}");
+        assert_eq!(Ok(report), step_words(&mut expected), "{state:?}");
+        assert_eq!(stepped, expected, "{state:?}");
         let decided = decided(&state);
         by_release += u32::from(decided.0);
         by_task += u32::from(decided.1);

@@ -4,8 +4,8 @@
 mod both;
 
 use both::compare_log;
-use records::{Refusal, Report, State};
-use reference::Table;
+use records::{Refusal, Report};
+use reference::{State, Table, open_words, release_words, step_words, words_of};
 use samples::{
     LogKind, Random, damaged_state, faulty_few, few, few_convertible, few_offering, few_plan,
     few_sheet, few_short, log, one_more, sound,
@@ -39,6 +39,10 @@ fn compare(random: &mut Random, table: &Table) -> usize {
         assert_eq!(out, expected, "{length} bytes, {table:?}");
         taken += usize::from(answer.is_ok());
     }
+    let (mut expected, mut words) = ([7; 653], [7; 653]);
+    let answer = open_words(&bytes, &mut expected);
+    assert_eq!(fast::open(&bytes, &mut words), answer, "{table:?}");
+    assert_eq!(words, expected, "{table:?}");
     taken
 }
 
@@ -56,18 +60,18 @@ fn tables_and_sheets() {
 }
 
 fn compare_engine(random: &mut Random, state: &State) {
-    let mut released = state.clone();
-    let task = random.index(state.tasks.count.clamp(1, 16));
-    let demand = random.between(0, state.tasks.budget[task].min(100_000) + 1);
-    let expected = reference::release(state, task, demand);
-    assert_eq!(fast::release(&mut released, task, demand), expected.answer, "{state:?}");
-    assert_eq!(released, expected.state, "{state:?}");
-    let mut stepped = state.clone();
-    let expected = reference::step(state);
-    let report = fast::step(&mut stepped);
-    assert_eq!(report.map(|_| ()), expected.answer, "{state:?}");
-    assert_eq!(report.unwrap_or(Report::IDLE), expected.report, "{state:?}");
-    assert_eq!(stepped, expected.state, "{state:?}");
+    let words = words_of(state);
+    let task = random.index(state.count.clamp(1, 16));
+    let demand = random.between(0, state.tasks[task].budget.min(100_000) + 1);
+    let (mut released, mut expected) = (words, words);
+    let answer = release_words(&mut expected, task as u32, demand);
+    assert_eq!(fast::release(&mut released, task as u32, demand), answer, "{state:?}");
+    assert_eq!(released, expected, "{state:?}");
+    let (mut stepped, mut expected) = (words, words);
+    let mut report = Report::IDLE;
+    let answer = fast::step(&mut stepped, &mut report);
+    assert_eq!(answer.map(|()| report), step_words(&mut expected), "{state:?}");
+    assert_eq!(stepped, expected, "{state:?}");
 }
 
 #[test]

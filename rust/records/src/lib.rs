@@ -4,6 +4,8 @@
 
 #![forbid(unsafe_code)]
 
+pub mod layout;
+
 /// Why a call was refused: the number of document 01 and the index that it gives with it.
 #[derive(Clone, Copy, Debug, PartialEq, Eq)]
 pub struct Refusal {
@@ -50,73 +52,6 @@ impl Task {
     pub const fn new(separation: u32, budget: u32, offset: u32) -> Task {
         Task { separation, budget, offset, deadline: 0 }
     }
-}
-
-/// Sixteen places for tasks, field by field, of which the first `count` are used.
-#[derive(Clone, Debug, PartialEq, Eq)]
-pub struct Tasks {
-    pub count: usize,
-    pub separation: [u32; 16],
-    pub budget: [u32; 16],
-    pub offset: [u32; 16],
-    pub deadline: [u32; 16],
-}
-
-impl Tasks {
-    /// These tasks, at most sixteen, and zeros in the other places.
-    pub fn new(tasks: &[Task]) -> Tasks {
-        let mut places = Tasks::zeros(tasks.len());
-        for (place, &task) in tasks.iter().enumerate() {
-            places.set(place, task);
-        }
-        places
-    }
-
-    /// So many tasks, and zeros in every place.
-    pub const fn zeros(count: usize) -> Tasks {
-        Tasks { count, separation: [0; 16], budget: [0; 16], offset: [0; 16], deadline: [0; 16] }
-    }
-
-    /// The task in a place, used or not.
-    pub fn at(&self, place: usize) -> Task {
-        Task {
-            separation: self.separation[place],
-            budget: self.budget[place],
-            offset: self.offset[place],
-            deadline: self.deadline[place],
-        }
-    }
-
-    pub fn set(&mut self, place: usize, task: Task) {
-        self.separation[place] = task.separation;
-        self.budget[place] = task.budget;
-        self.offset[place] = task.offset;
-        self.deadline[place] = task.deadline;
-    }
-}
-
-/// The engine's state with every place of it, used or not, so that any state can be handed over:
-/// places 16 × i to 16 × i + 15 are those of task i, oldest job first.
-#[derive(Clone, Debug, PartialEq, Eq)]
-pub struct State {
-    /// The edition of the table part: 1, or 2 with deadlines.
-    pub edition: u8,
-    /// Whether slack was offered.
-    pub offered: bool,
-    /// m.
-    pub cores: usize,
-    pub labels: [u8; 8],
-    /// n, and the tasks.
-    pub tasks: Tasks,
-    pub slack: [u32; 16],
-    pub clock: u32,
-    /// How many unfinished jobs each task holds.
-    pub jobs: [usize; 16],
-    /// Whether a release of the task was taken, and the last taken one's tick.
-    pub released: [bool; 16],
-    pub last: [u32; 16],
-    pub remaining: [u32; 256],
-    pub release: [u32; 256],
 }
 
 /// A core on which nothing ran.

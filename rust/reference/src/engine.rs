@@ -1,7 +1,7 @@
 //! Document 01's part "The engine": a release and a step, with refusals 18 to 23.
 
-use crate::state::{Job, LAST_TICK, MOST_JOBS, broken, known, queue, set_queue};
-use records::{Refusal, Report, State};
+use crate::state::{Job, LAST_TICK, MOST_JOBS, State, broken, known, queue, set_queue};
+use records::{Refusal, Report};
 
 /// What a release answers, and the state that it hands back.
 #[derive(Clone, Debug, PartialEq, Eq)]
@@ -70,15 +70,15 @@ fn test_step(state: &State) -> Result<(), Refusal> {
 fn test_release(state: &State, task: usize, demand: u32) -> Result<(), Refusal> {
     test_step(state)?;
     // 20: "The loop isn't in the table."
-    if task >= state.tasks.count {
+    if task >= state.count {
         return Err(Refusal::whole(20));
     }
     // 21: "The demand is not 1 to C."
-    if !(1..=state.tasks.budget[task]).contains(&demand) {
+    if !(1..=state.tasks[task].budget).contains(&demand) {
         return Err(Refusal::whole(21));
     }
     // 22: "The loop's last taken release is less than T ticks ago."
-    if state.released[task] && state.clock - state.last[task] < state.tasks.separation[task] {
+    if state.released[task] && state.clock - state.last[task] < state.tasks[task].separation {
         return Err(Refusal::whole(22));
     }
     // 23: "The loop already holds 16 jobs".
@@ -104,7 +104,7 @@ pub struct Head {
 pub fn heads(state: &State) -> Vec<Head> {
     let head = |task: usize| {
         let release = u64::from(queue(state, task).first()?.release);
-        let point = release + u64::from(state.tasks.offset[task]);
+        let point = release + u64::from(state.tasks[task].offset);
         Some(Head { point, release, task })
     };
     let mut heads: Vec<Head> = known(state).filter_map(head).collect();

@@ -19,8 +19,9 @@ mod state;
 mod table;
 mod text;
 mod wish;
+mod words;
 
-pub use records::{IDLE, Refusal, Report, State, Task, Tasks};
+pub use records::{IDLE, Refusal, Report, Task};
 
 pub use convert::{convert, convert_into};
 pub use engine::{Head, Released, Stepped, heads, release, step};
@@ -29,7 +30,8 @@ pub use log_run::{Outcome, outcomes, run_log};
 pub use plan::{Plan, counted_into, judge, judge_into, write};
 pub use sentence::{sentence, sentence_into};
 pub use slack::Analysis;
-pub use state::{Clause, Job, LAST_TICK, MOST_JOBS, broken, known, open, queue, set_queue};
+pub use state::{Clause, Job, LAST_TICK, MOST_JOBS, State, broken, known, open, queue, set_queue};
 pub use table::{Table, is_few};
 pub use text::text;
 pub use wish::{wish, wish_by_trying, wish_into};
+pub use words::{Words, open_words, release_words, state_in, step_words, words_of};

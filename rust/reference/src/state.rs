@@ -1,7 +1,32 @@
 //! The engine's state, and document 01's "A state is *sound* if …", clause by clause.
 
 use crate::{Plan, Table, judge};
-use records::{State, Task, Tasks};
+use records::Task;
+
+/// The engine's state with every place of it, used or not, so that any state can be handed over:
+/// places 16 × i to 16 × i + 15 are those of task i, oldest job first.
+#[derive(Clone, Debug, PartialEq, Eq)]
+pub struct State {
+    /// The edition of the table part: 1, or 2 with deadlines.
+    pub edition: u8,
+    /// Whether slack was offered.
+    pub offered: bool,
+    /// m.
+    pub cores: usize,
+    /// n.
+    pub count: usize,
+    pub labels: [u8; 8],
+    pub tasks: [Task; 16],
+    pub slack: [u32; 16],
+    pub clock: u32,
+    /// How many unfinished jobs each task holds.
+    pub jobs: [usize; 16],
+    /// Whether a release of the task was taken, and the last taken one's tick.
+    pub released: [bool; 16],
+    pub last: [u32; 16],
+    pub remaining: [u32; 256],
+    pub release: [u32; 256],
+}
 
 /// "its clock is at most 4,000,000,000"
 pub const LAST_TICK: u32 = 4_000_000_000;
@@ -36,7 +61,7 @@ pub fn set_queue(state: &mut State, task: usize, jobs: &[Job]) {
 
 /// The tasks that are in the table.
 pub fn known(state: &State) -> std::ops::Range<usize> {
-    0..state.tasks.count.min(16)
+    0..state.count.min(16)
 }
 
 /// The clauses of the sentence, in its order.
@@ -67,7 +92,7 @@ const CLAUSES: [(Clause, Holds); 11] = [
     (Clause::Apart, releases_are_apart),
     (Clause::ReleaseAfterClock, |state| every_job(state, |_, job| job.release <= state.clock)),
     (Clause::Work, |state| {
-        every_job(state, |i, job| (1..=state.tasks.budget[i]).contains(&job.remaining))
+        every_job(state, |i, job| (1..=state.tasks[i].budget).contains(&job.remaining))
     }),
     (Clause::LastAfterClock, |state| every(|i| state.last[i] <= state.clock)),
     (Clause::Newest, last_is_newest),
@@ -92,7 +117,7 @@ fn every_job(state: &State, holds: impl Fn(usize, Job) -> bool) -> bool {
 /// is marked as offered fails by 11, and one marked as found by 12 where some slack is not 0.
 fn table_passes(state: &State) -> bool {
     match table_part(state).map(|table| judge(&table.bytes())) {
-        Some(Ok(plan)) => plan.slack == state.slack[..state.tasks.count],
+        Some(Ok(plan)) => plan.slack == state.slack[..state.count],
         _ => false,
     }
 }
@@ -100,8 +125,8 @@ fn table_passes(state: &State) -> bool {
 /// The used entries of the table part, where there are places for so many.
 fn table_part(state: &State) -> Option<Table> {
     let labels = state.labels.get(..state.cores)?.to_vec();
-    let offer = state.slack.get(..state.tasks.count)?;
-    let tasks = (0..state.tasks.count).map(|i| state.tasks.at(i)).collect();
+    let offer = state.slack.get(..state.count)?;
+    let tasks = state.tasks.get(..state.count)?.to_vec();
     let slack = if state.offered { offer.to_vec() } else { Vec::new() };
     Some(Table { edition: state.edition, labels, tasks, slack })
 }
@@ -111,9 +136,8 @@ fn table_part(state: &State) -> Option<Table> {
 fn table_is_tidy(state: &State) -> bool {
     let zero = Task::new(0, 0, 0);
     let labels = state.labels.iter().skip(state.cores).all(|&label| label == 0);
-    let unused =
-        |i: usize| i < state.tasks.count || state.tasks.at(i) == zero && state.slack[i] == 0;
-    let deadlines = state.edition != 1 || every(|i| state.tasks.deadline[i] == 0);
+    let unused = |i: usize| i < state.count || state.tasks[i] == zero && state.slack[i] == 0;
+    let deadlines = state.edition != 1 || every(|i| state.tasks[i].deadline == 0);
     labels && every(unused) && deadlines
 }
 
@@ -130,7 +154,7 @@ fn places_are_tidy(state: &State) -> bool {
 /// "each loop's pending releases rise by at least T", so that they stand "oldest first".
 fn releases_are_apart(state: &State) -> bool {
     every(|i| {
-        let separation = u64::from(state.tasks.separation[i]);
+        let separation = u64::from(state.tasks[i].separation);
         let apart =
             |pair: &[Job]| u64::from(pair[0].release) + separation <= u64::from(pair[1].release);
         queue(state, i).windows(2).all(apart)
@@ -152,8 +176,9 @@ pub fn open(plan: &Plan) -> State {
         edition: plan.edition,
         offered: plan.offered,
         cores: plan.labels.len(),
+        count: plan.tasks.len(),
         labels: [0; 8],
-        tasks: Tasks::new(&plan.tasks),
+        tasks: [Task::new(0, 0, 0); 16],
         slack: [0; 16],
         clock: 0,
         jobs: [0; 16],
@@ -163,6 +188,7 @@ pub fn open(plan: &Plan) -> State {
         release: [0; 256],
     };
     state.labels[..plan.labels.len()].copy_from_slice(&plan.labels);
+    state.tasks[..plan.tasks.len()].copy_from_slice(&plan.tasks);
     state.slack[..plan.tasks.len()].copy_from_slice(&plan.slack);
     state
 }

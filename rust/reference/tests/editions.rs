@@ -186,7 +186,8 @@ fn a_state_has_the_edition_and_the_deadlines_of_its_plan() {
     let plan = judge(&p1([24, 25, 110]).bytes()).expect("the table is accepted");
     let state = open(&plan);
     assert_eq!(state.edition, 2);
-    assert_eq!(state.tasks.deadline[..4], [24, 25, 110, 0]);
+    let deadlines = state.tasks.map(|task| task.deadline);
+    assert_eq!(deadlines[..4], [24, 25, 110, 0]);
     let released = release(&state, 0, 9);
     assert_eq!(released.answer, Ok(()));
     let stepped = step(&released.state);
@@ -223,7 +224,7 @@ fn the_deadlines_of_a_sound_state() {
     for place in 0..16 {
         let with = |deadline| {
             let mut states = [first.clone(), second.clone()];
-            states.iter_mut().for_each(|state| state.tasks.deadline[place] = deadline);
+            states.iter_mut().for_each(|state| state.tasks[place].deadline = deadline);
             states.map(|state| broken(&state))
         };
         let (tidy, table) = (vec![Clause::UnusedInTable], vec![Clause::Table]);

@@ -4,12 +4,15 @@ use crate::Random;
 use crate::editions::LONGEST_DEADLINE;
 use reference::{LAST_TICK, MOST_JOBS, State, Task};
 
+/// The largest count that a word has.
+const LARGEST: usize = u32::MAX as usize;
+
 type Damage = fn(&mut Random, &mut State);
 
 const DAMAGES: [Damage; 24] = [
     edition,
     deadline_in_table,
-    |random, state| state.tasks.deadline[outside(random, state)] = deadline(random),
+    |random, state| state.tasks[outside(random, state)].deadline = deadline(random),
     |random, state| state.slack[in_table(random, state)] ^= 1,
     |_, state| state.offered ^= true,
     |random, state| {
@@ -20,8 +23,8 @@ const DAMAGES: [Damage; 24] = [
         let core = random.index(state.cores.max(1));
         state.labels[core] = random.pick(&[0, 63, 64, 255]);
     },
-    |random, state| state.cores = random.pick(&[0, 1, 2, 8, 9, usize::MAX]),
-    |random, state| state.tasks.count = random.pick(&[0, 2, state.cores, 15, 16, 17, usize::MAX]),
+    |random, state| state.cores = random.pick(&[0, 1, 2, 8, 9, LARGEST]),
+    |random, state| state.count = random.pick(&[0, 2, state.cores, 15, 16, 17, LARGEST]),
     entry,
     unused_label,
     unused_task,
@@ -32,7 +35,7 @@ const DAMAGES: [Damage; 24] = [
     tick_without_release,
     |random, state| state.clock = random.pick(&[LAST_TICK + 1, u32::MAX]),
     |random, state| {
-        state.jobs[in_table(random, state)] = random.pick(&[17, 18, 32, 256, usize::MAX]);
+        state.jobs[in_table(random, state)] = random.pick(&[17, 18, 32, 256, LARGEST]);
     },
     too_close,
     work,
@@ -49,12 +52,12 @@ pub fn damaged_state(random: &mut Random, mut state: State) -> State {
 }
 
 fn in_table(random: &mut Random, state: &State) -> usize {
-    random.index(state.tasks.count.clamp(1, 16))
+    random.index(state.count.clamp(1, 16))
 }
 
 /// A task that is not in the table, or the last one where all are.
 fn outside(random: &mut Random, state: &State) -> usize {
-    let first = state.tasks.count.min(15);
+    let first = state.count.min(15);
     first + random.index(16 - first)
 }
 
@@ -74,9 +77,10 @@ fn edition(random: &mut Random, state: &mut State) {
 fn deadline_in_table(random: &mut Random, state: &mut State) {
     let deadline = deadline(random);
     if random.once_in(4) {
-        state.tasks.deadline[..state.tasks.count.min(16)].fill(deadline);
+        let used = state.count.min(16);
+        state.tasks[..used].iter_mut().for_each(|task| task.deadline = deadline);
     } else {
-        state.tasks.deadline[in_table(random, state)] = deadline;
+        state.tasks[in_table(random, state)].deadline = deadline;
     }
 }
 
@@ -88,18 +92,12 @@ fn deadline(random: &mut Random) -> u32 {
 /// A number of an entry at, just above or far above what it may be.
 fn entry(random: &mut Random, state: &mut State) {
     let place = random.index(16);
-    let Task { separation, budget, offset, .. } = state.tasks.at(place);
-    let tasks = &mut state.tasks;
+    let Task { separation, budget, offset, .. } = state.tasks[place];
+    let task = &mut state.tasks[place];
     match random.index(3) {
-        0 => {
-            tasks.separation[place] =
-                random.pick(&[0, budget, 100_001, separation.saturating_add(1)]);
-        }
-        1 => tasks.budget[place] = random.pick(&[0, separation.saturating_add(1), u32::MAX]),
-        _ => {
-            tasks.offset[place] =
-                random.pick(&[separation.saturating_add(1), offset ^ 1, u32::MAX]);
-        }
+        0 => task.separation = random.pick(&[0, budget, 100_001, separation.saturating_add(1)]),
+        1 => task.budget = random.pick(&[0, separation.saturating_add(1), u32::MAX]),
+        _ => task.offset = random.pick(&[separation.saturating_add(1), offset ^ 1, u32::MAX]),
     }
 }
 
@@ -111,9 +109,9 @@ fn unused_label(random: &mut Random, state: &mut State) {
 fn unused_task(random: &mut Random, state: &mut State) {
     let task = outside(random, state);
     match random.index(4) {
-        0 => state.tasks.separation[task] = 1,
-        1 => state.tasks.budget[task] = 1,
-        2 => state.tasks.offset[task] = 1,
+        0 => state.tasks[task].separation = 1,
+        1 => state.tasks[task].budget = 1,
+        2 => state.tasks[task].offset = 1,
         _ => state.slack[task] = 1,
     }
 }
@@ -141,14 +139,14 @@ fn tick_without_release(random: &mut Random, state: &mut State) {
 fn too_close(random: &mut Random, state: &mut State) {
     if let Some(task) = with_jobs(random, state, 2) {
         let second = MOST_JOBS * task + 1;
-        state.release[second - 1] = state.release[second] + 1 - state.tasks.separation[task];
+        state.release[second - 1] = state.release[second] + 1 - state.tasks[task].separation;
     }
 }
 
 fn work(random: &mut Random, state: &mut State) {
     if let Some(task) = with_jobs(random, state, 1) {
         let place = MOST_JOBS * task + random.index(state.jobs[task]);
-        state.remaining[place] = random.pick(&[0, state.tasks.budget[task] + 1, u32::MAX]);
+        state.remaining[place] = random.pick(&[0, state.tasks[task].budget + 1, u32::MAX]);
     }
 }
 

@@ -30,6 +30,7 @@ mod offering_tables;
 mod plain_tables;
 mod random;
 mod refusals;
+mod set_words;
 mod slow_sheets;
 mod sound_states;
 mod tight_tables;
@@ -56,8 +57,9 @@ pub use refusals::{
     LAST_NUMBER, Told, cut_at_zeros, cut_elsewhere, exchanged, known_refusal, one_bit_apart,
     one_digit_apart, unknown_refusal,
 };
+pub use set_words::{FIELDS, SETTINGS, SetWord, set_words};
 pub use slow_sheets::{deep_sheets, slow_sheets};
-pub use sound_states::{accepted_plan, brisk, busy, sound, tied};
+pub use sound_states::{accepted_plan, brisk, busy, ready, sound, tied};
 pub use tight_tables::{any_tight, overfull, tight};
 pub use wish_sheets::{
     any_sheet, edge_sheets, end_sheet, few_sheet, roomy_sheet, tight_edge_sheets, tight_sheet,

@@ -75,12 +75,23 @@ pub fn tied(random: &mut Random, plan: &Plan) -> State {
 
 /// A sound state in which every task of the plan holds 16 jobs.
 pub fn busy(random: &mut Random, plan: &Plan) -> State {
+    pending(random, plan, MOST_JOBS, 0)
+}
+
+/// A sound state in which every task of the plan holds 15 jobs and can be released.
+pub fn ready(random: &mut Random, plan: &Plan) -> State {
+    pending(random, plan, MOST_JOBS - 1, 1)
+}
+
+/// A sound state in which every task holds so many jobs, its last release at least `ago` times its
+/// separation before the clock.
+fn pending(random: &mut Random, plan: &Plan, jobs: usize, ago: u32) -> State {
     let mut state = open(plan);
     let longest = plan.tasks.iter().map(|task| task.separation).max().expect("a plan has tasks");
     state.clock = random.between(40 * longest, LAST_TICK - 100_000);
     for (task, entry) in plan.tasks.iter().enumerate() {
-        let newest = state.clock - random.between(0, entry.separation);
-        pend(random, &mut state, task, Some(newest), MOST_JOBS);
+        let newest = state.clock - ago * entry.separation - random.between(0, entry.separation);
+        pend(random, &mut state, task, Some(newest), jobs);
     }
     state
 }
@@ -113,7 +124,7 @@ fn newest(random: &mut Random, clock: u32, separation: u32) -> Option<u32> {
 /// The task's last taken release, with up to so many pending jobs before and at it, their releases
 /// exactly or more than T apart.
 fn pend(random: &mut Random, state: &mut State, task: usize, newest: Option<u32>, jobs: usize) {
-    let Task { separation, budget, .. } = state.tasks.at(task);
+    let Task { separation, budget, .. } = state.tasks[task];
     state.released[task] = newest.is_some();
     state.last[task] = newest.unwrap_or(0);
     let mut queue = Vec::new();

@@ -1,2 +1,0 @@
-// States in the making.
-pub mod made;

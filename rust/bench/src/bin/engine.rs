@@ -1,0 +1,7 @@
+//! Times the engine's step and release.
+
+#![forbid(unsafe_code)]
+
+fn main() {
+    bench::engine::run();
+}
