@@ -1,0 +1,3 @@
+pub mod Controller
+pub mod KeptWords
+pub mod ControllerLaws
