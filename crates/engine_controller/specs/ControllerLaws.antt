@@ -7,14 +7,14 @@
 --     controller-history                   the claim of all histories, of the C calls
 --     controller-responses                 each response that a step leaves is at most its loop's bound
 use Prim.Native.Nat.{ℕ, zero, suc, _+_, _*_, _/_, _≤_, _<_}
-use mathlib.Core.Bool.{Bool, true, false, not, cond, _&&_}
+use mathlib.Core.Bool.{Bool, true, false, not, _&&_}
 use mathlib.Core.Path.{_≡_, refl, sym, ap, subst, _∙_}
 use mathlib.Core.Option.{Option}
 use mathlib.Core.List.{List, [], _∷_}
 use native.Mathlib.Omega.{arith}
 use lib.Dec.{eqb}
 use lib.ListN.{replicate}
-use borrow.Author.Tests.{ne-eqb, eqb-true}
+use borrow.Author.Tests.{ne-eqb}
 use Rattle.laws.specs.Member.{member}
 use Rattle.tasks.specs.declared.Answer.{Answer}
 use Rattle.tasks.specs.declared.Answer.the-variants.{Accepted, Refused}
@@ -26,17 +26,16 @@ use Rattle.table.specs.Judged.{judged}
 use Rattle.machine.specs.Machine.{within, crowded, idle}
 use Rattle.machine.specs.Admission.{unknown, badDemand, joinTests, admitTests}
 use Rattle.state.specs.declared.State.{State}
-use Rattle.state.specs.declared.Stepped.{Stepped}
 use Rattle.state.specs.State.{machineOf}
 use Rattle.state.specs.SoundState.{allOf, soundOf}
 use Rattle.state.specs.Calls.{tasksOf, openOf, releaseOf, releaseTests, stepOf, stepTests, notStepped}
-use Rattle.history.specs.Engine.{taken, refused, outcomeOf, Call, clock, state, HistoryClaim}
+use Rattle.history.specs.Engine.{outcomeOf, Call, clock, state, HistoryClaim}
 use Rattle.history.specs.Mirror.{Mirrors, like, mirror-history}
 use Rattle.delivered.specs.Delivered.{namesAsRunning, nothingPending}
 use Rattle.delivered.specs.Demand3.{runOn, demand-histories}
 use Rattle.delivered.specs.Responses.{demand-responses}
 use Rattle.dahomike_answer.specs.Number.{answerNumber}
-use Rattle.engine_words.specs.Words.{part, fieldsIn}
+use Rattle.engine_words.specs.Words.{fieldsIn}
 use Rattle.engine_words.specs.PartLaws.{row-part}
 use Rattle.engine_lent.specs.Lent.{openLeaves, releaseNumber, releaseLeaves, stepNumber, stepLeaves, runsLeave, responsesLeave}
 use Rattle.engine_lent.specs.LentLaws.{fit-said, step-answer}

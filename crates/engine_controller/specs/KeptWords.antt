@@ -5,15 +5,15 @@
 --     step-says, release-says, open-says        the words that a call leaves say the state that the engine's call hands back
 use Prim.Native.Nat.{ℕ, _≤_, _<_}
 use mathlib.Core.Bool.{Bool, true, false, not, _||_, true≢false}
-use mathlib.Core.Path.{_≡_, refl, sym, ap, subst, _∙_}
+use mathlib.Core.Path.{_≡_, refl, sym, ap, _∙_}
 use mathlib.Core.Logic.{⊎-elim}
 use mathlib.Core.List.{List}
 use native.Mathlib.Omega.{arith}
 use lib.Dec.{eqb}
 use lib.ListN.{getD}
 use borrow.Author.Tests.{le-leb, eqb-true}
-use Rattle.laws.specs.Tab.{tab, cut}
-use Rattle.laws.specs.TabLaws.{getD-tab, cut-below, cut-above}
+use Rattle.laws.specs.Tab.{cut}
+use Rattle.laws.specs.TabLaws.{getD-tab, cut-above}
 use Rattle.laws.specs.EveryLaws.{below-or-not}
 use Rattle.tasks.specs.declared.Plan.{Plan}
 use Rattle.tasks.specs.declared.Answer.{Answer}

@@ -1,24 +1,24 @@
 -- Laws of the C calls on lent words.
---     misfit-tests                      words that do not fit meet 18
---     fit-said                          words that fit say their fields
---     sound-jobs                        no loop of a sound state holds more than 16 jobs
---     Taken                             a state that a call that isn't refused hands back
---     release-taken, step-taken         what a release and a step hand back
---     taken-words                       the words behind the plan's, stored over the lent ones
+--     fit-said                                  words that fit say their fields
+--     misfit-tests, misfit-step, misfit-release     words that do not fit meet 18
+--     sound-jobs                                no loop of a sound state holds more than 16 jobs
+--     step-answer                               a step's answer is that of its tests
+--     step-plan, release-plan                   a step and a release leave the plan as it is
+--     step-jobs, release-jobs                   and leave no loop with more than 16 jobs
+--     over-said                                 the words behind the plan's, stored over the lent ones
 use Prim.Native.Nat.{ℕ, _≤_, _<_}
-use mathlib.Core.Bool.{Bool, true, false, cond, not, _&&_, _||_}
+use mathlib.Core.Bool.{true, false, _&&_}
 use mathlib.Core.Path.{_≡_, refl, sym, ap, _∙_}
 use mathlib.Core.List.{List}
-use native.Mathlib.Omega.{arith}
 use lib.ListN.{length}
 use lib.Seq.{sets}
-use lib.Dec.{leb, eqb}
+use lib.Dec.{leb}
 use borrow.Author.Tests.{leb-true}
 use Rattle.laws.specs.EveryLaws.{both}
 use Rattle.tasks.specs.declared.Answer.{Answer}
 use Rattle.tasks.specs.declared.Answer.the-variants.{Accepted, Refused}
 use Rattle.tasks.specs.TaskSet.{row}
-use Rattle.tasks.specs.Tests.{firstMet, testPlan, unlessRefused}
+use Rattle.tasks.specs.Tests.{firstMet, testPlan}
 use Rattle.tasks.specs.AnswerLaws.{firstMet-passed}
 use Rattle.state.specs.declared.State.{State}
 use Rattle.state.specs.State.{stateOf}
@@ -29,7 +29,7 @@ use Rattle.state.specs.CallLaws.{step-passed}
 use Rattle.state.specs.Fit.{Shaped}
 use Rattle.state.specs.SoundKept.{release-sound, step-sound}
 use Rattle.engine_words.specs.Words.{wordsOf, machineWords, fits, fieldsIn, said}
-use Rattle.engine_words.specs.WordsLaws.{Whole, words-said, said-whole, misfit-unsound}
+use Rattle.engine_words.specs.WordsLaws.{words-said, misfit-unsound}
 use Rattle.engine_words.specs.StoredLaws.{machine-over}
 
 pub fit-said : (ws : List ℕ) → fits ws ≡ true → said ws ≡ fieldsIn ws

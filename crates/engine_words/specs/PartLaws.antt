@@ -1,7 +1,6 @@
 -- Laws of some of the words: `part ws at n` has n words from `at` on.
 --     length-part        it has n words
 --     part-all           all of a list's words
---     part-none          no words
 --     part-next          a part and the one behind it
 --     row-left, row-right      a word of the first, and of the second, of two lists put together
 --     part-left, part-right    the same of a part

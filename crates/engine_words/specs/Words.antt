@@ -1,5 +1,4 @@
 -- The engine's state as 653 words of 32 bits, which a controller in C lends: the words of a state, and the state that words say.
---     stateWords          how many words a state has
 --     flagWord, taskWords, planWords, machineWords, wordsOf      a flag, a task, a plan, the rest of a state, and a state as words
 --     part                some of the words
 --     isByte, isFlag, fits     whether a word is in the range of a byte or a flag, and whether every word is in the range of its field
@@ -17,9 +16,6 @@ use Rattle.numbers.specs.Bytes.{entries}
 use Rattle.state.specs.declared.State.{State}
 use Rattle.state.specs.State.{flagAt, zeroState}
 use Rattle.state.specs.SoundState.{allOf}
-
-abbrev pub stateWords : ℕ
-stateWords = 653
 
 -- "0 or 1"
 unfoldable pub flagWord : Bool → ℕ

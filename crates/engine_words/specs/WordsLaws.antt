@@ -10,17 +10,17 @@
 --     said-whole                  any words say a state with all its places
 --     misfit-unsound              words that do not fit say a state that is not sound
 use Prim.Native.Nat.{ℕ, zero, suc, _+_, _*_, _≤_, _<_}
-use mathlib.Core.Bool.{Bool, true, false, cond, _&&_}
+use mathlib.Core.Bool.{Bool, true, false, _&&_}
 use mathlib.Core.Path.{_≡_, refl, sym, ap, subst, _∙_}
 use mathlib.Core.List.{List, [], _∷_, _++_}
 use native.Mathlib.Nat.{add-zero}
 use native.Mathlib.Omega.{arith}
 use lib.ListN.{length, length-append, length-replicate}
-use lib.Dec.{leb, eqb}
-use borrow.Author.Tests.{leb-true, le-leb, eqb-true, eqb-false, eq-eqb, ne-eqb}
+use lib.Dec.{eqb}
+use borrow.Author.Tests.{leb-true}
 use Rattle.laws.specs.Tab.{tab}
 use Rattle.laws.specs.TabLaws.{length-tab, getD-tab, getD-alike, tab-ext, ext-tab}
-use Rattle.laws.specs.EveryLaws.{both, and-both}
+use Rattle.laws.specs.EveryLaws.{both}
 use Rattle.tasks.specs.declared.Task.{Task}
 use Rattle.tasks.specs.declared.Plan.{Plan}
 use Rattle.tasks.specs.TaskSet.{row}

@@ -1,6 +1,4 @@
 -- `dahomike_engine::put_state` meets its contract.
-use mathlib.Core.Path.{ap, _∙_}
-use native.Mathlib.Omega.{arith}
 use borrow.Author.Needs.{needs}
 use Rattle.engine_words.specs.StoredLaws.{state-stored}
 use Rattle.dahomike_engine.proofs.put_state.Statement.{statement}

@@ -1,6 +1,4 @@
 -- `engine_store::put::flag` meets its contract.
-use mathlib.Core.Path.{sym, ap}
-use borrow.Author.Needs.{needs}
 use Rattle.engine_words.specs.Words.{flagWord}
 use Rattle.engine_store.proofs.put.flag.Statement.{statement}
 use Rattle.engine_store.proofs.put.flag.Tie as tie

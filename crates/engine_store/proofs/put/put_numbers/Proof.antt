@@ -1,5 +1,5 @@
 -- `engine_store::put::put_numbers` meets its contract; the loop's invariant says what its turns so far have made.
-use Prim.Native.Nat.{_+_, _-_, _≤_}
+use Prim.Native.Nat.{_-_, _≤_}
 use mathlib.Core.Path.{_≡_, refl}
 use native.Mathlib.Omega.{arith}
 use lib.Seq.{sets}

@@ -1,5 +1,4 @@
 -- `engine_store::put::put_plan` meets its contract.
-use mathlib.Core.Path.{_∙_}
 use borrow.Author.Needs.{needs}
 use Rattle.engine_words.specs.StoredLaws.{plan-stored}
 use Rattle.engine_store.proofs.put.put_plan.Statement.{statement}
