@@ -1,9 +1,10 @@
 // Lines that make a call and print its case under the name at the line's end.
+use state::State;
 use tasks::Plan;
 use test_converts::converted;
 use test_engine::calls;
 use test_engine::lent::lent;
-use test_engine::made::Job;
+use test_engine::made::busy;
 use test_logs::run;
 use test_script::buffer::FILL;
 use test_script::buffer::untouched;
@@ -113,21 +114,15 @@ fn lend(plan: Plan, words: &[u8]) {
     let left = number(words, older.next);
     let newer = number(words, left.next);
     let whole = number(words, newer.next);
-    let first = Job {
-        release: narrow(older.value),
-        work: narrow(left.value),
-    };
-    let second = Job {
-        release: narrow(newer.value),
-        work: narrow(whole.value),
-    };
-    lent(
-        rest(words, whole.next),
+    let state: State = busy(
         plan,
         narrow(clock.value),
-        first,
-        second,
+        narrow(older.value),
+        narrow(left.value),
+        narrow(newer.value),
+        narrow(whole.value),
     );
+    lent(rest(words, whole.next), state);
 }
 
 // A call of the plan: an opening, or a step of a lent state. Whether the line is one.

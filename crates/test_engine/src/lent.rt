@@ -1,12 +1,9 @@
 // A case of `step_in_place`: what it answers and leaves in the lent state, beside what `step` hands back.
 use crate::calls::answered;
-use crate::made::Job;
-use crate::made::busy;
 use crate::same::same_state;
 use crate::same::same_step;
 use state::State;
 use state::Stepped;
-use tasks::Plan;
 use test_script::say;
 
 // The answer of a call, and the state that was lent to it.
@@ -24,10 +21,8 @@ fn lend(mut state: State) -> After {
     both(stepped, state)
 }
 
-// The state is the plan's at this tick, with a job of loop 0 and one of loop 1.
-pub fn lent(name: &[u8], plan: Plan, clock: u32, first: Job, second: Job) {
+pub fn lent(name: &[u8], state: State) {
     say::case(b"lent ", name);
-    let state = busy(plan, clock, first, second);
     let left = lend(state);
     let stepped = left.stepped;
     let there = left.state;

@@ -3,22 +3,16 @@ use state::State;
 use tasks::Plan;
 use tidy::no_plan;
 
-// A job's release and its remaining work, right or wrong.
-pub struct Job {
-    pub release: u32,
-    pub work: u32,
-}
-
-// A loop holds this job alone; a place that the record doesn't have changes nothing.
-fn one(mut state: State, i: usize, job: Job) -> State {
+// A loop holds one job, with this release and this remaining work; a place that the record doesn't have changes nothing.
+fn one(mut state: State, i: usize, release: u32, work: u32) -> State {
     if i >= 16 {
         return state;
     }
     state.jobs[i] = 1;
     state.released[i] = true;
-    state.last[i] = job.release;
-    state.release[16 * i] = job.release;
-    state.remaining[16 * i] = job.work;
+    state.last[i] = release;
+    state.release[16 * i] = release;
+    state.remaining[16 * i] = work;
     state
 }
 
@@ -27,10 +21,15 @@ fn at(mut state: State, clock: u32) -> State {
     state
 }
 
-// A plan opened, at this tick, with a job of loop 0 and one of loop 1.
-pub fn busy(plan: Plan, clock: u32, first: Job, second: Job) -> State {
+// A plan opened, at this tick, with a job of loop 0 and one of loop 1: release and remaining work of each, right or wrong.
+pub fn busy(plan: Plan, clock: u32, older: u32, left: u32, newer: u32, whole: u32) -> State {
     let opened = engine::open(plan);
-    one(one(at(opened.state, clock), 0, first), 1, second)
+    one(
+        one(at(opened.state, clock), 0, older, left),
+        1,
+        newer,
+        whole,
+    )
 }
 
 // "A refused … opening hands back a … state of zeros".
