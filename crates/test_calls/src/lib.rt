@@ -4,6 +4,7 @@ use tasks::Plan;
 use test_converts::converted;
 use test_engine::calls;
 use test_engine::lent::lent;
+use test_engine::made::busy;
 use test_logs::run;
 use test_script::buffer::FILL;
 use test_script::buffer::untouched;
@@ -17,6 +18,10 @@ use test_tables::judged;
 use test_tables::written;
 use test_wishes::wished;
 use test_world::world::World;
+
+fn narrow(value: u64) -> u32 {
+    (value % 4294967296) as u32
+}
 
 fn say_printed(buffer: &[u8; text::LONGEST], length: usize) {
     say::text(front(buffer, length));
@@ -38,7 +43,7 @@ fn convert(table: &[u8], words: &[u8]) {
     converted(
         rest(words, room.next),
         table,
-        (edition.value % 4294967296) as u32,
+        narrow(edition.value),
         room.value as usize,
     );
 }
@@ -70,8 +75,8 @@ fn sentence(words: &[u8]) {
     let value = number(words, index.next);
     say::case(b"sentence ", rest(words, value.next));
     told(
-        (refusal.value % 4294967296) as u32,
-        (index.value % 4294967296) as u32,
+        narrow(refusal.value),
+        narrow(index.value),
         value.value,
         room.value as usize,
     );
@@ -102,14 +107,32 @@ fn of_table(table: &[u8], what: &[u8], words: &[u8]) -> bool {
     false
 }
 
-// A call of the engine: an opening of the plan, or a step of the lent state. Whether the line is one.
-fn of_engine(plan: Plan, state: State, what: &[u8], words: &[u8]) -> bool {
+// `lent CLOCK RELEASE WORK RELEASE WORK NAME`: the plan at this tick with a job of loop 0 and one of loop 1, lent to `step_in_place`.
+fn lend(plan: Plan, words: &[u8]) {
+    let clock = number(words, 0);
+    let older = number(words, clock.next);
+    let left = number(words, older.next);
+    let newer = number(words, left.next);
+    let whole = number(words, newer.next);
+    let state: State = busy(
+        plan,
+        narrow(clock.value),
+        narrow(older.value),
+        narrow(left.value),
+        narrow(newer.value),
+        narrow(whole.value),
+    );
+    lent(rest(words, whole.next), state);
+}
+
+// A call of the plan: an opening, or a step of a lent state. Whether the line is one.
+fn of_plan(plan: Plan, what: &[u8], words: &[u8]) -> bool {
     if check::same(what, b"open") {
         calls::open(words, plan);
         return true;
     }
     if check::same(what, b"lent") {
-        lent(words, state);
+        lend(plan, words);
         return true;
     }
     false
@@ -121,8 +144,7 @@ pub fn act(world: World, what: &[u8], words: &[u8]) {
     let table = front(&bytes, draft.length);
     let log = world.log;
     let plan = world.plan;
-    let state = world.state;
-    if of_table(table, what, words) || of_engine(plan, state, what, words) {
+    if of_table(table, what, words) || of_plan(plan, what, words) {
         return;
     }
     if check::same(what, b"write") {

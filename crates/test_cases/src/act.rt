@@ -5,7 +5,6 @@ use test_script::line::rest;
 use test_script::say;
 use test_world::drafts;
 use test_world::plans;
-use test_world::states;
 use test_world::world::World;
 
 // A line that has no meaning is printed, so that the output shows it.
@@ -26,9 +25,6 @@ fn about(world: World, subject: &[u8], what: &[u8], words: &[u8], line: &[u8]) -
     }
     if check::same(subject, b"plan") {
         return plans::act(world, what, words);
-    }
-    if check::same(subject, b"state") {
-        return states::act(world, what, words);
     }
     if check::same(subject, b"call") {
         test_calls::act(world, what, words);

@@ -1,5 +1,4 @@
-// What the lines of a script make: a table and a log, a plan, and a state.
+// What the lines of a script make: a table and a log, and a plan.
 pub mod drafts;
 pub mod plans;
-pub mod states;
 pub mod world;

@@ -3,10 +3,10 @@
 //!
 //! Show tables: valid ones, tight ones, ones with an H near its limit, ones that offer slack around
 //! compliance, ones with no more loops than cores, ones of loops alike, faulty ones and damaged
-//! bytes. Engine states: sound ones, among them ones with equal priority points, and ones damaged
-//! in one clause of soundness. Release logs: ones that keep their table, ones that do not, ones
-//! with equal priority points, and damaged bytes. Refusals to be told: of known and of unknown
-//! numbers, and pairs that differ in little.
+//! bytes. Engine states: sound ones, among them ones with equal priority points, ones damaged in one
+//! clause of soundness, and words of which one is set. Release logs: ones that keep their table,
+//! ones that do not, ones with equal priority points, and damaged bytes. Refusals to be told: of
+//! known and of unknown numbers, and pairs that differ in little.
 //! Wish sheets: ones with room, ones at the edge of having a solution, ones with wishes at the ends
 //! of their range, faulty ones, and the slowest that were found. Tables to be converted: ones that
 //! can be, ones that meet 29, 30 or 31, and faulty ones; with the editions wanted of them. Of tables,
