@@ -40,7 +40,7 @@ pub flag-word : (w : ℕ) → isFlag w ≡ true → flagWord (eqb w 1) ≡ w
 unfolding flagWord
 flag-word zero e = refl
 flag-word (suc zero) e = refl
-flag-word (suc (suc w)) e = absurd (omega (arith, leb-true (suc (suc w)) 1 e))
+flag-word (suc (suc w)) e = absurd (omega (arith, leb-true (suc (suc w)) _ e))
 
 pub word-flag : (b : Bool) → eqb (flagWord b) 1 ≡ b
 unfolding flagWord
