@@ -102,9 +102,9 @@ uint64_t dahomike_engine_release(uint32_t state[DAHOMIKE_STATE_WORDS], uint32_t 
  *
  * Answers 0 or the refusal: 18 or 19.
  *
- * How long a step takes: it goes over loops, cores and job places a fixed number of times, and tests the table part as a judgement does.
- * The judgement's search for slack, made where slack was found (word 1 is 0), takes as many rounds as it takes for the table. So every step
- * on one table takes about the same time, and that time can be measured once. Where slack was offered there is no search.
+ * How long a step takes: it has no loop but over loops, cores and job places, and the test of the table part, which is a judgement's. Where
+ * slack was found (word 1 is 0) that test searches for it anew, in as many rounds as a judgement of the table takes; where slack was offered
+ * there is no search.
  */
 uint64_t dahomike_engine_step(uint32_t state[DAHOMIKE_STATE_WORDS], uint8_t runs[8], uint32_t responses[16]);
 
