@@ -26,11 +26,16 @@ def listed(tree):
 
 
 def offered(tree):
-    """The calls of the table, `crate::name(…)`, each with its line; those without a crate are the C functions of `dahomike`."""
+    """The calls of the table, `crate::name(…)`, each with its line; those without a crate are the C functions of the two libraries."""
     for number, line in enumerate(tree.text.get(PAGE, "").splitlines(), 1):
         call = CALL.match(line)
         if call:
-            yield number, call.group(1) or "dahomike", call.group(2)
+            yield number, call.group(1) or library(call.group(2)), call.group(2)
+
+
+def library(name):
+    """The crate that exports a C function."""
+    return "dahomike_engine" if name.startswith("dahomike_engine_") else "dahomike"
 
 
 def check(tree):
