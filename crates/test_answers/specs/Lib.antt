@@ -1,2 +1,3 @@
-pub mod Numbers
 pub mod Carried
+pub mod Numbers
+pub mod Controlled

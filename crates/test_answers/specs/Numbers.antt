@@ -50,7 +50,7 @@ pub record Answered : Type 0 where
   pub answer : ℕ
   pub must : ℕ
 
-abbrev gives : ℕ → ℕ → Answered
+abbrev pub gives : ℕ → ℕ → Answered
 gives answer must = record { answer = answer; must = must }
 
 -- P1 as a table of edition 1, with this slack offered
