@@ -6,7 +6,7 @@
 --     p3-room              and no release is answered 23
 use Prim.Native.Nat.{ℕ, _-_, _≤_, _<_}
 use mathlib.Core.Bool.{_&&_}
-use mathlib.Core.Path.{_≡_, subst}
+use mathlib.Core.Path.{_≡_, ap, subst}
 use mathlib.Core.List.{List, [], _∷_, _++_}
 use lib.ListN.{length, replicate}
 use lib.Dec.{T, eqb, eqb→eq}
@@ -26,11 +26,11 @@ use Rattle.table.specs.Judged.{countedIn, judged}
 use Rattle.state.specs.State.{zeroState}
 use Rattle.state.specs.SoundState.{allOf, soundOf}
 use Rattle.state.specs.Calls.{stepTests, releaseTests, releaseOf, notStepped, stepOf}
-use Rattle.history.specs.Engine.{refused, Call, clock, state, verdict as asked}
+use Rattle.history.specs.Engine.{Call, clock, state, verdict as asked}
 use Rattle.dahomike_answer.specs.Number.{answerNumber}
 use Rattle.engine_words.specs.Words.{fits, planIn, fieldsIn, said}
 use Rattle.engine_lent.specs.Lent.{openNumber, releaseNumber, stepNumber, responsesLeave}
-use Rattle.engine_controller.specs.Controller.{controllerOf}
+use Rattle.engine_controller.specs.Controller.{outcomeIn, controllerOf}
 use Rattle.engine_controller.specs.ControllerLaws.{controller-history, controller-responses}
 use Rattle.worked.specs.Cases.{p1, p3, concat, tableWith, sameAnswer, parts, accepts}
 use Rattle.test_answers.specs.Numbers.{Answered, gives, answerAll}
@@ -80,5 +80,7 @@ module _ (ws : List ℕ) (h : List Call) where
       subst (λ b. row (responsesLeave (state (controllerOf p3Table ws) h) lent) 2 ≤ b) (eqb→eq (bound3 2) 4 (three .1))
       (controller-responses p3Table ws p3-accepted h lent 2 e)
 
-  pub p3-room : (i c : ℕ) → clock h < 4000000000 → asked (controllerOf p3Table ws) h i c ≡ refused 23 → ⊥
-  p3-room i c l = controller-history p3Table ws p3-accepted .never-23 h i c l
+  -- 23 × 4,294,967,296
+  pub p3-room : (i c : ℕ) → clock h < 4000000000 → releaseNumber (state (controllerOf p3Table ws) h) i c ≡ 98784247808 → ⊥
+  unfolding asked outcomeIn
+  p3-room i c l e = controller-history p3Table ws p3-accepted .never-23 h i c l (ap outcomeIn e)
