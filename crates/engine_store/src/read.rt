@@ -7,11 +7,11 @@ ghost use mathlib.Core.Path.{_≡_};
 ghost use mathlib.Core.Bool.{true};
 ghost use Prim.Native.Nat.{_+_, _*_, _≤_};
 ghost use lib.ListN.{length};
-ghost use lib.Dec.{eqb};
+ghost use lib.Dec.{leb, eqb};
 ghost use Rattle.laws.specs.Tab.{tab};
 ghost use Rattle.tasks.specs.TaskSet.{row};
 ghost use Rattle.state.specs.SoundState.{allOf};
-ghost use Rattle.engine_words.specs.Words.{part, isByte, isFlag, fits, taskIn, planIn, fieldsIn};
+ghost use Rattle.engine_words.specs.Words.{part, fits, taskIn, planIn, fieldsIn};
 
 // A caller learns from it that lent words are 653, which a reference to an array does not say. Nothing is left of it in the compiled code.
 pub fn sized(words: [u32; 653])
@@ -33,25 +33,14 @@ fn byte(word: u32) -> u8
     word as u8
 }
 
-fn labels_fit(words: &[u32; 653]) -> bool
-    ensures { λ r. ⌜ r ≡ allOf (λ i. isByte (row (now (words .entry)) (4 + i))) 8 ⌝ }
+// Whether `count` words from `at` on are at most `high`.
+fn at_most(words: &[u32; 653], at: usize, count: usize, high: u32) -> bool
+    requires { ⌜ at + count ≤ 653 ⌝ }
+    ensures { λ r. ⌜ r ≡ allOf (λ i. leb (row (now (words .entry)) (at + i)) high) count ⌝ }
 {
     let mut i = 0;
-    while i < 8 {
-        if 255 < words[4 + i] {
-            return false;
-        }
-        i += 1;
-    }
-    true
-}
-
-fn flags_fit(words: &[u32; 653]) -> bool
-    ensures { λ r. ⌜ r ≡ allOf (λ i. isFlag (row (now (words .entry)) (109 + i))) 16 ⌝ }
-{
-    let mut i = 0;
-    while i < 16 {
-        if 1 < words[109 + i] {
+    while i < count {
+        if high < words[at + i] {
             return false;
         }
         i += 1;
@@ -69,10 +58,10 @@ pub fn fit(words: &[u32; 653]) -> bool
     if 1 < words[1] {
         return false;
     }
-    if !labels_fit(words) {
+    if !at_most(words, 4, 8, 255) {
         return false;
     }
-    flags_fit(words)
+    at_most(words, 109, 16, 1)
 }
 
 fn labels(words: &[u32; 653]) -> [u8; 8]

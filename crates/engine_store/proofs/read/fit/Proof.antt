@@ -25,7 +25,7 @@ returns-3 c =
     rw (
       le-leb (row w 0) 255 (e .before .before .if1 .left),
       le-leb (row w 1) 1 (e .if2 .left),
-      sym (c .before .labels-fit .ensures) ∙ not-true _ (c .if3 .taken),
+      sym (c .before .at-most .ensures) ∙ not-true _ (c .if3 .taken),
     )
 
 returns-4 : tie.Need-returns-4
@@ -36,9 +36,9 @@ returns-4 c =
     rw (
       le-leb (row w 0) 255 (e .before .before .if1 .left),
       le-leb (row w 1) 1 (e .if2 .left),
-      sym (c .before .before .labels-fit .ensures) ∙ not-false _ (c .before .if3 .left),
+      sym (c .before .before .at-most .ensures) ∙ not-false _ (c .before .if3 .left),
     )
-    (c .flags-fit .ensures)
+    (c .at-most2 .ensures)
 
 pub fit-spec : {M : Type 1} → statement M
 fit-spec =

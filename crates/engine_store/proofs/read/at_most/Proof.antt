@@ -1,22 +1,22 @@
--- `engine_store::read::labels_fit` meets its contract; the loop's invariant says what its turns so far have made.
+-- `engine_store::read::at_most` meets its contract; the loop's invariant says what its turns so far have made.
 use Prim.Native.Nat.{_+_, _-_, _≤_}
 use mathlib.Core.Bool.{true}
 use mathlib.Core.Path.{_≡_, refl, sym}
 use native.Mathlib.Omega.{arith}
+use lib.Dec.{leb}
 use borrow.Author.Tests.{le-leb, lt-leb}
 use borrow.Author.Needs.{needs}
 use Rattle.tasks.specs.TaskSet.{row}
 use Rattle.state.specs.SoundState.{allOf}
 use Rattle.clauses.specs.SoundTests.{all-more, all-fails}
-use Rattle.engine_words.specs.Words.{isByte}
-use Rattle.engine_store.proofs.read.labels_fit.Statement.{statement}
-use Rattle.engine_store.proofs.read.labels_fit.Tie as tie
+use Rattle.engine_store.proofs.read.at_most.Statement.{statement}
+use Rattle.engine_store.proofs.read.at_most.Tie as tie
 
 abbrev Inv-loop : tie.InvT-loop
-Inv-loop words i₀ i = (i ≤ 8) × (allOf (λ j. isByte (row words (4 + j))) i ≡ true)
+Inv-loop words at count high i₀ i = (i ≤ count) × (allOf (λ j. leb (row words (at + j)) high) i ≡ true)
 
 abbrev μ-loop : tie.MeasureT-loop
-μ-loop words i₀ i = 8 - i
+μ-loop words at count high i₀ i = count - i
 
 loop-holds : tie.Need-loop-holds Inv-loop μ-loop
 unfolding allOf
@@ -24,19 +24,24 @@ loop-holds c = (omega arith, refl)
 
 returns : tie.Need-returns Inv-loop μ-loop
 unfolding row
-returns c = sym (all-fails _ 8 (c .before .before .before .loop .i) (omega arith) (lt-leb _ _ (c .if1 .taken)))
+returns c =
+    let l = c .before .before .before .loop in
+    sym (all-fails _ (c .before .before .before .before .args .count) (l .i) (omega arith) (lt-leb _ _ (c .if1 .taken)))
 
 loop-again : tie.Need-loop-again Inv-loop μ-loop
 unfolding row
-loop-again c = (omega arith, all-more _ (c .before .before .before .loop .i) (c .before .before .before .loop .inv .1) (le-leb (row (c .before .before .before .before .args .words .now) (4 + c .before .before .before .loop .i)) 255 (omega arith)))
+loop-again c =
+    let l = c .before .before .before .loop in
+    let a = c .before .before .before .before .args in
+    (omega arith, all-more _ (l .i) (l .inv .1) (le-leb (row (a .words .now) (a .at + l .i)) (a .high) (omega arith)))
 
 returns-2 : tie.Need-returns-2 Inv-loop μ-loop
 returns-2 c =
-    let e : c .before .loop .i ≡ 8 = omega arith in
+    let e : c .before .loop .i ≡ c .before .before .args .count = omega arith in
     sym (rw e at (c .before .loop .inv .1))
 
-pub labels-fit-spec : {M : Type 1} → statement M
-labels-fit-spec =
+pub at-most-spec : {M : Type 1} → statement M
+at-most-spec =
     tie.close
     (tie.spec
     Inv-loop
