@@ -1,91 +1,84 @@
-// A tick and a release, of a state that is sound: for callers that keep soundness by proof.
+// A tick and a release, of a state that is sound: for callers that keep soundness by proof. They change the state's arrays where these lie.
 use choice::choose;
 use choice::keys;
 use service::join;
 use service::serve;
-use state::State;
-use state::Stepped;
-use tasks::Answer;
-ghost use mathlib.Core.Path.{_≡_};
-ghost use mathlib.Core.Bool.{true};
-ghost use Prim.Native.Nat.{_<_};
+use tasks::Plan;
+ghost use mathlib.Core.Bool.{Bool};
+ghost use mathlib.Core.List.{List};
+ghost use Prim.Native.Nat.{ℕ, _<_};
 ghost use Rattle.tasks.specs.TaskSet.{row};
-ghost use Rattle.machine.specs.Machine.{admitted};
-ghost use Rattle.state.specs.State.{stateOf, machineOf};
-ghost use Rattle.state.specs.SoundState.{soundOf};
-ghost use Rattle.state.specs.Calls.{tasksOf, tickedOf};
+ghost use Rattle.tasks.specs.declared.Plan.{Plan};
+ghost use Rattle.state.specs.Parts.{stateFrom};
+ghost use Rattle.advance.specs.Advanced.{Ready, Ticked, Admitted};
 
-pub fn tick(state: State) -> Stepped
-    requires { ⌜ (soundOf state ≡ true) × (state .clock < 4000000000) ⌝ }
-    ensures { λ r. ⌜ r ≡ tickedOf (state .plan) (tasksOf state) (machineOf state) ⌝ }
+// What a tick says: the task that ran on each core, or 255 for an idle one, and the responses of the tasks that finished.
+pub struct Ran {
+    pub runs: [u8; 8],
+    pub responses: [u32; 16],
+}
+
+pub fn tick(
+    plan: Plan,
+    clock: u32,
+    jobs: &mut [usize; 16],
+    remaining: &mut [u32; 256],
+    release: &mut [u32; 256],
+) -> Ran
+    requires { ⌜ ((released : List Bool) × (last : List ℕ) × Ready (stateFrom plan clock (now jobs) released last (now remaining) (now release))) × (clock < 4000000000) ⌝ }
+    ensures { λ r. ⌜
+        ((released : List Bool) (last : List ℕ)
+        → Ready (stateFrom plan clock (now (jobs .entry)) released last (now (remaining .entry)) (now (release .entry)))
+        → Ticked (stateFrom plan clock (now (jobs .entry)) released last (now (remaining .entry)) (now (release .entry)))
+        (now (jobs .exit)) (now (remaining .exit)) (now (release .exit)) (r .runs) (r .responses))
+        ⌝ }
 {
-    let plan = state.plan;
     let task = plan.task;
-    let cores = plan.cores;
     let tasks = plan.tasks;
-    let finish = state.clock + 1;
-    let mut jobs = state.jobs;
-    let released = state.released;
-    let last = state.last;
-    let mut remaining = state.remaining;
-    let mut release = state.release;
-    let mut left = keys(&jobs, &release, task, tasks);
-    let runs = choose(&mut left, cores, tasks);
+    let mut left = keys(jobs, release, task, tasks);
+    let runs = choose(&mut left, plan.cores, tasks);
     let mut responses = [0u32; 16];
+    let finish = clock + 1;
     serve(
         finish,
         &left,
-        &mut jobs,
-        &mut remaining,
-        &mut release,
+        jobs,
+        remaining,
+        release,
         &mut responses,
         tasks,
     );
-    Stepped {
-        answer: Answer::Accepted,
-        state: State {
-            plan,
-            clock: finish,
-            jobs,
-            released,
-            last,
-            remaining,
-            release,
-        },
-        runs,
-        responses,
-    }
+    Ran { runs, responses }
 }
 
 // "A taken release adds one job, released at the clock, with its demand as remaining work"
-pub fn admit(state: State, task: usize, demand: u32) -> State
-    requires { ⌜ (soundOf state ≡ true) × (task < 16) × (row (state .jobs) task < 16) ⌝ }
-    ensures { λ r. ⌜ r ≡ stateOf (state .plan) (admitted task demand (machineOf state)) ⌝ }
+pub fn admit(
+    task: usize,
+    clock: u32,
+    demand: u32,
+    jobs: &mut [usize; 16],
+    released: &mut [bool; 16],
+    last: &mut [u32; 16],
+    remaining: &mut [u32; 256],
+    release: &mut [u32; 256],
+)
+    requires { ⌜ (task < 16) × (row (now jobs) task < 16) ⌝ }
+    ensures { λ _. ⌜
+        ((plan : Plan)
+        → Ready (stateFrom plan clock (now (jobs .entry)) (now (released .entry)) (now (last .entry)) (now (remaining .entry)) (now (release .entry)))
+        → Admitted task demand
+        (stateFrom plan clock (now (jobs .entry)) (now (released .entry)) (now (last .entry)) (now (remaining .entry)) (now (release .entry)))
+        (now (jobs .exit)) (now (released .exit)) (now (last .exit)) (now (remaining .exit)) (now (release .exit)))
+        ⌝ }
 {
-    let plan = state.plan;
-    let clock = state.clock;
-    let mut jobs = state.jobs;
-    let mut released = state.released;
-    let mut last = state.last;
-    let mut remaining = state.remaining;
-    let mut release = state.release;
     join(
         task,
         clock,
         demand,
-        &mut jobs,
-        &mut released,
-        &mut last,
-        &mut remaining,
-        &mut release,
-    );
-    State {
-        plan,
-        clock,
         jobs,
         released,
         last,
         remaining,
         release,
-    }
+    );
 }

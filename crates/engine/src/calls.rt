@@ -16,25 +16,73 @@ use tasks::limits;
 use tasks::refusal;
 use tidy::tidied;
 ghost use mathlib.Core.Path.{_≡_};
-ghost use Rattle.state.specs.Calls.{openOf, stepTests, releaseOf, stepOf};
+ghost use mathlib.Core.List.{List};
+ghost use Prim.Native.Nat.{ℕ, _≤_};
+ghost use Rattle.machine.specs.Admission.{admitTests};
+ghost use Rattle.state.specs.State.{machineOf};
+ghost use Rattle.state.specs.Parts.{stateFrom};
+ghost use Rattle.state.specs.Calls.{openOf, tasksOf, stepTests, releaseOf, stepOf};
 
-// 18 and 19.
-fn step_test(state: State) -> Answer
-    ensures { λ r. ⌜ r ≡ stepTests state ⌝ }
+// 18 and 19 of the state that has these fields.
+fn step_test(
+    plan: Plan,
+    clock: u32,
+    jobs: &[usize; 16],
+    released: &[bool; 16],
+    last: &[u32; 16],
+    remaining: &[u32; 256],
+    release: &[u32; 256],
+) -> Answer
+    ensures { λ r. ⌜ r ≡ stepTests (stateFrom plan clock (now (jobs .entry)) (now (released .entry)) (now (last .entry)) (now (remaining .entry)) (now (release .entry))) ⌝ }
 {
-    if !sound(state) {
+    if !sound(plan, clock, jobs, released, last, remaining, release) {
         return Answer::Refused {
             number: refusal::STATE_NOT_SOUND,
             index: 0,
         };
     }
-    if state.clock == limits::CLOCK_END {
+    if clock == limits::CLOCK_END {
         return Answer::Refused {
             number: refusal::CLOCK_AT_ITS_END,
             index: 0,
         };
     }
     Answer::Accepted
+}
+
+// 20 to 23 of a loop of the state that has these fields: what is left and when it was released is not looked at.
+fn task_test(
+    plan: Plan,
+    clock: u32,
+    jobs: &[usize; 16],
+    released: &[bool; 16],
+    last: &[u32; 16],
+    task: usize,
+    demand: u32,
+) -> Answer
+    requires { ⌜ plan .tasks ≤ 16 ⌝ }
+    ensures { λ r. ⌜
+        ((remaining release : List ℕ)
+        → r
+        ≡ admitTests
+        (tasksOf (stateFrom plan clock (now (jobs .entry)) (now (released .entry)) (now (last .entry)) remaining release))
+        (machineOf (stateFrom plan clock (now (jobs .entry)) (now (released .entry)) (now (last .entry)) remaining release))
+        task demand)
+        ⌝ }
+{
+    let tasks = plan.tasks;
+    if tasks <= task {
+        return Answer::Refused {
+            number: refusal::TASK_NOT_IN_TABLE,
+            index: 0,
+        };
+    }
+    let all = plan.task;
+    let t = all[task];
+    let held = jobs[task];
+    let flag = released[task];
+    let since = last[task];
+    admission_test(t.separation, t.budget, clock, demand, held, flag, since)
 }
 
 // Opens the engine on a plan.
@@ -58,42 +106,42 @@ pub fn open(plan: Plan) -> Opened
 pub fn release(state: State, task: usize, demand: u32) -> Released
     ensures { λ r. ⌜ r ≡ releaseOf state task demand ⌝ }
 {
-    let answer = step_test(state);
-    let Answer::Accepted = answer else {
-        return Released { answer, state };
-    };
     let plan = state.plan;
-    let tasks = plan.tasks;
-    if tasks <= task {
-        return Released {
-            answer: Answer::Refused {
-                number: refusal::TASK_NOT_IN_TABLE,
-                index: 0,
-            },
-            state,
-        };
-    }
-    let all = plan.task;
-    let t = all[task];
-    let jobs = state.jobs;
-    let released = state.released;
-    let last = state.last;
-    let answer = admission_test(
-        t.separation,
-        t.budget,
-        state.clock,
-        demand,
-        jobs[task],
-        released[task],
-        last[task],
-    );
+    let clock = state.clock;
+    let mut jobs = state.jobs;
+    let mut released = state.released;
+    let mut last = state.last;
+    let mut remaining = state.remaining;
+    let mut release = state.release;
+    let answer = step_test(plan, clock, &jobs, &released, &last, &remaining, &release);
     let Answer::Accepted = answer else {
         return Released { answer, state };
     };
-    let next = admit(state, task, demand);
+    let answer = task_test(plan, clock, &jobs, &released, &last, task, demand);
+    let Answer::Accepted = answer else {
+        return Released { answer, state };
+    };
+    admit(
+        task,
+        clock,
+        demand,
+        &mut jobs,
+        &mut released,
+        &mut last,
+        &mut remaining,
+        &mut release,
+    );
     Released {
         answer: Answer::Accepted,
-        state: next,
+        state: State {
+            plan,
+            clock,
+            jobs,
+            released,
+            last,
+            remaining,
+            release,
+        },
     }
 }
 
@@ -101,7 +149,14 @@ pub fn release(state: State, task: usize, demand: u32) -> Released
 pub fn step(state: State) -> Stepped
     ensures { λ r. ⌜ r ≡ stepOf state ⌝ }
 {
-    let answer = step_test(state);
+    let plan = state.plan;
+    let clock = state.clock;
+    let mut jobs = state.jobs;
+    let released = state.released;
+    let last = state.last;
+    let mut remaining = state.remaining;
+    let mut release = state.release;
+    let answer = step_test(plan, clock, &jobs, &released, &last, &remaining, &release);
     let Answer::Accepted = answer else {
         return Stepped {
             answer,
@@ -110,5 +165,21 @@ pub fn step(state: State) -> Stepped
             responses: [0u32; 16],
         };
     };
-    tick(state)
+    let ran = tick(plan, clock, &mut jobs, &mut remaining, &mut release);
+    let runs = ran.runs;
+    let responses = ran.responses;
+    Stepped {
+        answer: Answer::Accepted,
+        state: State {
+            plan,
+            clock: clock + 1,
+            jobs,
+            released,
+            last,
+            remaining,
+            release,
+        },
+        runs,
+        responses,
+    }
 }

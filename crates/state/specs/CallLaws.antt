@@ -3,7 +3,7 @@
 --     sound-clock, step-passed, step-tasks        what a state that meets neither 18 nor 19 has
 --     step-refused, step-taken                    the answer of a step
 --     admission, admit-none, admit-some           20, and 21 to 23 by the numbers of one loop
---     admission-room                              a release that meets none of them has a place
+--     admission-room, admit-room                  a release that meets none of them has a place, of a loop in the table
 --     release-unsound, release-not, release-taken      the answer of a release
 --     opened-empty, zero-empty, open-refused, open-accepted      an opening
 use Prim.Native.Nat.{ℕ, _≤_, _<_}
@@ -113,6 +113,19 @@ module _ (s : State) (i c : ℕ) where
       (row (s .last) i)
   unfolding admitTests admission tasksOf machineOf laneOf
   admit-some h = rw (in-count (s .plan), lt-leb (s .plan .tasks) i h, in-task (s .plan) i h, length-tab)
+
+  pub admit-room : admitTests (tasksOf s) (machineOf s) i c ≡ Accepted → (i < s .plan .tasks) × (row (s .jobs) i < 16)
+  admit-room q = (known, admission-room _ _ _ _ _ _ _ (sym (admit-some known) ∙ q))
+    where
+      go : (b : Bool) → leb (s .plan .tasks) i ≡ b → i < s .plan .tasks
+      go true h =
+          let w : Refused 20 0 ≡ Accepted = sym (admit-none (leb-true (s .plan .tasks) i h)) ∙ q in
+          let z : _≡_ {A = ℕ} 0 1 = cc in
+          omega arith
+      go false h = leb-false (s .plan .tasks) i h
+
+      known : i < s .plan .tasks
+      known = go (leb (s .plan .tasks) i) refl
 
   pub release-unsound :
       (a : Answer) (k j : ℕ) → a ≡ stepTests s → a ≡ Refused k j → _≡_ {A = Released} (record { answer = a; state = s }) (releaseOf s i c)

@@ -4,6 +4,7 @@ pub mod Calls
 pub mod AllLaws
 pub mod Fit
 pub mod ViewLaws
+pub mod Parts
 pub mod QueueLaws
 pub mod TidyLaws
 pub mod FitLaws

@@ -1,14 +1,23 @@
 -- `engine::calls::release` meets its contract.
-use Rattle.state.specs.CallLaws.{step-passed, step-tasks, admission-room, admit-none, admit-some, release-unsound, release-not, release-taken}
-use Rattle.state.specs.State.{flagAt}
-use Rattle.tasks.specs.Content.{taskOf, noTask}
-use Rattle.tasks.specs.TaskSet.{row}
-use Rattle.tasks.specs.declared.Answer.the-variants.{Refused}
+use Rattle.state.specs.CallLaws.{step-passed, step-tasks, admit-room, release-unsound, release-not, release-taken}
+use Rattle.state.specs.Fit.{Shaped, length-mapped}
 use native.Mathlib.Omega.{arith}
-use mathlib.Core.Path.{refl, sym, _∙_}
+use mathlib.Core.Path.{sym, _∙_}
 use borrow.Author.Needs.{needs}
 use Rattle.engine.proofs.calls.release.Statement.{statement}
 use Rattle.engine.proofs.calls.release.Tie as tie
+
+-- the arrays' lengths, which the state's type has
+shape : (c : tie.Start) → Shaped (c .args .state)
+shape c =
+    record {
+      plan = record { labels = search needs; task = search (needs, length-mapped); slack = search needs };
+      jobs = search needs;
+      released = search needs;
+      last = search needs;
+      remaining = search needs;
+      release = search needs;
+    }
 
 step-test-requires : tie.Need-step-test-requires
 step-test-requires c κs = search needs
@@ -20,34 +29,12 @@ enum-told-2 : tie.Need-enum-told-2
 enum-told-2 c = search needs
 
 returns : tie.Need-returns
-returns c = release-unsound (c .before .before .before .args .state) (c .before .before .before .args .task) (c .before .before .before .args .demand) _ _ _ (c .before .before .step-test .ensures) (c .enum-told2 .given .1)
+returns c =
+    let a = c .before .before .before .before .before .before .before .before .before .before .before .before .before .before .args in
+    release-unsound (a .state) (a .task) (a .demand) _ _ _ (c .before .before .step-test .ensures) (c .enum-told2 .given .1)
 
-returns-2 : tie.Need-returns-2
-returns-2 c = release-not (c .before .before .before .before .before .args .state) (c .before .before .before .before .before .args .task) (c .before .before .before .before .before .args .demand) (sym (c .before .before .before .before .step-test .ensures) ∙ c .before .before .enum-told .given .1) (Refused 20 0) 20 0 (sym (admit-none (c .before .before .before .before .before .args .state) (c .before .before .before .before .before .args .task) (c .before .before .before .before .before .args .demand) (c .if1 .taken))) refl
-
-mul-t : tie.Need-mul-t
-mul-t c = omega (arith, step-tasks (c .before .before .before .before .before .before .args .state) (sym (c .before .before .before .before .before .step-test .ensures) ∙ c .before .before .before .enum-told .given .1))
-
-array-copy-out-t : tie.Need-array-copy-out-t
-array-copy-out-t c = omega (arith, step-tasks (c .before .before .before .before .before .before .args .state) (sym (c .before .before .before .before .before .step-test .ensures) ∙ c .before .before .before .enum-told .given .1))
-
-mul-admission-test : tie.Need-mul-admission-test
-mul-admission-test c = omega (arith, step-tasks (c .before .before .before .before .before .before .before .before .before .before .args .state) (sym (c .before .before .before .before .before .before .before .before .before .step-test .ensures) ∙ c .before .before .before .before .before .before .before .enum-told .given .1))
-
-array-read-admission-test : tie.Need-array-read-admission-test
-array-read-admission-test c = omega (arith, step-tasks (c .before .before .before .before .before .before .before .before .before .before .args .state) (sym (c .before .before .before .before .before .before .before .before .before .step-test .ensures) ∙ c .before .before .before .before .before .before .before .enum-told .given .1))
-
-array-read-admission-test-2 : tie.Need-array-read-admission-test-2
-array-read-admission-test-2 c = omega (arith, step-tasks (c .before .before .before .before .before .before .before .before .before .before .args .state) (sym (c .before .before .before .before .before .before .before .before .before .step-test .ensures) ∙ c .before .before .before .before .before .before .before .enum-told .given .1))
-
-mul-admission-test-2 : tie.Need-mul-admission-test-2
-mul-admission-test-2 c = omega (arith, step-tasks (c .before .before .before .before .before .before .before .before .before .before .args .state) (sym (c .before .before .before .before .before .before .before .before .before .step-test .ensures) ∙ c .before .before .before .before .before .before .before .enum-told .given .1))
-
-array-read-admission-test-3 : tie.Need-array-read-admission-test-3
-array-read-admission-test-3 c = omega (arith, step-tasks (c .before .before .before .before .before .before .before .before .before .before .args .state) (sym (c .before .before .before .before .before .before .before .before .before .step-test .ensures) ∙ c .before .before .before .before .before .before .before .enum-told .given .1))
-
-admission-test-requires : tie.Need-admission-test-requires
-admission-test-requires c κs = search needs
+task-test-requires : tie.Need-task-test-requires
+task-test-requires c κs = step-tasks (c .before .before .before .before .before .before .before .before .before .before .before .before .before .before .before .before .before .args .state) (sym (c .before .before .before .before .before .step-test .ensures) ∙ c .before .before .before .enum-told .given .1)
 
 enum-told-3 : tie.Need-enum-told-3
 enum-told-3 c = search needs
@@ -55,23 +42,27 @@ enum-told-3 c = search needs
 enum-told-4 : tie.Need-enum-told-4
 enum-told-4 c = search needs
 
-returns-3 : tie.Need-returns-3
-unfolding taskOf noTask row flagAt
-returns-3 c = release-not (c .before .before .before .before .before .before .before .before .before .before .before .before .before .args .state) (c .before .before .before .before .before .before .before .before .before .before .before .before .before .args .task) (c .before .before .before .before .before .before .before .before .before .before .before .before .before .args .demand) (sym (c .before .before .before .before .before .before .before .before .before .before .before .before .step-test .ensures) ∙ c .before .before .before .before .before .before .before .before .before .before .enum-told .given .1) _ _ _ (c .before .before .admission-test .ensures ∙ sym (admit-some (c .before .before .before .before .before .before .before .before .before .before .before .before .before .args .state) (c .before .before .before .before .before .before .before .before .before .before .before .before .before .args .task) (c .before .before .before .before .before .before .before .before .before .before .before .before .before .args .demand) (c .before .before .before .before .before .before .before .before .if1 .left))) (c .enum-told4 .given .1)
+returns-2 : tie.Need-returns-2
+returns-2 c =
+    let a = c .before .before .before .before .before .before .before .before .before .before .before .before .before .before .before .before .before .before .before .before .args in
+    let s = a .state in
+    release-not s (a .task) (a .demand) (sym (c .before .before .before .before .before .before .before .before .step-test .ensures) ∙ c .before .before .before .before .before .before .enum-told .given .1) _ _ _
+    (c .before .before .task-test .ensures (s .remaining) (s .release)) (c .enum-told4 .given .1)
 
 admit-requires : tie.Need-admit-requires
-unfolding row
-admit-requires c κs = (
-  step-passed (c .before .before .before .before .before .before .before .before .before .before .before .before .before .args .state) (sym (c .before .before .before .before .before .before .before .before .before .before .before .before .step-test .ensures) ∙ c .before .before .before .before .before .before .before .before .before .before .enum-told .given .1) .0,
-  omega (arith, step-tasks (c .before .before .before .before .before .before .before .before .before .before .before .before .before .args .state) (sym (c .before .before .before .before .before .before .before .before .before .before .before .before .step-test .ensures) ∙ c .before .before .before .before .before .before .before .before .before .before .enum-told .given .1)),
-  admission-room _ _ _ _ _ _ _ (sym (c .before .before .admission-test .ensures) ∙ c .enum-told3 .given .1),
-)
+admit-requires c κs =
+    let a = c .before .before .before .before .before .before .before .before .before .before .before .before .before .before .before .before .before .before .before .before .before .before .before .before .before .args in
+    let s = a .state in
+    let room = admit-room s (a .task) (a .demand) (sym (c .before .before .before .before .before .before .before .task-test .ensures (s .remaining) (s .release)) ∙ c .before .before .before .before .before .enum-told3 .given .1) in
+    (omega (arith, step-tasks s (sym (c .before .before .before .before .before .before .before .before .before .before .before .before .before .step-test .ensures) ∙ c .before .before .before .before .before .before .before .before .before .before .before .enum-told .given .1), room .0), room .1)
 
-returns-4 : tie.Need-returns-4
-unfolding taskOf noTask row flagAt
-returns-4 c =
-    release-taken (c .before .before .before .before .before .before .before .before .before .before .before .before .before .before .args .state) (c .before .before .before .before .before .before .before .before .before .before .before .before .before .before .args .task) (c .before .before .before .before .before .before .before .before .before .before .before .before .before .before .args .demand) (sym (c .before .before .before .before .before .before .before .before .before .before .before .before .before .step-test .ensures) ∙ c .before .before .before .before .before .before .before .before .before .before .before .enum-told .given .1) _
-    (admit-some (c .before .before .before .before .before .before .before .before .before .before .before .before .before .before .args .state) (c .before .before .before .before .before .before .before .before .before .before .before .before .before .before .args .task) (c .before .before .before .before .before .before .before .before .before .before .before .before .before .before .args .demand) (c .before .before .before .before .before .before .before .before .before .if1 .left) ∙ sym (c .before .before .before .admission-test .ensures) ∙ c .before .enum-told3 .given .1) (c .admit .ensures)
+returns-3 : tie.Need-returns-3
+returns-3 c =
+    let a = c .before .before .before .before .before .before .before .before .before .before .before .before .before .before .before .before .before .before .before .before .before .before .before .before .before .before in
+    let s = a .args .state in
+    let p = sym (c .before .before .before .before .before .before .before .before .before .before .before .before .before .before .step-test .ensures) ∙ c .before .before .before .before .before .before .before .before .before .before .before .before .enum-told .given .1 in
+    release-taken s (a .args .task) (a .args .demand) p _ (sym (c .before .before .before .before .before .before .before .before .task-test .ensures (s .remaining) (s .release)) ∙ c .before .before .before .before .before .before .enum-told3 .given .1)
+    (c .admit .ensures (s .plan) (record { shape = shape a; sound = step-passed s p .0 }))
 
 pub release-spec : {M : Type 1} → statement M
 release-spec =
@@ -81,17 +72,9 @@ release-spec =
     enum-told
     enum-told-2
     returns
-    returns-2
-    mul-t
-    array-copy-out-t
-    mul-admission-test
-    array-read-admission-test
-    array-read-admission-test-2
-    mul-admission-test-2
-    array-read-admission-test-3
-    admission-test-requires
+    task-test-requires
     enum-told-3
     enum-told-4
-    returns-3
+    returns-2
     admit-requires
-    returns-4)
+    returns-3)
