@@ -2,10 +2,15 @@
 use dahomike_answer::refused;
 use engine::open;
 use engine::release;
-use engine::step;
+use engine::step_fields;
 use engine_store::put::put_machine;
 use engine_store::put::put_plan;
 use engine_store::read::fit;
+use engine_store::read::flags;
+use engine_store::read::jobs;
+use engine_store::read::numbers;
+use engine_store::read::places;
+use engine_store::read::plan;
 use engine_store::read::read;
 use engine_store::read::sized;
 use state::State;
@@ -121,15 +126,23 @@ pub extern "C" fn dahomike_engine_step(
     if !fit(state) {
         return misfit();
     }
-    let stepped = step(read(state));
-    let answer = stepped.answer;
+    let plan = plan(state);
+    let clock = state[92];
+    let mut jobs = jobs(state);
+    let released = flags(state);
+    let last = numbers(state, 125);
+    let mut remaining = [0u32; 256];
+    places(state, 141, &mut remaining);
+    let mut release = [0u32; 256];
+    places(state, 397, &mut release);
+    let done = step_fields(plan, clock, &mut jobs, &released, &last, &mut remaining, &mut release);
+    let answer = done.answer;
     let Answer::Accepted = answer else {
         return refused(answer);
     };
-    let after = stepped.state;
-    put_rest(state, after);
-    let ran = stepped.runs;
-    let finished = stepped.responses;
+    put_machine(state, clock + 1, &jobs, &released, &last, &remaining, &release);
+    let ran = done.runs;
+    let finished = done.responses;
     *runs = ran;
     *responses = finished;
     0

@@ -20,7 +20,9 @@ ghost use mathlib.Core.List.{List};
 ghost use Prim.Native.Nat.{ℕ, _≤_};
 ghost use Rattle.machine.specs.Admission.{admitTests};
 ghost use Rattle.state.specs.State.{machineOf};
+ghost use Rattle.state.specs.Fit.{Shaped};
 ghost use Rattle.state.specs.Parts.{stateFrom};
+ghost use Rattle.engine.specs.Fields.{FieldsStepped};
 ghost use Rattle.state.specs.Calls.{openOf, tasksOf, stepTests, releaseOf, stepOf};
 
 // 18 and 19 of the state that has these fields.
@@ -145,6 +147,48 @@ pub fn release(state: State, task: usize, demand: u32) -> Released
     }
 }
 
+// What a step over a state's arrays answers; where it is refused, every core is idle and no task finished.
+pub struct Ticked {
+    pub answer: Answer,
+    pub runs: [u8; 8],
+    pub responses: [u32; 16],
+}
+
+// A step of the state that has these fields, over its arrays where they lie. What a refused one leaves in them is the caller's again.
+pub fn step_fields(
+    plan: Plan,
+    clock: u32,
+    jobs: &mut [usize; 16],
+    released: &[bool; 16],
+    last: &[u32; 16],
+    remaining: &mut [u32; 256],
+    release: &mut [u32; 256],
+) -> Ticked
+    requires { ⌜ Shaped (stateFrom plan clock (now jobs) (now released) (now last) (now remaining) (now release)) ⌝ }
+    ensures { λ r. ⌜
+        FieldsStepped
+        (stateFrom plan clock (now (jobs .entry)) (now (released .entry)) (now (last .entry)) (now (remaining .entry)) (now (release .entry)))
+        (r .answer) (now (jobs .exit)) (now (remaining .exit)) (now (release .exit)) (r .runs) (r .responses)
+        ⌝ }
+{
+    let answer = step_test(plan, clock, jobs, released, last, remaining, release);
+    let Answer::Accepted = answer else {
+        return Ticked {
+            answer,
+            runs: [255u8; 8],
+            responses: [0u32; 16],
+        };
+    };
+    let ran = tick(plan, clock, jobs, remaining, release);
+    let runs = ran.runs;
+    let responses = ran.responses;
+    Ticked {
+        answer: Answer::Accepted,
+        runs,
+        responses,
+    }
+}
+
 // Steps the engine by one tick.
 pub fn step(state: State) -> Stepped
     ensures { λ r. ⌜ r ≡ stepOf state ⌝ }
@@ -156,7 +200,8 @@ pub fn step(state: State) -> Stepped
     let last = state.last;
     let mut remaining = state.remaining;
     let mut release = state.release;
-    let answer = step_test(plan, clock, &jobs, &released, &last, &remaining, &release);
+    let done = step_fields(plan, clock, &mut jobs, &released, &last, &mut remaining, &mut release);
+    let answer = done.answer;
     let Answer::Accepted = answer else {
         return Stepped {
             answer,
@@ -165,9 +210,8 @@ pub fn step(state: State) -> Stepped
             responses: [0u32; 16],
         };
     };
-    let ran = tick(plan, clock, &mut jobs, &mut remaining, &mut release);
-    let runs = ran.runs;
-    let responses = ran.responses;
+    let runs = done.runs;
+    let responses = done.responses;
     Stepped {
         answer: Answer::Accepted,
         state: State {

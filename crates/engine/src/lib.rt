@@ -4,4 +4,6 @@ mod empty;
 
 pub use calls::open;
 pub use calls::release;
+pub use calls::Ticked;
 pub use calls::step;
+pub use calls::step_fields;

@@ -1,7 +1,7 @@
 -- The C calls' answers and the words that they leave behind, from what their code has seen.
 --     open-refused, open-done                           an opening
 --     release-misfit, release-refused, release-done     a release
---     step-misfit, step-refused, step-done              a step, with the two other arrays that are lent to it
+--     step-misfit, step-refused, step-early, step-kept, step-done     a step, with the two other arrays that are lent to it
 --     open-cores, open-tasks, open-jobs                 what fits in a word of an opened state
 use Prim.Native.Nat.{ℕ, _≤_, _<_}
 use mathlib.Core.Bool.{true, false}
@@ -22,15 +22,15 @@ use Rattle.state.specs.declared.Opened.{Opened}
 use Rattle.state.specs.declared.Released.{Released}
 use Rattle.state.specs.declared.Stepped.{Stepped}
 use Rattle.state.specs.State.{stateOf}
-use Rattle.state.specs.Calls.{openOf, releaseOf, stepOf}
-use Rattle.state.specs.CallLaws.{open-limits}
+use Rattle.state.specs.Calls.{openOf, releaseOf, stepTests, stepOf}
+use Rattle.state.specs.CallLaws.{open-limits, step-passed}
 use Rattle.state.specs.KeptLaws.{open-state}
 use Rattle.state.specs.SoundKept.{open-sound}
 use Rattle.dahomike_answer.specs.Number.{answerNumber}
 use Rattle.engine_words.specs.Words.{wordsOf, machineWords, fits, fieldsIn, said}
 use Rattle.engine_words.specs.WordsLaws.{said-whole}
 use Rattle.engine_lent.specs.Lent.{openNumber, openLeaves, releaseNumber, releaseLeaves, stepNumber, stepLeaves, runsLeave, responsesLeave}
-use Rattle.engine_lent.specs.LentLaws.{misfit-step, misfit-release, fit-said, sound-jobs, step-plan, release-plan, step-jobs, release-jobs, over-said}
+use Rattle.engine_lent.specs.LentLaws.{misfit-step, misfit-release, fit-said, sound-jobs, step-answer, step-plan, release-plan, step-jobs, release-jobs, over-said}
 
 -- ---- an opening
 
@@ -120,28 +120,35 @@ module _ (ws runs responses : List ℕ) where
   pub step-misfit : (r : ℕ) → fits ws ≡ false → r ≡ answerNumber (Refused 18 0) 0 → StepLeft r ws runs responses
   step-misfit r f q = not-stepped 18 0 r (misfit-step ws f) q
 
-  module _ (f : fits ws ≡ true) (s : State) (e : s ≡ fieldsIn ws) (d : Stepped) (o : d ≡ stepOf s) where
-    said-stepped : d ≡ stepOf (said ws)
-    said-stepped = o ∙ ap stepOf (e ∙ sym (fit-said ws f))
+  module _ (f : fits ws ≡ true) (s : State) (e : s ≡ fieldsIn ws) (a : Answer) (q : a ≡ stepTests s) where
+    said-same : s ≡ said ws
+    said-same = e ∙ sym (fit-said ws f)
 
-    pub step-refused : (k j r : ℕ) → d .answer ≡ Refused k j → r ≡ answerNumber (d .answer) 0 → StepLeft r ws runs responses
-    step-refused k j r a q =
-        not-stepped k j r (sym (ap (λ (u : Stepped). u .answer) said-stepped) ∙ a) (q ∙ ap (λ (b : Answer). answerNumber b 0) a)
+    answered : stepOf (said ws) .answer ≡ a
+    answered = step-answer (said ws) ∙ ap stepTests (sym said-same) ∙ sym q
 
-    module _ (a : d .answer ≡ Accepted) where
-      stepped : stepOf (said ws) .answer ≡ Accepted
-      stepped = sym (ap (λ (u : Stepped). u .answer) said-stepped) ∙ a
+    pub step-refused : (k j r : ℕ) → a ≡ Refused k j → r ≡ answerNumber a 0 → StepLeft r ws runs responses
+    step-refused k j r b n = not-stepped k j r (answered ∙ b) (n ∙ ap (λ (x : Answer). answerNumber x 0) b)
 
-      pub step-kept : (k : ℕ) → k < 16 → row (d .state .jobs) k ≤ 16
-      step-kept = rw said-stepped (step-jobs (said ws) (said-whole ws .shaped) stepped)
+    module _ (b : a ≡ Accepted) where
+      pub step-early : s .clock < 4000000000
+      step-early = step-passed s (sym q ∙ b) .1
 
-      pub step-done :
-          length ws ≡ 653 → (new : List ℕ) → new ≡ sets ws 92 (machineWords (d .state)) → StepLeft 0 new (d .runs) (d .responses)
-      unfolding stepNumber stepLeaves runsLeave responsesLeave answerNumber
-      step-done l new w = (
-        rw stepped,
-        rw stepped
-            (w ∙ ap (λ (u : Stepped). sets ws 92 (machineWords (u .state))) said-stepped ∙ over-said ws f l (stepOf (said ws) .state) (sym (step-plan (said ws)))),
-        rw stepped (ap (λ (u : Stepped). u .runs) said-stepped),
-        rw stepped (ap (λ (u : Stepped). u .responses) said-stepped),
-      )
+      module _ (d : Stepped) (o : d ≡ stepOf s) where
+        said-stepped : d ≡ stepOf (said ws)
+        said-stepped = o ∙ ap stepOf said-same
+
+        pub step-kept : (k : ℕ) → k < 16 → row (d .state .jobs) k ≤ 16
+        step-kept = rw said-stepped (step-jobs (said ws) (said-whole ws .shaped) (answered ∙ b))
+
+        pub step-done :
+            length ws ≡ 653 → (new : List ℕ) → new ≡ sets ws 92 (machineWords (d .state)) → StepLeft 0 new (d .runs) (d .responses)
+        unfolding stepNumber stepLeaves runsLeave responsesLeave answerNumber
+        step-done l new w =
+            let stepped = answered ∙ b in (
+              rw stepped,
+              rw stepped
+              (w ∙ ap (λ (u : Stepped). sets ws 92 (machineWords (u .state))) said-stepped ∙ over-said ws f l (stepOf (said ws) .state) (sym (step-plan (said ws)))),
+              rw stepped (ap (λ (u : Stepped). u .runs) said-stepped),
+              rw stepped (ap (λ (u : Stepped). u .responses) said-stepped),
+            )

@@ -1,20 +1,23 @@
 -- Laws of the C calls on lent words.
 --     fit-said                                  words that fit say their fields
+--     fields-from                               the fields read from words, as a state
 --     misfit-tests, misfit-step, misfit-release     words that do not fit meet 18
 --     sound-jobs                                no loop of a sound state holds more than 16 jobs
 --     step-answer                               a step's answer is that of its tests
 --     step-plan, release-plan                   a step and a release leave the plan as it is
 --     step-jobs, release-jobs                   and leave no loop with more than 16 jobs
 --     over-said                                 the words behind the plan's, stored over the lent ones
-use Prim.Native.Nat.{ℕ, _≤_, _<_}
-use mathlib.Core.Bool.{true, false, _&&_}
+use Prim.Native.Nat.{ℕ, _+_, _≤_, _<_}
+use mathlib.Core.Bool.{Bool, true, false, _&&_}
 use mathlib.Core.Path.{_≡_, refl, sym, ap, _∙_}
 use mathlib.Core.List.{List}
 use lib.ListN.{length}
 use lib.Seq.{sets}
-use lib.Dec.{leb}
+use lib.Dec.{leb, eqb}
 use borrow.Author.Tests.{leb-true}
+use Rattle.laws.specs.Tab.{tab}
 use Rattle.laws.specs.EveryLaws.{both}
+use Rattle.tasks.specs.declared.Plan.{Plan}
 use Rattle.tasks.specs.declared.Answer.{Answer}
 use Rattle.tasks.specs.declared.Answer.the-variants.{Accepted, Refused}
 use Rattle.tasks.specs.TaskSet.{row}
@@ -22,19 +25,28 @@ use Rattle.tasks.specs.Tests.{firstMet, testPlan}
 use Rattle.tasks.specs.AnswerLaws.{firstMet-passed}
 use Rattle.state.specs.declared.State.{State}
 use Rattle.state.specs.State.{stateOf}
+use Rattle.state.specs.Parts.{stateFrom}
 use Rattle.state.specs.SoundState.{allOf, passes, tidyTest, loopTest, loopSound, placeSound, soundOf}
 use Rattle.state.specs.Calls.{releaseOf, releaseTests, stepOf, stepTests, tickedOf, notStepped}
 use Rattle.state.specs.AllLaws.{all-at}
 use Rattle.state.specs.CallLaws.{step-passed}
 use Rattle.state.specs.Fit.{Shaped}
 use Rattle.state.specs.SoundKept.{release-sound, step-sound}
-use Rattle.engine_words.specs.Words.{wordsOf, machineWords, fits, fieldsIn, said}
+use Rattle.engine_words.specs.Words.{wordsOf, machineWords, part, fits, planIn, fieldsIn, said}
 use Rattle.engine_words.specs.WordsLaws.{words-said, misfit-unsound}
 use Rattle.engine_words.specs.StoredLaws.{machine-over}
 
 pub fit-said : (ws : List ℕ) → fits ws ≡ true → said ws ≡ fieldsIn ws
 unfolding said
 fit-said ws f = rw f
+
+-- the state of the fields that were read from words
+pub fields-from :
+    (ws : List ℕ) {p : Plan} {jobs : List ℕ} {released : List Bool} {last remaining release : List ℕ}
+    → p ≡ planIn ws → jobs ≡ part ws 93 16 → released ≡ tab (λ i. eqb (row ws (109 + i)) 1) 16 → last ≡ part ws 125 16
+    → remaining ≡ part ws 141 256 → release ≡ part ws 397 256 → stateFrom p (row ws 92) jobs released last remaining release ≡ fieldsIn ws
+unfolding fieldsIn
+fields-from ws a b c d e f = rw (a, b, c, d, e, f)
 
 module _ (ws : List ℕ) (f : fits ws ≡ false) where
   pub misfit-tests : stepTests (said ws) ≡ Refused 18 0

@@ -97,7 +97,7 @@ fn tasks(words: &[u32; 653]) -> [Task; 16]
     task
 }
 
-fn numbers(words: &[u32; 653], at: usize) -> [u32; 16]
+pub fn numbers(words: &[u32; 653], at: usize) -> [u32; 16]
     requires { ⌜ at + 16 ≤ 653 ⌝ }
     ensures { λ r. ⌜ r ≡ part (now (words .entry)) at 16 ⌝ }
 {
@@ -110,7 +110,7 @@ fn numbers(words: &[u32; 653], at: usize) -> [u32; 16]
     numbers
 }
 
-fn jobs(words: &[u32; 653]) -> [usize; 16]
+pub fn jobs(words: &[u32; 653]) -> [usize; 16]
     ensures { λ r. ⌜ r ≡ part (now (words .entry)) 93 16 ⌝ }
 {
     let mut jobs = [0usize; 16];
@@ -122,7 +122,7 @@ fn jobs(words: &[u32; 653]) -> [usize; 16]
     jobs
 }
 
-fn flags(words: &[u32; 653]) -> [bool; 16]
+pub fn flags(words: &[u32; 653]) -> [bool; 16]
     ensures { λ r. ⌜ r ≡ tab (λ i. eqb (row (now (words .entry)) (109 + i)) 1) 16 ⌝ }
 {
     let mut flags = [false; 16];
@@ -135,7 +135,7 @@ fn flags(words: &[u32; 653]) -> [bool; 16]
 }
 
 // The 256 words from `at` on. A loop of so many turns fills an array of the caller's.
-fn places(words: &[u32; 653], at: usize, places: &mut [u32; 256])
+pub fn places(words: &[u32; 653], at: usize, places: &mut [u32; 256])
     requires { ⌜ (at + 256 ≤ 653) × (length (now places) ≡ 256) ⌝ }
     ensures { λ _. ⌜ now (places .exit) ≡ part (now (words .entry)) at 256 ⌝ }
 {
@@ -146,7 +146,7 @@ fn places(words: &[u32; 653], at: usize, places: &mut [u32; 256])
     }
 }
 
-fn plan(words: &[u32; 653]) -> Plan
+pub fn plan(words: &[u32; 653]) -> Plan
     requires { ⌜ fits (now words) ≡ true ⌝ }
     ensures { λ r. ⌜ r ≡ planIn (now (words .entry)) ⌝ }
 {

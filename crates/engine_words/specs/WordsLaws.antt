@@ -7,7 +7,7 @@
 --     words-said                  words that fit are the words of the state that they say
 --     words-fit                   the words of a state fit
 --     said-words                  they say that state
---     said-whole                  any words say a state with all its places
+--     fields-shaped, said-whole   the fields in words have their lengths, and any words say a whole state
 --     misfit-unsound              words that do not fit say a state that is not sound
 use Prim.Native.Nat.{ℕ, zero, suc, _+_, _*_, _≤_, _<_}
 use mathlib.Core.Bool.{Bool, true, false, _&&_}
@@ -350,7 +350,7 @@ zero-whole : Whole zeroState
 unfolding zeroState zeroPlan row
 zero-whole = record { shaped = zero-shaped; edition = refl; labels = λ i h. rw (getD-alike {A = ℕ} 8 i 0) }
 
-fields-shaped : (ws : List ℕ) → Shaped (fieldsIn ws)
+pub fields-shaped : (ws : List ℕ) → Shaped (fieldsIn ws)
 unfolding fieldsIn planIn
 fields-shaped ws =
     record {

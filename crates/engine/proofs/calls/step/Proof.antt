@@ -1,9 +1,9 @@
 -- `engine::calls::step` meets its contract.
-use Rattle.state.specs.CallLaws.{step-passed, step-refused, step-taken}
-use Rattle.state.specs.Fit.{Shaped, length-mapped}
-use native.Mathlib.Omega.{arith}
 use mathlib.Core.Path.{sym, _∙_}
+use native.Mathlib.Omega.{arith}
 use borrow.Author.Needs.{needs}
+use Rattle.state.specs.CallLaws.{step-passed, step-refused}
+use Rattle.state.specs.Fit.{Shaped, length-mapped}
 use Rattle.engine.proofs.calls.step.Statement.{statement}
 use Rattle.engine.proofs.calls.step.Tie as tie
 
@@ -19,37 +19,27 @@ shape c =
       release = search needs;
     }
 
-step-test-requires : tie.Need-step-test-requires
-step-test-requires c κs = search needs
-
-enum-told : tie.Need-enum-told
-enum-told c = search needs
-
-enum-told-2 : tie.Need-enum-told-2
-enum-told-2 c = search needs
+step-fields-requires : tie.Need-step-fields-requires
+step-fields-requires c κs = shape (c .before .before .before .before .before .before .before .before .before .before .before)
 
 returns : tie.Need-returns
-returns c = step-refused (c .before .before .before .before .before .before .before .before .before .before .before .before .before .before .args .state) _ _ _ (c .before .before .step-test .ensures) (c .enum-told2 .given .1)
+returns c = step-refused (c .before .before .before .before .before .before .before .before .before .before .before .before .before .before .args .state) _ _ _ (c .before .before .step-fields .ensures .0) (c .enum-told2 .given .1)
 
-tick-requires : tie.Need-tick-requires
-tick-requires c κs =
-    let a = c .before .before .before .before .before .before .before .before .before .before .before .before .before .before .before .before .before in
-    let s = a .args .state in
-    let p = step-passed s (sym (c .before .before .before .before .before .step-test .ensures) ∙ c .before .before .before .enum-told .given .1) in
-    ((s .released, s .last, record { shape = shape a; sound = p .0 }), p .1)
-
-add-t24 : tie.Need-add-t24
-add-t24 c = omega (arith, step-passed (c .before .before .before .before .before .before .before .before .before .before .before .before .before .before .before .before .before .before .before .before .args .state) (sym (c .before .before .before .before .before .before .before .before .step-test .ensures) ∙ c .before .before .before .before .before .before .enum-told .given .1) .1)
+add-t21 : tie.Need-add-t21
+add-t21 c =
+    let d = c .before .before .before .before .step-fields .ensures in
+    omega (arith, step-passed (c .before .before .before .before .before .before .before .before .before .before .before .before .before .before .before .before .args .state) (sym (d .0) ∙ c .before .before .enum-told .given .1) .1)
 
 returns-2 : tie.Need-returns-2
-returns-2 c =
-    let a = c .before .before .before .before .before .before .before .before .before .before .before .before .before .before .before .before .before .before .before .before in
-    let s = a .args .state in
-    let e = c .before .before .before .before .before .before .before .before .step-test .ensures in
-    let t = c .before .before .before .before .before .before .enum-told .given .1 in
-    step-taken s _ _ e t
-    (c .before .before .tick .ensures (s .released) (s .last) (record { shape = shape a; sound = step-passed s (sym e ∙ t) .0 }))
+returns-2 c = c .before .before .before .before .step-fields .ensures .1 (c .before .before .enum-told .given .1)
 
 pub step-spec : {M : Type 1} → statement M
 step-spec =
-    tie.close (tie.spec step-test-requires enum-told enum-told-2 returns tick-requires add-t24 returns-2)
+    tie.close
+    (tie.spec
+    step-fields-requires
+    (λ c. search needs)
+    (λ c. search needs)
+    returns
+    add-t21
+    returns-2)
