@@ -262,6 +262,7 @@ fn unused_places(i: usize, jobs: usize, release: &[u32; 256], remaining: &[u32; 
     zero
 }
 
+// The places of loop `i`. Most loops hold nothing: for them the compiler knows how many places are looked at.
 fn loop_places(
     i: usize,
     separation: u32,
@@ -274,6 +275,9 @@ fn loop_places(
     requires { ⌜ (i < 16) × (jobs ≤ 16) ⌝ }
     ensures { λ r. ⌜ r ≡ allOf (placeIn separation budget clock jobs (now (release .entry)) (now (remaining .entry)) i) 16 ⌝ }
 {
+    if jobs == 0 {
+        return unused_places(i, 0, release, remaining);
+    }
     if !used_places(i, separation, budget, clock, jobs, release, remaining) {
         return false;
     }
