@@ -135,12 +135,28 @@ pub extern "C" fn dahomike_engine_step(
     places(state, 141, &mut remaining);
     let mut release = [0u32; 256];
     places(state, 397, &mut release);
-    let done = step_fields(plan, clock, &mut jobs, &released, &last, &mut remaining, &mut release);
+    let done = step_fields(
+        plan,
+        clock,
+        &mut jobs,
+        &released,
+        &last,
+        &mut remaining,
+        &mut release,
+    );
     let answer = done.answer;
     let Answer::Accepted = answer else {
         return refused(answer);
     };
-    put_machine(state, clock + 1, &jobs, &released, &last, &remaining, &release);
+    put_machine(
+        state,
+        clock + 1,
+        &jobs,
+        &released,
+        &last,
+        &remaining,
+        &release,
+    );
     let ran = done.runs;
     let finished = done.responses;
     *runs = ran;

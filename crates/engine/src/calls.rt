@@ -194,29 +194,36 @@ pub fn step(state: State) -> Stepped
     ensures { λ r. ⌜ r ≡ stepOf state ⌝ }
 {
     let plan = state.plan;
-    let clock = state.clock;
     let mut jobs = state.jobs;
     let released = state.released;
     let last = state.last;
     let mut remaining = state.remaining;
     let mut release = state.release;
-    let done = step_fields(plan, clock, &mut jobs, &released, &last, &mut remaining, &mut release);
-    let answer = done.answer;
+    let ran = step_fields(
+        plan,
+        state.clock,
+        &mut jobs,
+        &released,
+        &last,
+        &mut remaining,
+        &mut release,
+    );
+    let answer = ran.answer;
+    let runs = ran.runs;
+    let responses = ran.responses;
     let Answer::Accepted = answer else {
         return Stepped {
             answer,
             state,
-            runs: [255u8; 8],
-            responses: [0u32; 16],
+            runs,
+            responses,
         };
     };
-    let runs = done.runs;
-    let responses = done.responses;
     Stepped {
         answer: Answer::Accepted,
         state: State {
             plan,
-            clock: clock + 1,
+            clock: state.clock + 1,
             jobs,
             released,
             last,

@@ -2,8 +2,8 @@
 mod calls;
 mod empty;
 
+pub use calls::Ticked;
 pub use calls::open;
 pub use calls::release;
-pub use calls::Ticked;
 pub use calls::step;
 pub use calls::step_fields;

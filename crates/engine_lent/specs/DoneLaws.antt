@@ -148,7 +148,7 @@ module _ (ws runs responses : List ℕ) where
             let stepped = answered ∙ b in (
               rw stepped,
               rw stepped
-              (w ∙ ap (λ (u : Stepped). sets ws 92 (machineWords (u .state))) said-stepped ∙ over-said ws f l (stepOf (said ws) .state) (sym (step-plan (said ws)))),
+                  (w ∙ ap (λ (u : Stepped). sets ws 92 (machineWords (u .state))) said-stepped ∙ over-said ws f l (stepOf (said ws) .state) (sym (step-plan (said ws)))),
               rw stepped (ap (λ (u : Stepped). u .runs) said-stepped),
               rw stepped (ap (λ (u : Stepped). u .responses) said-stepped),
             )

@@ -80,7 +80,7 @@ put-machine-requires c κs =
     let t = j .before .before .before in
     let g = t .before .before in
     let same = fields-from _ (t .plan .ensures) (j .jobs .ensures) (f .flags .ensures) (n .numbers .ensures) (l .places .ensures) (p .places2 .ensures) in
-    step-kept _ [] [] (fit g) _ same _ (d .step-fields .ensures .0) (c .before .before .before .before .before .before .enum-told .given .1) _ (d .step-fields .ensures .1 (c .before .before .before .before .before .before .enum-told .given .1))
+    step-kept _ [] [] (fit g) _ same _ (d .step-fields .ensures .0) (c .before .before .before .before .before .before .enum-told .given .1) _ (d .step-fields .ensures .2 (c .before .before .before .before .before .before .enum-told .given .1))
 
 returns-3 : tie.Need-returns-3
 unfolding row machineWords flagAt
@@ -95,7 +95,7 @@ returns-3 c =
     let t = j .before .before .before in
     let g = t .before .before in
     let same = fields-from _ (t .plan .ensures) (j .jobs .ensures) (f .flags .ensures) (n .numbers .ensures) (l .places .ensures) (p .places2 .ensures) in
-    step-done _ _ _ (fit g) _ same _ (d .step-fields .ensures .0) (m .before .before .before .before .before .before .before .enum-told .given .1) _ (d .step-fields .ensures .1 (m .before .before .before .before .before .before .before .enum-told .given .1))
+    step-done _ _ _ (fit g) _ same _ (d .step-fields .ensures .0) (m .before .before .before .before .before .before .before .enum-told .given .1) _ (d .step-fields .ensures .2 (m .before .before .before .before .before .before .before .enum-told .given .1))
     (g .before .before .before .sized .ensures) _ (m .put-machine .ensures)
 
 pub dahomike-engine-step-spec : {M : Type 1} → statement M

@@ -23,15 +23,19 @@ step-fields-requires : tie.Need-step-fields-requires
 step-fields-requires c κs = shape (c .before .before .before .before .before .before .before .before .before .before .before)
 
 returns : tie.Need-returns
-returns c = step-refused (c .before .before .before .before .before .before .before .before .before .before .before .before .before .before .args .state) _ _ _ (c .before .before .step-fields .ensures .0) (c .enum-told2 .given .1)
-
-add-t21 : tie.Need-add-t21
-add-t21 c =
+returns c =
     let d = c .before .before .before .before .step-fields .ensures in
-    omega (arith, step-passed (c .before .before .before .before .before .before .before .before .before .before .before .before .before .before .before .before .args .state) (sym (d .0) ∙ c .before .before .enum-told .given .1) .1)
+    let told = c .enum-told2 .given .1 in
+    let idle = d .1 _ _ told in
+    rw (idle .0, idle .1) (step-refused (c .before .before .before .before .before .before .before .before .before .before .before .before .before .before .before .before .args .state) _ _ _ (d .0) told)
+
+add-t18 : tie.Need-add-t18
+add-t18 c =
+    let d = c .before .before .before .before .before .step-fields .ensures in
+    omega (arith, step-passed (c .before .before .before .before .before .before .before .before .before .before .before .before .before .before .before .before .before .args .state) (sym (d .0) ∙ c .before .enum-told .given .1) .1)
 
 returns-2 : tie.Need-returns-2
-returns-2 c = c .before .before .before .before .step-fields .ensures .1 (c .before .before .enum-told .given .1)
+returns-2 c = c .before .before .before .before .before .step-fields .ensures .2 (c .before .enum-told .given .1)
 
 pub step-spec : {M : Type 1} → statement M
 step-spec =
@@ -41,5 +45,5 @@ step-spec =
     (λ c. search needs)
     (λ c. search needs)
     returns
-    add-t21
+    add-t18
     returns-2)

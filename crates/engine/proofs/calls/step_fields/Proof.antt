@@ -1,5 +1,5 @@
 -- `engine::calls::step_fields` meets its contract.
-use mathlib.Core.Path.{sym, _∙_}
+use mathlib.Core.Path.{refl, sym, _∙_}
 use borrow.Author.Needs.{needs}
 use Rattle.state.specs.CallLaws.{step-passed}
 use Rattle.state.specs.Parts.{stateFrom}
@@ -8,7 +8,7 @@ use Rattle.engine.proofs.calls.step_fields.Statement.{statement}
 use Rattle.engine.proofs.calls.step_fields.Tie as tie
 
 returns : tie.Need-returns
-returns c = fields-refused _ _ _ _ _ _ _ (c .before .before .step-test .ensures) _ _ (c .enum-told2 .given .1)
+returns c = fields-refused _ _ _ _ _ _ _ (c .before .before .step-test .ensures) _ _ (c .enum-told2 .given .1) refl refl
 
 tick-requires : tie.Need-tick-requires
 tick-requires c κs =
