@@ -145,6 +145,8 @@ pub extern "C" fn dahomike_engine_step(
         &mut release,
     );
     let answer = done.answer;
+    let ran = done.runs;
+    let finished = done.responses;
     let Answer::Accepted = answer else {
         return refused(answer);
     };
@@ -157,8 +159,6 @@ pub extern "C" fn dahomike_engine_step(
         &remaining,
         &release,
     );
-    let ran = done.runs;
-    let finished = done.responses;
     *runs = ran;
     *responses = finished;
     0

@@ -43,7 +43,7 @@ step-fields-requires c κs =
 returns-2 : tie.Need-returns-2
 unfolding row
 returns-2 c =
-    let d = c .before .before .before in
+    let d = c .before .before .before .before .before in
     let p = d .before .before .before .before .before .before in
     let l = p .before .before .before in
     let n = l .before .before .before in
@@ -57,7 +57,7 @@ returns-2 c =
 add-put-machine : tie.Need-add-put-machine
 unfolding row
 add-put-machine c =
-    let d = c .before .before .before in
+    let d = c .before .before .before .before .before in
     let p = d .before .before .before .before .before .before in
     let l = p .before .before .before in
     let n = l .before .before .before in
@@ -71,7 +71,7 @@ add-put-machine c =
 put-machine-requires : tie.Need-put-machine-requires
 unfolding row
 put-machine-requires c κs =
-    let d = c .before .before .before .before .before .before .before .before in
+    let d = c .before .before .before .before .before .before .before .before .before .before in
     let p = d .before .before .before .before .before .before in
     let l = p .before .before .before in
     let n = l .before .before .before in
@@ -85,8 +85,8 @@ put-machine-requires c κs =
 returns-3 : tie.Need-returns-3
 unfolding row machineWords flagAt
 returns-3 c =
-    let m = c .before .before in
-    let d = m .before .before .before .before .before .before .before .before .before in
+    let m = c in
+    let d = m .before .before .before .before .before .before .before .before .before .before .before in
     let p = d .before .before .before .before .before .before in
     let l = p .before .before .before in
     let n = l .before .before .before in
