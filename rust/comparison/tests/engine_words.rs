@@ -1,6 +1,6 @@
 //! The engine's calls on words of every kind: each word of a sound state set to 0, to its limit, to
-//! one above it, to the largest word and to 256 more than it was; and openings on tables of every kind, whatever the words
-//! were before.
+//! one above it, to the largest word and to 256 more than it was; and openings on tables of every
+//! kind, whatever the words were before.
 
 use std::collections::BTreeMap;
 
