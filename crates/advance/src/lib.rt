@@ -1,4 +1,5 @@
 // A tick and a release, of a state that is sound: for callers that keep soundness by proof. They change the state's arrays where these lie.
+#![tactic(auto)]
 ghost use Rattle.std.specs.Prelude.{Bool, List, ℕ, ◌<◌};
 ghost use Rattle.tasks.specs.TaskSet.{row};
 ghost use Rattle.tasks.specs.declared.Plan.{Plan};
@@ -10,7 +11,7 @@ use service::{join, serve};
 use tasks::Plan;
 
 // What a tick says: the task that ran on each core, or 255 for an idle one, and the responses of the tasks that finished.
-#[derive(Drop)]
+#[derive(Clone, Copy)]
 pub struct Ran {
     pub runs: [u8; 8],
     pub responses: [u32; 16],

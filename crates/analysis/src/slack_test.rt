@@ -20,7 +20,7 @@ use tidy::tidy_slack;
 
 // The answer, and where it is no refusal the slack, offered or found, with zeros in unused places, and the tasks by name, those counted at
 // that slack first.
-#[derive(Drop)]
+#[derive(Clone, Copy)]
 pub struct Tested {
     pub answer: Answer,
     pub slack: [u32; 16],

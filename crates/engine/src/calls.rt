@@ -137,7 +137,7 @@ pub fn release(state: State, task: usize, demand: u32) -> Released
 }
 
 // What a step over a state's arrays answers; where it is refused, every core is idle and no task finished.
-#[derive(Drop)]
+#[derive(Clone, Copy)]
 pub struct Ticked {
     pub answer: Answer,
     pub runs: [u8; 8],

@@ -1,3 +1,4 @@
 // A state read from lent words and written to them.
+#![tactic(auto)]
 pub mod put;
 pub mod read;

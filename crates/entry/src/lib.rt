@@ -1,4 +1,5 @@
 // One entry of a log: up to its tick, and its release handed over.
+#![tactic(auto)]
 ghost use Rattle.std.specs.Prelude.{◌≡◌, List, ℕ, length};
 ghost use Rattle.tasks.specs.declared.Plan.{Plan};
 ghost use Rattle.tasks.specs.Tests.{number_of};
@@ -17,7 +18,7 @@ use onward::advance;
 use tasks::{Answer, refusal};
 
 // The clock after an entry, how many tasks have a job that may run, and 1 where the entry was taken.
-#[derive(Drop)]
+#[derive(Clone, Copy)]
 pub struct Place {
     pub clock: u32,
     pub heads: usize,

@@ -4,7 +4,7 @@ ghost use Rattle.fields.specs.Columns.{columns_of};
 
 use tasks::Task;
 
-#[derive(Drop)]
+#[derive(Clone, Copy)]
 pub struct Columns {
     pub separation: [u32; 16],
     pub budget: [u32; 16],

@@ -64,7 +64,7 @@ unfolding member
 member-take zero i l e = absurd (true≢false (sym e))
 member-take (suc k) i [] e = e
 member-take (suc k) i (j ∷ l) e =
-    ⊎_elim (λ (q : i ≡ j). rw q (member-here j l)) (λ q. member-there i j l (member-take k i l q)) (member-cases i j (take k l) e)
+    ⊎_elim (λ (q : i ≡ j). rw (← q) (member-here i l)) (λ q. member-there i j l (member-take k i l q)) (member-cases i j (take k l) e)
 
 pub not_member-take : (k i : ℕ) (l : List ℕ) → member i l ≡ false → member i (take k l) ≡ false
 not_member-take k i l e = go (member i (take k l)) refl

@@ -48,6 +48,7 @@ lcm-first a b j d = mul-le-mul_left a (suc-le-suc (not_before a b j d))
 
 pub lcm-right : (a b : ℕ) → 1 ≤ b → b ∣ lcm a b
 unfolding lcm
+lcm-right a zero h = elim h [ ]
 lcm-right a (suc k) h =
     let early : first (clears a (suc k)) (suc k) ≤ k = not_before a (suc k) k (dvd-mul_left (suc k) a) in
     dvd_of_mod-eq-zero (suc k) (eqb-true _ _ (first_holds (clears a (suc k)) (suc k) (omega arith)))

@@ -1,1 +1,2 @@
 // No code: the definitions and laws of numbers and lists that the other crates share are in specs/.
+#![tactic(auto)]

@@ -8,14 +8,14 @@ use numbers::{count_at, number4};
 use tasks::{limits, refusal};
 
 // What the reader finds: the count, which gives exactly the log's length, or refusal 14 or 15.
-#[derive(Drop)]
+#[derive(Clone, Copy)]
 pub enum Entries {
     Read { count: usize },
     Refused { number: u8, index: u16 },
 }
 
 // An entry: the task released, the tick, and the job's demand.
-#[derive(Drop)]
+#[derive(Clone, Copy)]
 pub struct Release {
     pub tick: u32,
     pub task: usize,

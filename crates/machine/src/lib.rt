@@ -1,1 +1,2 @@
 // No code: the machine that the engine carries out, and the proof that every taken release finishes within its bound, are in specs/.
+#![tactic(auto)]

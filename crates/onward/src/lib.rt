@@ -1,5 +1,6 @@
 // From one clock to a later one, by leaps: who runs depends only on the heads and their priority points, so as long as no running job finishes
 // and nothing is released every tick is the same tick.
+#![tactic(auto)]
 ghost use Rattle.std.specs.Prelude.{◌≡◌, ◌≤◌, ◌<◌, min, length};
 ghost use Rattle.running.specs.Running.{arrays};
 ghost use Rattle.running.specs.Leap.{Standing, Ready, Leapt, Advanced};
@@ -13,7 +14,7 @@ use logs::report::put_finished;
 use service::move_down;
 
 // A clock, and how many tasks have a job that may run.
-#[derive(Drop)]
+#[derive(Clone, Copy)]
 pub struct Stop {
     pub clock: u32,
     pub heads: usize,

@@ -1,5 +1,6 @@
 // The program `plan`: judges the table on standard input and prints its plan or its refusal. Document 01, "Worked tables".
 // What it prints is the contract of `text::text`; here is what is read and written.
+#![tactic(auto)]
 use libc::{STDIN_FILENO, STDOUT_FILENO};
 
 // Longer input than this is cut off, which changes no text: `text`'s law `long-text`.

@@ -1,4 +1,5 @@
 // The reader: its one stage, which finds the three counts or refuses, and the loading of each section's entries, which cannot refuse.
+#![tactic(auto)]
 ghost use Rattle.std.specs.Prelude.{◌≡◌, ◌+◌, ◌*◌, ◌≤◌, min, length};
 ghost use Rattle.laws.specs.Tab.{tab, cut};
 ghost use Rattle.tasks.specs.Content.{no_task};
@@ -14,7 +15,7 @@ use tasks::{Task, refusal};
 use tidy::no_task;
 
 // What the stage finds: the edition and the counts, which give exactly the table's length, or refusal 1 or 2.
-#[derive(Drop)]
+#[derive(Clone, Copy)]
 pub enum Counts {
     Read {
         edition: u8,

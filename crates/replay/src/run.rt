@@ -19,7 +19,7 @@ use table::judge;
 use tasks::{Answer, Plan, limits, refusal};
 
 // A log run: Accepted, with how many entries were taken and how many refused, or refused, with zeros.
-#[derive(Drop)]
+#[derive(Clone, Copy)]
 pub struct Ran {
     pub answer: Answer,
     pub taken: usize,

@@ -1,4 +1,5 @@
 // What a tick does to the arrays of the state, task by task.
+#![tactic(auto)]
 ghost use Rattle.std.specs.Prelude.{◌≡◌, ◌-◌, ◌<◌, ◌≤◌};
 ghost use Rattle.choice.specs.Pick.{Jobless};
 ghost use Rattle.service.specs.Serve.{moved, turns};

@@ -1,4 +1,5 @@
 // From a wish sheet's bytes to a plan: document 02, §3.
+#![tactic(auto)]
 ghost use Rattle.std.specs.Prelude.{◌≡◌, ◌≤◌};
 ghost use Rattle.laws.specs.Tab.{tab, cut};
 ghost use Rattle.tasks.specs.TaskSet.{row};
@@ -15,7 +16,7 @@ use tidy::{no_plan, no_task};
 use wish_search::solve::solve_plan;
 
 // The plan that is found for a sheet, marked as found; of zeros where the sheet is refused.
-#[derive(Drop)]
+#[derive(Clone, Copy)]
 pub struct Wished {
     pub answer: Answer,
     pub plan: Plan,

@@ -10,7 +10,7 @@ use multiple::{MULTIPLE_HIGH, common_multiple, wide};
 use tasks::{Answer, refusal};
 
 // The rates of a task set that meets none of 6 to 10; zeros where the answer is a refusal.
-#[derive(Drop)]
+#[derive(Clone, Copy)]
 pub struct Rates {
     pub answer: Answer,
     pub multiple: u64,

@@ -1,9 +1,10 @@
 // The engine's state as document 01 keeps it, and what the calls on it answer. What document 01 says of them is in specs/.
+#![tactic(auto)]
 use tasks::{Answer, Plan};
 
 // The plan, the clock, and for each of sixteen tasks its number of unfinished jobs, whether a release of it was taken, the last taken
 // one's tick, and sixteen job places, oldest job first: "the state keeps all 256 job places in one flat record".
-#[derive(Drop)]
+#[derive(Clone, Copy)]
 pub struct State {
     pub plan: Plan,
     pub clock: u32,
@@ -15,14 +16,14 @@ pub struct State {
 }
 
 // An opening: Accepted, with the opened state, or refused, with a state of zeros.
-#[derive(Drop)]
+#[derive(Clone, Copy)]
 pub struct Opened {
     pub answer: Answer,
     pub state: State,
 }
 
 // A release: Accepted where it is taken, or refused, with the state handed in.
-#[derive(Drop)]
+#[derive(Clone, Copy)]
 pub struct Released {
     pub answer: Answer,
     pub state: State,
@@ -30,7 +31,7 @@ pub struct Released {
 
 // A step: Accepted with the state one tick later, or refused, with the state handed in. `runs` has the task that ran on each core, or 255
 // for an idle one; `responses` has finish tick minus release tick of each task that finished, 0 for the others.
-#[derive(Drop)]
+#[derive(Clone, Copy)]
 pub struct Stepped {
     pub answer: Answer,
     pub state: State,

@@ -1,4 +1,5 @@
 // From a show table's bytes to a plan.
+#![tactic(auto)]
 use tasks::{Answer, Plan};
 
 mod verdict;
@@ -6,7 +7,7 @@ mod verdict;
 pub use verdict::{judge, load, slack_part, uncounted};
 
 // A judgement's plan, of zeros where the table is refused, and beside it how many tasks were counted, and which, largest weight first.
-#[derive(Drop)]
+#[derive(Clone, Copy)]
 pub struct Judgement {
     pub answer: Answer,
     pub plan: Plan,

@@ -1,4 +1,5 @@
 // The records that every layer shares: a task, a plan, and the answer of a test. What document 01 says of them is in specs/.
+#![tactic(auto)]
 pub mod bound;
 pub mod edition;
 pub mod limits;
@@ -6,7 +7,7 @@ pub mod refusal;
 
 // Document 01's loop: separation T, budget C, priority offset Y, and document 02's deadline D, in ticks. In edition 1 the deadline is an unused
 // place.
-#[derive(Drop)]
+#[derive(Clone, Copy)]
 pub struct Task {
     pub separation: u32,
     pub budget: u32,
@@ -16,7 +17,7 @@ pub struct Task {
 
 // A table's edition and entries, the slack, and the mark that says whether slack was offered (true) or found. Places from `cores` and `tasks` on
 // are unused.
-#[derive(Drop)]
+#[derive(Clone, Copy)]
 pub struct Plan {
     pub edition: u8,
     pub offered: bool,
@@ -28,7 +29,7 @@ pub struct Plan {
 }
 
 // What a test by document 01's refusals finds: nothing, or the first number met and its index.
-#[derive(Drop)]
+#[derive(Clone, Copy)]
 pub enum Answer {
     Accepted,
     Refused { number: u8, index: u16 },

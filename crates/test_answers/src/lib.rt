@@ -1,1 +1,2 @@
 // No code: what the calls answer and leave for worked tables, proved of the definitions, is in specs/.
+#![tactic(auto)]

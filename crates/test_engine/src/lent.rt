@@ -5,7 +5,7 @@ use state::{State, Stepped};
 use test_script::say;
 
 // The answer of a call, and the state that was lent to it.
-#[derive(Drop)]
+#[derive(Clone, Copy)]
 struct After {
     stepped: Stepped,
     state: State,

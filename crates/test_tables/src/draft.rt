@@ -2,7 +2,7 @@
 use test_script::line;
 
 // The first `length` of the bytes count. The longest table has 5,359.
-#[derive(Drop)]
+#[derive(Clone, Copy)]
 pub struct Draft {
     pub bytes: [u8; 5400],
     pub length: usize,

@@ -5,7 +5,7 @@ use test_tables::draft::Draft;
 use tidy::no_plan;
 
 // A table and a log in the making, and a plan.
-#[derive(Drop)]
+#[derive(Clone, Copy)]
 pub struct World {
     pub table: Draft,
     pub log: Draft,

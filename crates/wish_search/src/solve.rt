@@ -14,7 +14,7 @@ use tasks::{Answer, Plan, refusal};
 use wish_offsets::{first_past, offsets, rooms};
 
 // The answer, and where it is no refusal the offsets and the slack, with zeros in unused places.
-#[derive(Drop)]
+#[derive(Clone, Copy)]
 pub struct Solved {
     pub answer: Answer,
     pub offset: [u32; 16],

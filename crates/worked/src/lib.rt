@@ -1,1 +1,2 @@
 // No code: document 01's worked tables, proved of the definitions, are in specs/.
+#![tactic(auto)]

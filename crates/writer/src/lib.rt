@@ -1,4 +1,5 @@
 // The writer: a plan handed in unchecked, to a table's bytes.
+#![tactic(auto)]
 ghost use Rattle.std.specs.Prelude.{◌≡◌, length};
 ghost use Rattle.tasks.specs.Tests.{test_plan};
 ghost use Rattle.writer.specs.Written.{answer_of_written, length_of_written, write_test, written_length, written_to};
@@ -10,7 +11,7 @@ use sections::put_plan;
 use tasks::{Answer, Plan, refusal};
 
 // What the writer answers: how many bytes it wrote, or the refusal.
-#[derive(Drop)]
+#[derive(Clone, Copy)]
 pub enum Written {
     Length(usize),
     Refused { number: u8, index: u16 },
