@@ -1,0 +1,20 @@
+-- `multiple::common_multiple` meets its contract. The loop's invariant: h is the least common multiple of the separations passed, and within
+-- the limit. Once it is past the limit the whole is too, since a further separation never makes it smaller.
+use native.Mathlib.Omega.{arith}
+use Prim.Native.Nat.{ℕ, ◌≤◌, ◌+◌, ◌-◌}
+use mathlib.Core.Path.{◌≡◌, refl, ap, ap₂, sym, ◌∙◌}
+use mathlib.Core.List.{List}
+use lib.ListN.{get_or}
+use Rattle.laws.specs.Multiple.{lcm, lcm_below}
+use Rattle.laws.specs.MultipleLaws.{lcm_below-low, lcm_below-more, lcm_below_mono}
+use Rattle.multiple.proofs.common_multiple.Given as goal
+
+-- the separations as a row
+abbrev pub row : List ℕ → ℕ → ℕ
+row separation i = get_or separation i 0
+
+abbrev pub invariant-loop-i : goal.invariant-loop-i
+invariant-loop-i l = (l.i ≤ l.tasks) × (l.h ≤ 1000000) × (l.h ≡ lcm_below (row l.separation) l.i)
+
+abbrev pub decreases-loop-i : goal.decreases-loop-i
+decreases-loop-i l = l.tasks - l.i

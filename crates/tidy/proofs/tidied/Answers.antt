@@ -1,0 +1,10 @@
+-- `tidy::tidied` meets its contract.
+use Rattle.tasks.specs.ContentLaws.{tidied_code}
+use mathlib.Core.Path.{◌≡◌}
+use lib.ListN.{length}
+use native.Mathlib.Omega.{arith}
+use borrow.Author.Rules.{rules}
+use Rattle.tidy.proofs.tidied.Goals as goal
+
+pub returns : goal.returns
+returns c = tidied_code c.args.plan _ _ _ c.requires.1 c.tidy_bytes-labels.ensures c.tidy_tasks-task.ensures c.tidy_slack-slack.ensures
