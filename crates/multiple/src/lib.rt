@@ -1,6 +1,7 @@
 // Document 01's H, worked out: the greatest common divisor by Euclid, and the least common multiple of the separations, given up once it
 // passes the limit of refusal 9.
 #![tactic(auto)]
+
 ghost use Rattle.std.specs.Prelude.{◌≡◌, ◌+◌, ◌<◌, min, get_or};
 ghost use Rattle.laws.specs.Multiple.{lcm, lcm_below};
 ghost use Rattle.multiple.specs.Greatest.{Greatest};

@@ -1,12 +1,10 @@
 -- `multiple::common_multiple` meets its contract. The loop's invariant: h is the least common multiple of the separations passed, and within
 -- the limit. Once it is past the limit the whole is too, since a further separation never makes it smaller.
-use native.Mathlib.Omega.{arith}
-use Prim.Native.Nat.{ℕ, ◌≤◌, ◌+◌, ◌-◌}
-use mathlib.Core.Path.{◌≡◌, refl, ap, ap₂, sym, ◌∙◌}
+use Prim.Native.Nat.{ℕ, ◌≤◌, ◌-◌}
+use mathlib.Core.Path.{◌≡◌}
 use mathlib.Core.List.{List}
 use lib.ListN.{get_or}
-use Rattle.laws.specs.Multiple.{lcm, lcm_below}
-use Rattle.laws.specs.MultipleLaws.{lcm_below-low, lcm_below-more, lcm_below_mono}
+use Rattle.laws.specs.Multiple.{lcm_below}
 use Rattle.multiple.proofs.common_multiple.Given as goal
 
 -- the separations as a row

@@ -1,10 +1,6 @@
 -- `multiple::gcd` meets its contract. The loop's invariant: the greatest common divisor of x and y is that of a and b. The measure is y.
-use native.Mathlib.Omega.{arith}
-use native.Mathlib.Nat.{mod-lt}
 use Prim.Native.Nat.{ℕ}
-use mathlib.Core.Path.{sym, subst}
 use Rattle.multiple.specs.Greatest.{Greatest}
-use Rattle.multiple.specs.GreatestLaws.{greatest_end, greatest_turn}
 use Rattle.multiple.proofs.gcd.Given as goal
 
 abbrev pub invariant-loop-y : goal.invariant-loop-y

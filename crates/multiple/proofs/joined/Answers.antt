@@ -1,11 +1,8 @@
 -- `multiple::joined` meets its contract. The product fits: the quotient is at most 1,000,000 and the separation at most 100,000.
-use Prim.Native.Nat.{◌/◌, ◌≤◌}
 use mathlib.Core.Path.{sym}
-use native.Mathlib.Omega.{arith}
-use native.Mathlib.Nat.{le_trans, mul-le-mul, div-le_self, dvd_of_mod-eq-zero}
+use native.Mathlib.Nat.{dvd_of_mod-eq-zero}
 use Rattle.laws.specs.MultipleLaws.{lcm-same}
 use Rattle.multiple.specs.GreatestLaws.{greatest_turn, greatest_low, greatest_lcm}
-use borrow.Author.Rules.{rules}
 use Rattle.multiple.proofs.joined.Goals as goal
 
 pub returns-then-rest-eq0 : goal.returns-then-rest-eq0
