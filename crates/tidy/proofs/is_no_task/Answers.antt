@@ -1,7 +1,6 @@
 -- `tidy::is_no_task` meets its contract.
 use Rattle.tasks.specs.Content.{zero_task}
 use borrow.Author.Tests.{eq-eqb, ne_eqb}
-use borrow.Author.Rules.{rules}
 use Rattle.tidy.proofs.is_no_task.Goals as goal
 
 pub returns-then-task-ne0 : goal.returns-then-task-ne0

@@ -1,6 +1,5 @@
 -- `tidy::no_plan` meets its contract, by the definition of a plan of zeros.
 use Rattle.tasks.specs.Content.{zero_plan}
-use borrow.Author.Rules.{rules}
 use Rattle.tidy.proofs.no_plan.Goals as goal
 
 pub returns : goal.returns

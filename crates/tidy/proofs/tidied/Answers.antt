@@ -1,9 +1,5 @@
 -- `tidy::tidied` meets its contract.
 use Rattle.tasks.specs.ContentLaws.{tidied_code}
-use mathlib.Core.Path.{◌≡◌}
-use lib.ListN.{length}
-use native.Mathlib.Omega.{arith}
-use borrow.Author.Rules.{rules}
 use Rattle.tidy.proofs.tidied.Goals as goal
 
 pub returns : goal.returns

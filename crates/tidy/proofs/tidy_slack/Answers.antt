@@ -1,11 +1,7 @@
 -- `tidy::tidy_slack` meets its contract; the loop's invariant says what its turns so far have made.
 use Rattle.tasks.specs.TaskSet.{row}
 use Rattle.laws.specs.TabLaws.{filled_none, filled_next}
-use Rattle.laws.specs.Tab.{tab, cut}
 use native.Mathlib.Omega.{arith}
-use Prim.Native.Nat.{◌≤◌, ◌-◌}
-use mathlib.Core.Path.{◌≡◌}
-use borrow.Author.Rules.{rules}
 use Rattle.tidy.proofs.tidy_slack.Goals as goal
 
 pub loop-i-init : goal.loop-i-init

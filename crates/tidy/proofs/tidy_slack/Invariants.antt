@@ -1,8 +1,6 @@
 -- `tidy::tidy_slack` meets its contract; the loop's invariant says what its turns so far have made.
 use Rattle.tasks.specs.TaskSet.{row}
-use Rattle.laws.specs.TabLaws.{filled_none, filled_next}
 use Rattle.laws.specs.Tab.{tab, cut}
-use native.Mathlib.Omega.{arith}
 use Prim.Native.Nat.{◌≤◌, ◌-◌}
 use mathlib.Core.Path.{◌≡◌}
 use Rattle.tidy.proofs.tidy_slack.Given as goal

@@ -1,12 +1,9 @@
 -- `tidy::tidy_tasks` meets its contract; the loop's invariant says what its turns so far have made.
 use Rattle.tasks.specs.Content.{in_edition, no_task, task_of}
 use Rattle.laws.specs.TabLaws.{filled_none, filled_next}
-use Rattle.laws.specs.Tab.{tab, cut}
 use native.Mathlib.Omega.{arith}
-use Prim.Native.Nat.{◌≤◌, ◌-◌}
-use mathlib.Core.Path.{◌≡◌, ap, ◌∙◌}
+use mathlib.Core.Path.{ap, ◌∙◌}
 use lib.ListN.{replicate}
-use borrow.Author.Rules.{rules}
 use Rattle.tidy.proofs.tidy_tasks.Goals as goal
 
 pub loop-i-init : goal.loop-i-init
@@ -17,4 +14,4 @@ unfolding task_of no_task
 loop-i-preserved c =
     let l = c.loop-i in
     let a = c.args in
-    (omega arith, rw (l.invariant.1, c.in_edition.ensures) (filled_next (λ j. in_edition a.edition (task_of a.t2 j)) no_task l.i 16 (omega arith)))
+    (omega arith, rw (l.invariant.1, c.in_edition.ensures) (filled_next (λ j. in_edition a.edition (task_of a.task j)) no_task l.i 16 (omega arith)))

@@ -1,11 +1,8 @@
 -- `tidy::tidy_tasks` meets its contract; the loop's invariant says what its turns so far have made.
 use Rattle.tasks.specs.Content.{in_edition, no_task, task_of}
-use Rattle.laws.specs.TabLaws.{filled_none, filled_next}
 use Rattle.laws.specs.Tab.{tab, cut}
-use native.Mathlib.Omega.{arith}
 use Prim.Native.Nat.{◌≤◌, ◌-◌}
-use mathlib.Core.Path.{◌≡◌, ap, ◌∙◌}
-use lib.ListN.{replicate}
+use mathlib.Core.Path.{◌≡◌}
 use Rattle.tidy.proofs.tidy_tasks.Given as goal
 
 abbrev pub invariant-loop-i : goal.invariant-loop-i
