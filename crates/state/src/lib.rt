@@ -1,5 +1,6 @@
 // The engine's state as document 01 keeps it, and what the calls on it answer. What document 01 says of them is in specs/.
 #![tactic(auto)]
+
 use tasks::{Answer, Plan};
 
 // The plan, the clock, and for each of sixteen tasks its number of unfinished jobs, whether a release of it was taken, the last taken
