@@ -1,5 +1,6 @@
 // Numbers in bytes. "Multi-byte numbers are unsigned, low byte first."
 #![tactic(auto)]
+
 ghost use Rattle.std.specs.Prelude.{◌≡◌, ◌+◌, ◌≤◌, ◌<◌, length};
 ghost use Rattle.std.proofs.lemmas.List.Edits.{sets};
 ghost use Rattle.numbers.specs.Bytes.{byte, number, digits};
