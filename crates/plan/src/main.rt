@@ -1,7 +1,10 @@
 // The program `plan`: judges the table on standard input and prints its plan or its refusal. Document 01, "Worked tables".
 // What it prints is the contract of `text::text`; here is what is read and written.
 #![tactic(auto)]
-use libc::{STDIN_FILENO, STDOUT_FILENO};
+
+// The file descriptors of standard input and output.
+const STDIN_FILENO: i32 = 0;
+const STDOUT_FILENO: i32 = 1;
 
 // Longer input than this is cut off, which changes no text: `text`'s law `long-text`.
 const MOST: usize = 5360;

@@ -3,9 +3,11 @@
 #![tactic(auto)]
 mod act;
 
-use libc::STDIN_FILENO;
 use test_script::line::{find, front};
 use test_world::world;
+
+// The file descriptor of standard input.
+const STDIN_FILENO: i32 = 0;
 
 // The script from `from` on, with at most as many lines as it has bytes.
 fn run(script: &[u8]) {

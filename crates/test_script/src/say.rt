@@ -1,5 +1,7 @@
 // The words of a line, on standard output.
-use libc::STDOUT_FILENO;
+
+// Its file descriptor.
+const STDOUT_FILENO: i32 = 1;
 
 pub fn text(words: &[u8]) {
     io::write_all(STDOUT_FILENO, words);
