@@ -1,4 +1,4 @@
-// The functions that the desktop planner calls as C functions, over byte slices: a pointer and a length each.
+// The functions that the desktop planner calls, over byte slices. `dahomike_c` exports each to C under its name.
 #![tactic(auto)]
 ghost use Rattle.std.specs.Prelude.{◌≡◌, ◌++◌, ◌+◌, ◌*◌, ◌≤◌, ◌<◌, length};
 ghost use Rattle.std.proofs.lemmas.List.Edits.{sets};
@@ -96,8 +96,7 @@ fn answered(answer: Answer, plan: Plan, out: &mut [u8], wishes: bool) -> u64
 }
 
 // The judgement of a table: n and each task's slack and bound, or the refusal.
-#[unsafe(no_mangle)]
-pub extern "C" fn dahomike_judge(table: &[u8], out: &mut [u8]) -> u64
+pub fn dahomike_judge(table: &[u8], out: &mut [u8]) -> u64
     ensures { (result ≡ judge_number table.now (length out.old)) × (out.new ≡ judge_leaves table.now out.old) }
 {
     let judgement = judge(table);
@@ -107,8 +106,7 @@ pub extern "C" fn dahomike_judge(table: &[u8], out: &mut [u8]) -> u64
 }
 
 // Offsets and slack for a wish sheet: n and each task's offset, slack and bound, or the refusal.
-#[unsafe(no_mangle)]
-pub extern "C" fn dahomike_wish(sheet: &[u8], out: &mut [u8]) -> u64
+pub fn dahomike_wish(sheet: &[u8], out: &mut [u8]) -> u64
     ensures { (result ≡ wish_number sheet.now (length out.old)) × (out.new ≡ wish_leaves sheet.now out.old) }
 {
     let wished = wish(sheet);
@@ -118,8 +116,7 @@ pub extern "C" fn dahomike_wish(sheet: &[u8], out: &mut [u8]) -> u64
 }
 
 // The loops counted in the judgement of a table: how many, and a byte for each, largest weight first; or the refusal.
-#[unsafe(no_mangle)]
-pub extern "C" fn dahomike_counted(table: &[u8], out: &mut [u8]) -> u64
+pub fn dahomike_counted(table: &[u8], out: &mut [u8]) -> u64
     ensures { (result ≡ counted_number table.now (length out.old)) × (out.new ≡ counted_leaves table.now out.old) }
 {
     let judgement = judge(table);
@@ -140,8 +137,7 @@ pub extern "C" fn dahomike_counted(table: &[u8], out: &mut [u8]) -> u64
 }
 
 // The run of a log on a table: taken + 65,536 × refused and each entry's 8 bytes, or the refusal.
-#[unsafe(no_mangle)]
-pub extern "C" fn dahomike_run_log(table: &[u8], log: &[u8], out: &mut [u8]) -> u64
+pub fn dahomike_run_log(table: &[u8], log: &[u8], out: &mut [u8]) -> u64
     ensures { (result ≡ run_number table.now log.now (length out.old))
         × (out.new ≡ run_leaves table.now log.now out.old) }
 {
@@ -154,8 +150,7 @@ pub extern "C" fn dahomike_run_log(table: &[u8], log: &[u8], out: &mut [u8]) -> 
 }
 
 // A refusal as one English sentence: how long it is, and its bytes; or 25.
-#[unsafe(no_mangle)]
-pub extern "C" fn dahomike_sentence(number: u32, index: u32, value: u64, out: &mut [u8]) -> u64
+pub fn dahomike_sentence(number: u32, index: u32, value: u64, out: &mut [u8]) -> u64
     ensures { (result ≡ sentence_number number index value (length out.old))
         × (out.new ≡ sentence_leaves number index value out.old) }
 {
@@ -173,8 +168,7 @@ pub extern "C" fn dahomike_sentence(number: u32, index: u32, value: u64, out: &m
 }
 
 // A table in the other edition: how many bytes it has, and the bytes; or the refusal.
-#[unsafe(no_mangle)]
-pub extern "C" fn dahomike_convert(table: &[u8], edition: u32, out: &mut [u8]) -> u64
+pub fn dahomike_convert(table: &[u8], edition: u32, out: &mut [u8]) -> u64
     ensures { (result ≡ convert_number edition table.now (length out.old))
         × (out.new ≡ converted_to edition table.now out.old) }
 {
