@@ -1,5 +1,6 @@
 // What a tick does to the arrays of the state, task by task.
 #![tactic(auto)]
+
 ghost use Rattle.std.specs.Prelude.{◌≡◌, ◌-◌, ◌<◌, ◌≤◌};
 ghost use Rattle.choice.specs.Pick.{Jobless};
 ghost use Rattle.service.specs.Serve.{moved, turns};
@@ -80,13 +81,13 @@ pub fn serve(
     ensures { Are
         (turns finish keys.now
         (record {
-          jobs = jobs.entry.now;
+          jobs = jobs.old;
           work = remaining.old;
           release = release.old;
           responses = responses.old;
         })
         16)
-        jobs.exit.now remaining.new release.new responses.new }
+        jobs.new remaining.new release.new responses.new }
 {
     let mut i = 0;
     while i < tasks {
