@@ -7,7 +7,7 @@ pointer to an array of 8. A slice of Rattle is a pointer and a length. An array 
 import re
 
 BORDERS = (
-    ("dahomike", "rust/dahomike/src/lib.rs", "include/dahomike.h"),
+    ("dahomike_c", "rust/dahomike/src/lib.rs", "include/dahomike.h"),
     ("dahomike_engine", "rust/dahomike_engine/src/lib.rs", "include/dahomike_engine.h"),
 )
 SHARED = {

@@ -5,8 +5,8 @@
     named        the declarations of antt that a statement names, each with its file: its own file's, and those that the file imports
     renamed      the names in a statement that its file imports under another name than their own
 
-A law's name has a hyphen, or its type says something. A definition is marked `abbrev` or `unfoldable`, or is written likeThis, or its result is a
-number, a truth value, a type, a list or another thing that a single name says."""
+A law's name has a hyphen, or its type says something. A definition is marked `abbrev` or `unfoldable`, or its result is a number, a truth value, a
+type, a list or another thing that a single name says."""
 
 import re
 
@@ -14,7 +14,7 @@ from source import NAME, SPEC_MODULE, occurs
 
 THING = re.compile(r"ℕ|Bool|Type \d|(?:List|Option) .*|[A-Z]\w*")
 BOUND = (re.compile(rf"[({{]\s*((?:{NAME}\s+)*{NAME})\s*:(?=\s)"), re.compile(rf"λ\s+((?:{NAME}\s+)*{NAME})\."))
-PROJECTION = re.compile(r"(?<=[\s(])\.[^\s(){}\[\],;]+")
+PROJECTION = re.compile(r"(?<=[\w'₀-₉)])\.[^\s(){}\[\],;]+")
 BETWEEN = re.compile(r"[\s(){}\[\],;.λ\"⌜⌝]+")
 
 
@@ -68,7 +68,7 @@ class Meaning:
         """The statement's words, and the imports that it uses."""
         text = PROJECTION.sub(" ", "\n".join(line for _, line in statement(file, block)))
         words = set(BETWEEN.split(text)) - self._bound(file, block, text)
-        named = [i for i in file.imports if i.name and (i.alias in words or "_" in i.alias and occurs(i.alias, text))]
+        named = [i for i in file.imports if i.name and (i.alias in words or "◌" in i.alias and occurs(i.alias, text))]
         return words, named
 
     def _bound(self, file, block, text):

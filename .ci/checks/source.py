@@ -15,8 +15,8 @@ MODIFIERS = r"(?:(?:unfoldable|abbrev|pub|private)\s+)*"
 KEYWORDS = {"use", "module", "mod", "record", "data", "unfolding", "let", "in", "where", "open"}
 SIGNATURE = re.compile(rf"^(\s*)({MODIFIERS})((?:{NAME}\s+)*{NAME})\s*:(?:\s|$)")
 TYPE = re.compile(rf"^(\s*)({MODIFIERS})(record|data)\s+({NAME})(?:\s|$)")
-SPEC_MODULE = re.compile(r"^Rattle·(\w+?)(?:·specs|·proofs)?\.specs\.(.+)$")
-CRATE_NAMED = re.compile(r"Rattle·(\w+?)(?:·specs|·proofs)?\.")
+SPEC_MODULE = re.compile(r"^Rattle\.(?!std\.|core\.)(\w+)\.(?:specs|proofs)\.(.+)$")
+CRATE_NAMED = re.compile(r"(?<![\w.])Rattle\.(?!std\.|core\.)(\w+)\.")
 
 
 class Tree:
@@ -39,7 +39,8 @@ class Tree:
         crate, kind = parts[1], parts[2]
         if path.endswith(".antt"):
             module = ".".join(parts[3:])[: -len(".antt")]
-            into = self.specs if kind == "specs" else self.proofs
+            # laws stand in specs/, or right in proofs/; a function's proof has a folder of its own there
+            into = self.specs if kind == "specs" or len(parts) == 4 else self.proofs
             into[crate, module] = Spec(path, self.text[path], crate, module)
         elif path.endswith(".rt"):
             self.code[crate, "/".join(parts[3:])] = Code(path, self.text[path], crate)
@@ -56,7 +57,7 @@ class Tree:
 def _from_folder(root):
     text = {}
     for folder, folders, files in os.walk(root):
-        folders[:] = [f for f in folders if f not in (".git", "target", "__pycache__")]
+        folders[:] = [f for f in folders if f not in (".git", "target", "out", "__pycache__")]
         for file in files:
             path = os.path.join(folder, file)
             with open(path, "rb") as opened:
@@ -94,7 +95,7 @@ def _crates(text):
         comment = re.match(r"^# (\S.*)$", line)
         if comment:
             heading = comment.group(1)
-        entry = re.match(r"^(\w+):\s*([^#]*)", line)
+        entry = re.match(r"^(\w+)(?: staticlib)?:\s*([^#]*)", line)
         if entry:
             if not layers or layers[-1][0] != heading:
                 layers.append((heading, []))
@@ -159,6 +160,8 @@ class Spec(File):
     def __init__(self, path, text, crate, module):
         super().__init__(path, text, crate, r"(?<!\S)--.*$")
         self.module = module
+        # a file of definitions and laws, and not the proof of one function
+        self.stated = path.count("/") == 3
         self._read_imports()
         self._read_blocks()
 
@@ -214,13 +217,12 @@ class Spec(File):
         made = SIGNATURE.match(line)
         if made and made.group(3).split()[0] not in KEYWORDS:
             for name in made.group(3).split():
-                written_so = "-" not in name and re.search("[a-z][A-Z]", name)
-                kind = "definition" if written_so or re.search("unfoldable|abbrev", made.group(2)) else "law"
+                kind = "definition" if re.search("unfoldable|abbrev", made.group(2)) else "law"
                 self.blocks.append(Block(name, kind, i, len(made.group(1)), "pub" in made.group(2), sections))
 
     def _extend(self, block):
         """The block goes on while lines are deeper, or are clauses of the same name."""
-        marks = [part for part in block.name.split("_") if part] if "_" in block.name else []
+        marks = [part for part in block.name.split("◌") if part] if "◌" in block.name else []
         last, block.body = block.line, None
         for i in range(block.line + 1, len(self.plain)):
             line = self.plain[i]
@@ -321,14 +323,14 @@ class Code(File):
 
 
 def occurs(name, text):
-    """Whether antt's or Rattle's name stands in the text. A name with places, as `_+_`, stands there if all its words do."""
-    if re.fullmatch(r"\W+", name) and "_" not in name:
+    """Whether antt's or Rattle's name stands in the text. A name with places, as `◌+◌`, stands there if all its words do."""
+    if re.fullmatch(r"\W+", name) and "◌" not in name:
         return name in text
     if word(name).search(text):
         return True
-    parts = [part for part in name.split("_") if part]
-    between = name.startswith("_") and name.endswith("_")
-    return "_" in name and bool(parts) and all(word(part).search(text) if between else part in text for part in parts)
+    parts = [part for part in name.split("◌") if part]
+    between = name.startswith("◌") and name.endswith("◌")
+    return "◌" in name and bool(parts) and all(word(part).search(text) if between else part in text for part in parts)
 
 
 def word(name):

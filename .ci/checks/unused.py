@@ -9,7 +9,7 @@ from source import SPEC_MODULE, SIGNATURE, occurs, word
 def check(tree, citations, uses):
     faults = []
     for file in tree.antt():
-        faults += imports(file) if "/proofs/" in file.path else heads(file) + list(imports(file))
+        faults += (heads(file) if file.stated else []) + list(imports(file))
         faults += [f for f in declarations(file, uses, citations)]
         faults += helpers(file)
     for file in tree.code.values():
@@ -49,10 +49,11 @@ class Uses:
 
 
 def declarations(file, uses, citations):
-    in_specs = "/specs/" in file.path
+    in_specs = file.stated
     module = (file.crate, file.module)
     for block in file.blocks:
-        if not in_specs and block.name.endswith("-spec"):
+        # Rattle reads the answers and invariants of a function's proof by their names
+        if not in_specs and block.public:
             continue
         if (file.path, block.name) in citations.names:
             continue
