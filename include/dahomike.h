@@ -1,8 +1,8 @@
 /*
  * Judgement, its counted loops, offsets from wishes, the log run, the sentences of refusals and the conversion between the editions of
  * Dahomike as C functions.
- * `rt staticlib dahomike` writes the library that has them, target/staticlib/libdahomike.a. The proved source is
- * crates/dahomike/src/lib.rt; .ci/documents holds the declarations here to it.
+ * `tools/libraries` writes the library that has them, target/staticlib/libdahomike.a. The proved source is
+ * crates/dahomike_c/src/lib.rt; .ci/documents holds the declarations here to it.
  *
  * Numbers in tables, logs and answers are unsigned, low byte first. Loops and entries are counted from 0.
  *

@@ -1,6 +1,6 @@
 /*
  * The engine of Dahomike as C functions, for a controller: opened on a show table, it takes releases and steps tick by tick.
- * `rt staticlib dahomike_engine` writes the library that has them, target/staticlib/libdahomike_engine.a. The proved source is
+ * `tools/libraries` writes the library that has them, target/staticlib/libdahomike_engine.a. The proved source is
  * crates/dahomike_engine/src/lib.rt; .ci/documents holds the declarations here to it. examples/controller.c is a controller.
  *
  * The caller lends the engine's state, an array of DAHOMIKE_STATE_WORDS words. The functions keep no pointer, allocate nothing and need at

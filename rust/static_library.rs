@@ -2,7 +2,7 @@
 //! links libNAME.a.
 //!
 //! It lies in the folder that DAHOMIKE_LIB_DIR names, or else in target/staticlib of the
-//! repository, where `rt staticlib NAME` writes it.
+//! repository, where `tools/libraries` puts it.
 
 use std::env;
 use std::path::PathBuf;
@@ -18,7 +18,7 @@ fn main() {
     if !archive.is_file() {
         println!("cargo::error=the static library {} is missing", archive.display());
         println!(
-            "cargo::error=run `rt staticlib {library}` in the repository's root, \
+            "cargo::error=run `tools/libraries` in the repository's root, \
              or set {DIRECTORY_VARIABLE} to the folder that holds lib{library}.a"
         );
         return;

@@ -40,7 +40,7 @@ fn printed(table: &[u8]) -> String {
     let program = root().join("target/bin/plan");
     assert!(
         program.is_file(),
-        "{} is not there: build it by `rt check plan` in the repository's root",
+        "{} is not there: build it by `tools/libraries` in the repository's root",
         program.display()
     );
     let mut child = Command::new(program)
