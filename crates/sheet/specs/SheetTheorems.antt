@@ -27,8 +27,9 @@ use Rattle.table.specs.Judged.{judged_as, judged}
 use Rattle.writer.specs.Written.{write_test}
 use Rattle.roundtrip.specs.RoundTrip.{judged-back, write_accepts, left_by, plan-again}
 use Rattle.wishes.specs.Wish.{Solution, with_offset, with_offsets, largest_offset, at_slack, wished, sheet11, test27, wish_tests, solved}
-use Rattle.wishes.specs.WishLaws.{wished-past}
-use Rattle.wishes.specs.WishTheorems.{sheet_limits, wish_split, sheet-passed, Best, solved_best, unsolved_exactly, solved-accepted}
+use Rattle.wishes.proofs.WishLaws.{wished-past}
+use Rattle.wishes.specs.WishTheorems.{sheet_limits, Best}
+use Rattle.wishes.proofs.WishTheorems.{wish_split, sheet-passed, solved_best, unsolved_exactly, solved-accepted}
 use Rattle.sheet.specs.Wished.{wish_verdict, wish_of}
 use Rattle.sheet.specs.WishedLaws.{unused}
 

@@ -26,9 +26,10 @@ use Rattle.slack.specs.SearchLaws.{turn_lifted}
 use Rattle.slack.specs.StageLaws.{counted-row, amount-row}
 use Rattle.slack.specs.Weights.{weight_row, Amounts}
 use Rattle.wishes.specs.Wish.{room, with_offsets, at_slack}
-use Rattle.wishes.specs.WishLaws.{need_mono, kept-needed}
+use Rattle.wishes.proofs.WishLaws.{need_mono, kept-needed}
 use Rattle.wishes.specs.RaisingLaws.{Solving}
-use Rattle.wishes.specs.LeapLaws.{Climbs, rises_by, leap_cost}
+use Rattle.wishes.specs.LeapLaws.{Climbs}
+use Rattle.wishes.proofs.LeapLaws.{rises_by, leap_cost}
 use Rattle.wish_offsets.specs.Rows.{offset_row}
 use Rattle.wish_search.specs.SheetArrays.{SheetOf}
 use Rattle.wish_search.specs.SheetLaws.{arrays, at-arrays}

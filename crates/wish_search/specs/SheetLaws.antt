@@ -15,7 +15,7 @@ use Rattle.tasks.specs.ShareLaws.{share-high}
 use Rattle.slack.specs.Arrays.{ArraysOf}
 use Rattle.slack.specs.RatesLaws.{row_filled}
 use Rattle.wishes.specs.Wish.{room, with_offsets, largest_offset, at_slack, passes}
-use Rattle.wishes.specs.WishLaws.{largest-low}
+use Rattle.wishes.proofs.WishLaws.{largest-low}
 use Rattle.wish_offsets.specs.Rows.{offset_row, past_row}
 use Rattle.wish_search.specs.SheetArrays.{SheetOf}
 

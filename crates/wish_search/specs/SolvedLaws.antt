@@ -27,7 +27,7 @@ use Rattle.slack.specs.RatesLaws.{row_filled}
 use Rattle.slack.specs.StageLaws.{Framed}
 use Rattle.analysis.specs.SlackTestLaws.{stopped, passed_on}
 use Rattle.wishes.specs.Wish.{room, with_offsets, largest_offset, at_slack, wished, no_solution}
-use Rattle.wishes.specs.WishLaws.{largest-low}
+use Rattle.wishes.proofs.WishLaws.{largest-low}
 use Rattle.wish_search.specs.declared.solve.Solved.{Solved}
 use Rattle.wish_offsets.specs.Rows.{room_row, offset_row, past_row}
 use Rattle.wish_search.specs.SheetArrays.{SheetOf, Ended}

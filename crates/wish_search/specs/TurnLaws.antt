@@ -23,8 +23,9 @@ use Rattle.slack.specs.Arrays.{lifted, upto, Needs}
 use Rattle.slack.specs.NeedLaws.{need-covers, need-least, needed_rounded}
 use Rattle.slack.specs.SearchLaws.{changes, turn_lifted, turn_length, turn_past, turn_still, turn_changed}
 use Rattle.wishes.specs.Wish.{room, with_offsets, at_slack, wished, passes, no_solution}
-use Rattle.wishes.specs.WishLaws.{at_mono, need_mono, wished-past}
-use Rattle.wishes.specs.RaisingLaws.{Solving, Below, below_next, below_round, below_less, below-over, below-past}
+use Rattle.wishes.proofs.WishLaws.{at_mono, need_mono, wished-past}
+use Rattle.wishes.specs.RaisingLaws.{Solving, Below}
+use Rattle.wishes.proofs.RaisingLaws.{below_next, below_round, below_less, below-over, below-past}
 use Rattle.wish_offsets.specs.Rows.{past_row}
 use Rattle.wish_search.specs.SheetArrays.{SheetOf, Onward, Ended}
 use Rattle.wish_search.specs.SheetLaws.{arrays, past_test}

@@ -12,7 +12,8 @@ use Rattle.largest.specs.Chosen.{Arranged}
 use Rattle.slack.specs.ArraysLaws.{zero_array, divided-low}
 use Rattle.tasks.specs.TaskSet.{TaskSet, row}
 use Rattle.slack.specs.SearchLaws.{turn_length, turn_past}
-use Rattle.wishes.specs.RaisingLaws.{Below, below-start}
+use Rattle.wishes.specs.RaisingLaws.{Below}
+use Rattle.wishes.proofs.RaisingLaws.{below-start}
 use Rattle.wish_offsets.specs.Rows.{past_row}
 use Rattle.wish_search.specs.SheetArrays.{SheetOf}
 use Rattle.wish_search.specs.SheetLaws.{cores-low, cores-high, tasks-high, room-high, arrays}

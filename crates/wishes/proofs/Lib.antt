@@ -1,0 +1,4 @@
+pub mod WishLaws
+pub mod WishTheorems
+pub mod RaisingLaws
+pub mod LeapLaws
