@@ -1,5 +1,6 @@
 // The reader: its one stage, which finds the three counts or refuses, and the loading of each section's entries, which cannot refuse.
 #![tactic(auto)]
+
 ghost use Rattle.std.specs.Prelude.{◌≡◌, ◌+◌, ◌*◌, ◌≤◌, min, length};
 ghost use Rattle.laws.specs.Tab.{tab, cut};
 ghost use Rattle.tasks.specs.Content.{no_task};
