@@ -1,5 +1,6 @@
 // Plans compared, and their unused places.
 #![tactic(auto)]
+
 use tasks::{Plan, Task};
 use tidy::is_no_task;
 
