@@ -13,7 +13,7 @@ use native.Mathlib.Omega.{arith}
 use borrow.Author.Tests.{eqb-true, eq-eqb, ne_eqb, ltb-true, ltb-false}
 use Rattle.laws.specs.First.{first}
 use Rattle.laws.specs.FirstLaws.{first_or_none, first_holds, first-none, none_first}
-use Rattle.laws.specs.Sum.{sum, count}
+use Rattle.laws.specs.Sum.{sum}
 use Rattle.laws.specs.SumLaws.{sum_mono, sum_add, sum_zero, sum_but_one, term_le_sum}
 use Rattle.tasks.specs.TaskSet.{TaskSet}
 use Rattle.machine.specs.Machine.{Job, job, Machine, pending, waiting, runs, tick}
@@ -21,7 +21,7 @@ use Rattle.machine.specs.Reached.{Reached}
 use Rattle.machine.specs.Choice.{earliest}
 use Rattle.machine.specs.Sound.{Rising, reached-sound}
 use Rattle.machine.specs.Work.{work, work_in, work-ticked, some-run}
-use Rattle.history.specs.Engine.{is_taken, Call, clock, state}
+use Rattle.history.specs.Engine.{is_taken, Call, state}
 use Rattle.history.specs.Log.{Entry, loop_at, demand_at, wait, calls, outcome, owed, all_owed, rest, whole}
 use Rattle.history.specs.LogLaws.{demanded-calls}
 use Rattle.history.specs.OnMachine.{quiet_of, machine_engine}
