@@ -1,5 +1,6 @@
 // Whether a release of a task of the table is taken: 21, 22 and 23, for the engine's release and for a log run's entries.
 #![tactic(auto)]
+
 ghost use Rattle.std.specs.Prelude.{◌≡◌};
 ghost use Rattle.machine.specs.Machine.{within};
 ghost use Rattle.state.specs.State.{last_of};
