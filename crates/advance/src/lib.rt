@@ -1,5 +1,6 @@
 // A tick and a release, of a state that is sound: for callers that keep soundness by proof. They change the state's arrays where these lie.
 #![tactic(auto)]
+
 ghost use Rattle.std.specs.Prelude.{Bool, List, ℕ, ◌<◌};
 ghost use Rattle.tasks.specs.TaskSet.{row};
 ghost use Rattle.tasks.specs.declared.Plan.{Plan};

@@ -4,23 +4,15 @@ use Rattle.state.specs.Parts.{state_from}
 use Rattle.state.specs.declared.State.{State}
 use Rattle.tasks.specs.TaskSet.{row}
 use mathlib.Core.Path.{◌≡◌, ◌∙◌}
-use borrow.Author.Rules.{rules}
-use Rattle.advance.proofs.admit.Statement.{statement}
-use Rattle.advance.proofs.admit.Tie as tie
+use Rattle.advance.proofs.admit.Goals as goal
 
-join-requires : tie.Need-join-requires
-join-requires c κs = search rules
-
-returns : tie.Need-returns
+pub returns : goal.returns
 unfolding row AdmitCode
 returns c = λ plan R.
-    let a = c.before.before.before.before.before.before in
+    let a = c in
     let x = a.args in
     let t = state_from plan x.clock x.jobs.now x.released.now x.last.now x.remaining.now x.release.now in
     let j = c.join.ensures in
     let made : ◌≡◌ {A = State} (state_from plan x.clock _ _ _ _ _) (state_from plan x.clock _ _ _ _ _) =
     λ k. state_from plan x.clock (j.jobs-joined k) (j.released-joined k) (j.last-joined k) (j.work-joined k) (j.release-joined k) in
     made ∙ admit_code t R.shape R.sound x.task x.demand a.requires.0 a.requires.1
-
-pub admit-spec : {M : Type 1} → statement M
-admit-spec = tie.close (tie.spec join-requires returns)
