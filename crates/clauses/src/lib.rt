@@ -1,5 +1,6 @@
 // The clauses of *sound* that look at the places of a state: the unused ones of its table part, each loop's, and each job's.
 #![tactic(auto)]
+
 ghost use Rattle.std.specs.Prelude.{◌≡◌, true, not, ◌&&◌, ◌||◌, ℕ, ◌+◌, ◌-◌, ◌≤◌, ◌<◌, ltb, leb, eqb};
 ghost use Rattle.tasks.specs.TaskSet.{row};
 ghost use Rattle.tasks.specs.Content.{has_deadlines, zero_task};
