@@ -62,7 +62,7 @@ def spec_blocks(tree, definitions, part=None):
                 continue
             first = block.body if part == "proof" else block.line
             end = block.body - 1 if part == "statement" else block.end
-            found[f"{file.crate}/{file.module}: {block.name}"] = tidy(file.plain[first : end + 1])
+            found[f"{file.crate}/{file.shown}: {block.name}"] = tidy(file.plain[first : end + 1])
     return found
 
 

@@ -1,7 +1,7 @@
 """What the documents cite exists, and what they must cite is cited.
 
 A code span of a document is one of:
-    `crate/File`, `crate/File: name`         crates/crate/specs/File.antt, and a name that it declares
+    `crate/File`, `crate/File: name`         crates/crate/specs/File.antt or proofs/File.antt, and a name that it declares
     `crate/file.rt`, `crate/file.rt: name`   crates/crate/src/file.rt, and a function, type or constant of it
     `crate/label`                            crates/crate/must-fail/label.edit
     `folder/path`                            a path from the repository's root
@@ -79,7 +79,7 @@ class Citations:
         for span in SPAN.findall(cell):
             found = SPEC.match(span)
             if found and not found.group(3):
-                return self.tree.specs.get((found.group(1), found.group(2)))
+                return next(iter(self.tree.stated(found.group(1), found.group(2))), None)
         return None
 
     def _spans(self, path, number, text, files):
@@ -102,7 +102,7 @@ class Citations:
     def _bare(self, path, number, name, files):
         holding = [f for f in files if name in f.names()]
         if not holding:
-            self._fault(path, number, f"{files[0].crate}/{files[0].module} has no name {name}")
+            self._fault(path, number, f"{files[0].crate}/{files[0].shown} has no name {name}")
         for file in holding:
             self._cite(path, number, file.path, name)
 
@@ -115,10 +115,13 @@ class Citations:
 
     def _span(self, path, number, span):
         """The block and the file that a span cites, or nothing."""
-        for form, kept in ((SPEC, self.tree.specs), (CODE, self.tree.code)):
-            found = form.match(span)
-            if found:
-                return self._declared(path, number, found, kept)
+        found = SPEC.match(span)
+        if found:
+            return self._declared(path, number, found, self.tree.stated(*found.groups()[:2]))
+        found = CODE.match(span)
+        if found:
+            file = self.tree.code.get(found.groups()[:2])
+            return self._declared(path, number, found, [file] if file else [])
         found = PAIR.match(span)
         if found and found.group(1) in self.tree.crates:
             key = (found.group(1), found.group(2))
@@ -129,12 +132,12 @@ class Citations:
             self._fault(path, number, f"there is no crate, edit or path {span}")
         return None, None
 
-    def _declared(self, path, number, found, kept):
+    def _declared(self, path, number, found, files):
         crate, file, name = found.groups()
-        source = kept.get((crate, file))
-        if source is None:
+        if not files:
             self._fault(path, number, f"there is no file for {crate}/{file}")
             return None, None
+        source = next((f for f in files if name in f.names()), files[0])
         if name is None:
             return None, source
         if name not in source.names():

@@ -15,7 +15,8 @@ MODIFIERS = r"(?:(?:unfoldable|abbrev|pub|private)\s+)*"
 KEYWORDS = {"use", "module", "mod", "record", "data", "unfolding", "let", "in", "where", "open"}
 SIGNATURE = re.compile(rf"^(\s*)({MODIFIERS})((?:{NAME}\s+)*{NAME})\s*:(?:\s|$)")
 TYPE = re.compile(rf"^(\s*)({MODIFIERS})(record|data)\s+({NAME})(?:\s|$)")
-SPEC_MODULE = re.compile(r"^Rattle\.(?!std\.|core\.)(\w+)\.(?:specs|proofs)\.(.+)$")
+# a crate and a module of it: X of specs/, or proofs.X of proofs/
+SPEC_MODULE = re.compile(r"^Rattle\.(?!std\.|core\.)(\w+)\.(?:specs\.|(?=proofs\.))(.+)$")
 CRATE_NAMED = re.compile(r"(?<![\w.])Rattle\.(?!std\.|core\.)(\w+)\.")
 
 
@@ -38,7 +39,7 @@ class Tree:
             return
         crate, kind = parts[1], parts[2]
         if path.endswith(".antt"):
-            module = ".".join(parts[3:])[: -len(".antt")]
+            module = ("" if kind == "specs" else "proofs.") + ".".join(parts[3:])[: -len(".antt")]
             # laws stand in specs/, or right in proofs/; a function's proof has a folder of its own there
             into = self.specs if kind == "specs" or len(parts) == 4 else self.proofs
             into[crate, module] = Spec(path, self.text[path], crate, module)
@@ -46,6 +47,10 @@ class Tree:
             self.code[crate, "/".join(parts[3:])] = Code(path, self.text[path], crate)
         elif kind == "must-fail" and path.endswith(".edit"):
             self.edits[crate, parts[3][: -len(".edit")]] = path
+
+    def stated(self, crate, file):
+        """The files that `crate/File` means: specs/File.antt and proofs/File.antt."""
+        return [self.specs[key] for key in ((crate, file), (crate, f"proofs.{file}")) if key in self.specs]
 
     def antt(self):
         return list(self.specs.values()) + list(self.proofs.values())
@@ -162,6 +167,7 @@ class Spec(File):
         self.module = module
         # a file of definitions and laws, and not the proof of one function
         self.stated = path.count("/") == 3
+        self.shown = module.removeprefix("proofs.")
         self._read_imports()
         self._read_blocks()
 

@@ -40,10 +40,9 @@ class Entry:
 
     def source(self, tree):
         """The file and the declaration that the entry is of, or nothing."""
-        kept = tree.code if self.module.endswith(".rt") else tree.specs
-        file = kept.get((self.crate, self.module))
-        block = file.block(self.name) if file else None
-        return (file, block) if block else None
+        code = tree.code.get((self.crate, self.module))
+        files = [code] if code else tree.stated(self.crate, self.module)
+        return next(((file, file.block(self.name)) for file in files if file.block(self.name)), None)
 
 
 def entries(tree):
@@ -137,7 +136,7 @@ def unread(tree, uses, seen):
 
 
 def to_keep(file, block, listed):
-    if WORKED.search(f"{file.crate}/{file.module}") or is_law(file, block):
+    if WORKED.search(f"{file.crate}/{file.shown}") or is_law(file, block):
         return False
     if block.kind in ("record", "data"):
         return has_parameters(file, block)
@@ -145,7 +144,7 @@ def to_keep(file, block, listed):
 
 
 def name_of(file, block):
-    return f"{file.crate}/{file.module}: {block.name}"
+    return f"{file.crate}/{file.shown}: {block.name}"
 
 
 def kept(tree, later=None):

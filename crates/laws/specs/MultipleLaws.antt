@@ -5,11 +5,11 @@
 --     lcm_divides                 lcm a b divides every common multiple
 --     lcm_unique                  the only common multiple that divides every other
 --     lcm-same                    lcm a b is a where b divides a
---     lcm_below-more               one entry more
---     lcm_below-low                lcm_below f n is at least 1
---     lcm_below_mono               a further entry never makes it smaller
---     lcm_below-divided, -mod      each entry divides it
---     lcm_below_divides, -least    it divides every common multiple, and none that is at least 1 is smaller
+--     lcm_below-more                      one entry more
+--     lcm_below-low                       lcm_below f n is at least 1
+--     lcm_below_mono                      a further entry never makes it smaller
+--     lcm_below-divided, lcm_below_mod    each entry divides it
+--     lcm_below_divides, lcm_below-least  it divides every common multiple, and none that is at least 1 is smaller
 use Prim.Native.Nat.{ℕ, zero, suc, ◌+◌, ◌*◌, ◌/◌, ◌%◌, ◌≤◌, suc-le-suc, ◌<◌, ◌∣◌}
 use Rattle.std.specs.Prelude.{◌≡◌, Bool, eqb}
 use Rattle.std.proofs.Common.{sym, ◌∙◌, subst, true≢false, arith, add-one, mul-le-mul_left, mod-lt, mul-suc, eq-or-lt_of_le, le_refl, le_trans, not-suc-le-zero, le_of_suc-le-suc, eqb-true, eq-eqb}

@@ -1,7 +1,7 @@
 -- A content's bytes, read back.
 --     back-edition, back-cores, back-tasks, back-offers, back-tasks-at, back-slack-at    the edition, the counts and the places in them
 --     back-label, back-task, back-slack                                     the entries
---     read-back        such a content, which fits a plan and with the found slack where none is offered, is read back from its bytes
+--     read_back        such a content, which fits a plan and with the found slack where none is offered, is read back from its bytes
 use Prim.Native.Nat.{ℕ, ◌+◌, ◌*◌, ◌^◌, ◌≤◌, ◌<◌}
 use Rattle.std.proofs.Common.{zero-add, arith, sym, ◌∙◌, ⊎_elim, get_or-append-add, ltb-true, ltb-false, eqb-true}
 use Rattle.std.specs.Prelude.{◌≡◌, Bool, ◌⊎◌, ltb}
