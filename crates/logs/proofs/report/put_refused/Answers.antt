@@ -1,0 +1,7 @@
+-- `logs::report::put_refused` meets its contract.
+use Rattle.logs.specs.LogBytes.{report_bytes}
+use Rattle.logs.proofs.report.put_refused.Goals as goal
+
+pub returns : goal.returns
+unfolding report_bytes
+returns c = c.put_report.ensures
