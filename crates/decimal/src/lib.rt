@@ -1,5 +1,6 @@
 // Text written to a lent buffer: fixed words, and numbers in decimal. Each call answers the place after what it wrote.
 #![tactic(auto)]
+
 ghost use Rattle.std.specs.Prelude.{◌+◌, ◌≤◌, length};
 ghost use Rattle.decimal.specs.Decimal.{decimal, said, Stored};
 

@@ -18,8 +18,8 @@ use mathlib.Core.List.{List, ◌++◌}
 use native.Mathlib.Omega.{arith}
 use Rattle.std.proofs.Math.ListN.{length-append}
 use Rattle.decimal.specs.Decimal.{words, decimal, said, Stored}
-use Rattle.decimal.specs.DecimalLaws.{length-said, decimal-length}
-use Rattle.decimal.specs.PutLaws.{put-behind}
+use Rattle.decimal.proofs.DecimalLaws.{length-said, decimal-length}
+use Rattle.decimal.proofs.PutLaws.{put-behind}
 use Rattle.laws.specs.TabLaws.{cut_below}
 use Rattle.tasks.specs.declared.Task.{Task}
 use Rattle.tasks.specs.declared.Plan.{Plan}

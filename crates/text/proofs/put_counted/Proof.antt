@@ -7,8 +7,8 @@ use borrow.Author.Rules.{rules}
 use Rattle.tasks.specs.TaskSet.{row}
 use Rattle.numbers.specs.Bytes.{entries}
 use Rattle.decimal.specs.Decimal.{words, Stored}
-use Rattle.decimal.specs.DecimalLaws.{length-said, decimal-length}
-use Rattle.decimal.specs.PutLaws.{put-behind}
+use Rattle.decimal.proofs.DecimalLaws.{length-said, decimal-length}
+use Rattle.decimal.proofs.PutLaws.{put-behind}
 use Rattle.text.specs.PrintedLaws.{stored-none, stored_next, name_in, names-short, counted-line}
 use Rattle.text.proofs.put_counted.Statement.{statement}
 use Rattle.text.proofs.put_counted.Tie as tie

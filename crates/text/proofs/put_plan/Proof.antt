@@ -1,6 +1,6 @@
 -- `text::put_plan` meets its contract. The loop's invariant: the lines of the first i loops are stored behind the first line.
 use Rattle.decimal.specs.Decimal.{words, Stored}
-use Rattle.decimal.specs.PutLaws.{put-behind}
+use Rattle.decimal.proofs.PutLaws.{put-behind}
 use Rattle.numbers.specs.Bytes.{entries}
 use Rattle.text.specs.Printed.{counts_line}
 use Rattle.text.specs.PrintedLaws.{line_in, stored-none, lines_next, within, counts-short, line-room, plan-text}

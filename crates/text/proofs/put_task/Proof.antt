@@ -2,8 +2,8 @@
 use native.Mathlib.Omega.{arith}
 use borrow.Author.Rules.{rules}
 use Rattle.decimal.specs.Decimal.{words}
-use Rattle.decimal.specs.DecimalLaws.{length-said}
-use Rattle.decimal.specs.PutLaws.{put-behind}
+use Rattle.decimal.proofs.DecimalLaws.{length-said}
+use Rattle.decimal.proofs.PutLaws.{put-behind}
 use Rattle.text.specs.Printed.{task_line}
 use Rattle.text.specs.PrintedLaws.{length-task-line}
 use Rattle.text.proofs.put_task.Statement.{statement}

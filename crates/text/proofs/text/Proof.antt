@@ -3,7 +3,7 @@ use mathlib.Core.Path.{◌≡◌}
 use native.Mathlib.Omega.{arith}
 use lib.ListN.{length}
 use borrow.Author.Rules.{rules}
-use Rattle.decimal.specs.PutLaws.{put-behind}
+use Rattle.decimal.proofs.PutLaws.{put-behind}
 use Rattle.table.specs.NamesLaws.{names-low}
 use Rattle.text.specs.PrintedLaws.{refusal-short}
 use Rattle.text.specs.TextLaws.{judged-passed, printed-plan, printed-refusal, count-few, plan-short, text-short, text-whole}

@@ -8,7 +8,7 @@ use Rattle.std.proofs.Common.{add-one, arith, length-append, take-suc, length-ta
 use Rattle.std.proofs.lemmas.List.Edits.{sets}
 use Rattle.laws.specs.SetsLaws.{sets-next}
 use Rattle.decimal.specs.Decimal.{decimal, Stored}
-use Rattle.decimal.specs.DecimalLaws.{decimal_one, decimal-more, length_more}
+use Rattle.decimal.proofs.DecimalLaws.{decimal_one, decimal-more, length_more}
 
 pub words-next :
     (l u w : List ℕ) (at i : ℕ) → u ≡ sets l at (take i w) → i < length w → set u (at + i) (get_or w i 0) ≡ sets l at (take (i + 1) w)
