@@ -5,7 +5,7 @@
 --     book-taken        an entry whose release is taken
 use Prim.Native.Nat.{ℕ, suc, ◌*◌, ◌≤◌, ◌<◌}
 use Rattle.std.specs.Prelude.{Bool, true, false, cond, ◌≡◌, refl, ◌⊎◌, List, [], ◌∷◌, ◌++◌, length, eqb}
-use Rattle.std.proofs.Math.Bool.{or_true}
+use Rattle.std.proofs.Math.Bool.{or-true}
 use Rattle.std.proofs.Common.{sym, ap, ◌∙◌, inl, inr, ⊎_elim, le_refl, eq-or-lt_of_le, le_of_suc-le-suc, arith, eqb-true, eq-eqb, ne_eqb}
 use Rattle.std.proofs.lemmas.List.Edits.{sets}
 use Rattle.std.proofs.lemmas.Bool.{eqb-false}
@@ -157,7 +157,7 @@ module _ {p : Plan} {l : List Entry} {out₀ : List ℕ} where
         joins k false os m = m
 
         new : (b : Bool) → eqb i i ≡ b → (os : List ℕ) → member e (cond b (os ++ e ∷ []) os) ≡ true
-        new true q os = member-append e os (e ∷ []) ∙ rw (member-here e []) (or_true (member e os))
+        new true q os = member-append e os (e ∷ []) ∙ rw (member-here e []) (or-true (member e os))
         new false q os = absurd (eqb-false i i q refl)
 
         every :

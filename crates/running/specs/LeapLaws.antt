@@ -7,7 +7,7 @@
 --     turning_end                  all of them noted, the leap is made
 use Prim.Native.Nat.{ℕ, zero, suc, pred, ◌+◌, ◌-◌, ◌≤◌, ◌<◌, min}
 use Rattle.std.specs.Prelude.{Bool, cond, not, ◌&&◌, ◌||◌, ◌≡◌, ◌≢◌}
-use Rattle.std.proofs.Math.Bool.{true, false, and-true, or_true, and-eq-true_iff}
+use Rattle.std.proofs.Math.Bool.{true, false, and-true, or-true, and-eq-true_iff}
 use Rattle.std.proofs.Common.{true≢false, sym, subst, ◌∙◌, eq-or-lt_of_le, le_of_suc-le-suc}
 use Rattle.std.proofs.lemmas.Bool.{false≢true}
 use Rattle.std.proofs.Math.Path.{refl, ap, fun_ext}
@@ -83,7 +83,7 @@ unfolding gone_to
 in_gone done zero b l = absurd (omega arith)
 in_gone done (suc a) b l =
     ⊎_elim
-    (λ (e : b ≡ a). rw (e, eq-eqb (row done a) (row done a) refl) (or_true (gone_to done a (row done a))))
+    (λ (e : b ≡ a). rw (e, eq-eqb (row done a) (row done a) refl) (or-true (gone_to done a (row done a))))
     (λ (m : b < a). rw (in_gone done a b m))
     (eq-or-lt_of_le (le_of_suc-le-suc l))
 
