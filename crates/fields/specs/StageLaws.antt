@@ -18,7 +18,7 @@ use Rattle.tasks.specs.declared.Answer.TheVariants.{Accepted, Refused}
 use Rattle.tasks.specs.TaskSet.{core_for_each, bound_by, bound}
 use Rattle.tasks.specs.Numbers.{deadline_high}
 use Rattle.tasks.specs.Content.{in_edition, task_of, content_of}
-use Rattle.tasks.specs.ContentLaws.{by_edition, used-task}
+use Rattle.tasks.proofs.ContentLaws.{by_edition, used-task}
 use Rattle.tasks.specs.Tests.{lowest, outside, bad_separation, bad_budget, bad_offset, bad_wish, bad_deadline, over_bound, bounds_test}
 use Rattle.tasks.specs.AnswerLaws.{lowest-found, lowest-none, lowest_ext}
 use Rattle.fields.specs.Stages.{fields_test, wishes_test}

@@ -5,7 +5,6 @@ pub mod Rank
 pub mod Multiple
 pub mod FirstLaws
 pub mod TabLaws
-pub mod MultipleLaws
 pub mod Member
 pub mod MemberLaws
 pub mod SumLaws
@@ -16,4 +15,3 @@ pub mod SetsLaws
 pub mod Every
 pub mod EveryLaws
 pub mod Settle
-pub mod SettleLaws

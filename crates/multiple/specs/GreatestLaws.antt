@@ -8,7 +8,7 @@ use Rattle.std.specs.Int.{◌∣◌}
 use Rattle.std.proofs.Common.{sym, ap, ◌∙◌, subst, subst₂, mul_comm, mul_assoc}
 use Rattle.std.proofs.Math.Nat.{dvd_refl, dvd-zero, dvd-mul_left, dvd-mul_right, dvd-mod_iff, dvd_antisymm, dvd_of_mul-dvd-mul_left, mul-dvd-mul_left, mul-dvd-mul_right, mul-div_cancel', div-mul_cancel, pos_of_dvd_of_pos}
 use Rattle.laws.specs.Multiple.{lcm}
-use Rattle.laws.specs.MultipleLaws.{lcm-left, lcm-right, lcm_divides}
+use Rattle.laws.proofs.MultipleLaws.{lcm-left, lcm-right, lcm_divides}
 use Rattle.multiple.specs.Greatest.{Greatest}
 
 pub greatest_end : (a : ℕ) → Greatest a 0 a

@@ -4,7 +4,7 @@ use native.Mathlib.Omega.{arith}
 use Prim.Native.Nat.{ℕ, ◌+◌}
 use mathlib.Core.Path.{◌≡◌, refl, ap₂, sym, ◌∙◌}
 use Rattle.laws.specs.Multiple.{lcm, lcm_below}
-use Rattle.laws.specs.MultipleLaws.{lcm_below-low, lcm_below-more, lcm_below_mono}
+use Rattle.laws.proofs.MultipleLaws.{lcm_below-low, lcm_below-more, lcm_below_mono}
 use borrow.Author.Rules.{rules}
 use Rattle.multiple.proofs.common_multiple.Goals as goal
 use Rattle.multiple.proofs.common_multiple.Invariants.{row}

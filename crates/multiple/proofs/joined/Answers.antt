@@ -1,7 +1,7 @@
 -- `multiple::joined` meets its contract. The product fits: the quotient is at most 1,000,000 and the separation at most 100,000.
 use mathlib.Core.Path.{sym}
 use native.Mathlib.Nat.{dvd_of_mod-eq-zero}
-use Rattle.laws.specs.MultipleLaws.{lcm-same}
+use Rattle.laws.proofs.MultipleLaws.{lcm-same}
 use Rattle.multiple.specs.GreatestLaws.{greatest_turn, greatest_low, greatest_lcm}
 use Rattle.multiple.proofs.joined.Goals as goal
 

@@ -18,23 +18,12 @@ use Rattle.tasks.specs.Content.{has_deadlines, Content, content_of}
 use Rattle.tasks.specs.Limits.{Limits, Enough, Bounded}
 use Rattle.tasks.specs.Tests.{refuse, bad_edition, test11, test12, test13, tests, test_plan}
 use Rattle.tasks.specs.AnswerLaws.{or_next-passed, refuse-passed, lowest-passed, first_met-passed}
-use Rattle.tasks.specs.LimitsLaws.{limit_tests, slack_tests, tests_split, Labelled, limits-passed, deadlines-passed}
-use Rattle.tasks.specs.SlackLaws.{covers-compliant, compliant_ext}
-use Rattle.tasks.specs.FoundLaws.{found_zeros, found-compliant}
+use Rattle.tasks.specs.Terms.{limit_tests, slack_tests, Labelled}
+use Rattle.tasks.proofs.LimitsLaws.{tests_split, limits-passed, deadlines-passed}
+use Rattle.tasks.proofs.SlackLaws.{covers-compliant, compliant_ext}
+use Rattle.tasks.proofs.FoundLaws.{found_zeros, found-compliant}
 use Rattle.tasks.specs.BoundLaws.{bound-more}
-
--- what holds where none of 3 to 13 and 28 is met
-pub record Passed (c : Content) : Type 0 where
-  pub limits : Limits c.tasks
-  pub labelled : Labelled c
-  pub deadline-high : has_deadlines c.edition ≡ true → (i : ℕ) → i < c.tasks.count → (c.tasks.task i).deadline ≤ 1600000
-  pub offers : (c.offers ≡ 0) ⊎ (c.offers ≡ c.tasks.count)
-  -- where loops are no more than cores no slack is offered
-  pub unoffered : core_for_each c.tasks.cores c.tasks.count ≡ true → c.offers ≡ 0
-  -- "A plan marked as found" has the found slack
-  pub as_found : c.offers ≡ 0 → (k : ℕ) → k < c.tasks.count → c.slack k ≡ row (found c.tasks) k
-  pub compliant : Enough c.tasks c.slack
-  pub bounded : Bounded c.tasks c.slack
+use Rattle.tasks.specs.Terms.{Passed}
 
 module _ (c : Content) where
   -- what 11 leaves

@@ -15,13 +15,7 @@ use Rattle.tasks.specs.Content.{has_deadlines, Content}
 use Rattle.tasks.specs.Limits.{Limits}
 use Rattle.tasks.specs.Tests.{or_next, first_met, bad_label, test3, test4, test5, test6, test7, test8, test28, test9, test10, test11, test12, test13, tests}
 use Rattle.tasks.specs.AnswerLaws.{refuse-passed, lowest-passed, first_met-passed, first_met-append, neither, outside-passed}
-
-unfoldable pub limit_tests : Content → Answer
-limit_tests c =
-    first_met (test3 c ∷ test4 c ∷ test5 c ∷ test6 c ∷ test7 c ∷ test8 c ∷ test28 c ∷ test9 c ∷ test10 c ∷ [])
-
-unfoldable pub slack_tests : Content → Answer
-slack_tests c = first_met (test11 c ∷ test12 c ∷ test13 c ∷ [])
+use Rattle.tasks.specs.Terms.{limit_tests, slack_tests, Labelled}
 
 pub tests_split : (c : Content) → tests c ≡ or_next (limit_tests c) (slack_tests c)
 unfolding tests limit_tests slack_tests
@@ -29,11 +23,6 @@ tests_split c =
     first_met-append
     (test3 c ∷ test4 c ∷ test5 c ∷ test6 c ∷ test7 c ∷ test8 c ∷ test28 c ∷ test9 c ∷ test10 c ∷ [])
     (test11 c ∷ test12 c ∷ test13 c ∷ [])
-
--- "a hardware label 0 to 63, strictly rising"
-pub record Labelled (c : Content) : Type 0 where
-  pub label-high : (i : ℕ) → i < c.tasks.cores → c.label i ≤ 63
-  pub label-rises : (i : ℕ) → suc i < c.tasks.cores → c.label i < c.label (suc i)
 
 module _ (c : Content) where
   label-passed : (i : ℕ) → bad_label c.label i ≡ false → c.label i ≤ 63

@@ -14,8 +14,8 @@ use Rattle.laws.specs.SumLaws.{sum_in, sum_add, sum_mul, sum_mono}
 use Rattle.laws.specs.Member.{member}
 use Rattle.tasks.specs.TaskSet.{TaskSet, hyperperiod, share, weight, surplus, counted, amount, cover, Compliant, ceiling}
 use Rattle.tasks.specs.Limits.{Limits}
-use Rattle.tasks.specs.ShareLaws.{timed, share_le}
-use Rattle.tasks.specs.AmountLaws.{counted-few, amount_is, amount_mono}
+use Rattle.tasks.proofs.ShareLaws.{timed, share_le}
+use Rattle.tasks.proofs.AmountLaws.{counted-few, amount_is, amount_mono}
 
 -- one loop of share u with T, Y: its weight at slack c where it is counted, and its surplus
 part : (u c t y : ℕ) → y ≤ t → u * (c + y) + u * (t - y) ≡ u * c + u * t

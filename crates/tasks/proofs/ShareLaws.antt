@@ -15,14 +15,10 @@ use Rattle.std.proofs.Math.Nat.{mul_comm, mul-le-mul}
 use native.Mathlib.Omega.{arith}
 use Rattle.laws.specs.Sum.{sum}
 use Rattle.laws.specs.SumLaws.{sum_le_mul}
-use Rattle.laws.specs.MultipleLaws.{lcm_below-low, lcm_below_mod, lcm_below-scaled, lcm_below-least}
+use Rattle.laws.proofs.MultipleLaws.{lcm_below-low, lcm_below_mod, lcm_below-scaled, lcm_below-least}
 use Rattle.tasks.specs.TaskSet.{TaskSet, hyperperiod, share, weight, surplus, cover}
 use Rattle.tasks.specs.Limits.{Limits}
-
-pub record Timed (s : TaskSet) : Type 0 where
-  pub separation-low : (i : ℕ) → i < s.count → 1 ≤ (s.task i).separation
-  pub budget-low : (i : ℕ) → i < s.count → 1 ≤ (s.task i).budget
-  pub budget-high : (i : ℕ) → i < s.count → (s.task i).budget ≤ (s.task i).separation
+use Rattle.tasks.specs.Terms.{Timed}
 
 pub timed : {s : TaskSet} → Limits s → Timed s
 timed L = record { separation-low = L.separation-low; budget-low = L.budget-low; budget-high = L.budget-high }

@@ -29,34 +29,16 @@ use Rattle.tasks.specs.Content.{has_deadlines, Content, late_of, late, counted_o
 use Rattle.tasks.specs.Limits.{Bounded}
 use Rattle.tasks.specs.Tests.{first_met, test10, test11, test12, test13, tests}
 use Rattle.tasks.specs.AnswerLaws.{pass_lowest, pass_first_met}
-use Rattle.tasks.specs.LimitsLaws.{limit_tests, slack_tests, tests_split, limits-passed}
-use Rattle.tasks.specs.ShareLaws.{Timed, timed, hyperperiod-low, hyperperiod-divided, hyperperiod-least, share_le}
-use Rattle.tasks.specs.AmountLaws.{counted-below, counted-distinct, counted-length, counted-ahead, counted-order, counted-only, counted_best}
-use Rattle.tasks.specs.SlackLaws.{compliant-covers}
-use Rattle.tasks.specs.TestsLaws.{tests-passed, tests-compliant, tests-bounded}
-use Rattle.tasks.specs.FoundLaws.{found_zeros, found-compliant, found-least, found-length, found_unique}
+use Rattle.tasks.specs.Terms.{limit_tests, slack_tests}
+use Rattle.tasks.proofs.LimitsLaws.{tests_split, limits-passed}
+use Rattle.tasks.specs.Terms.{Timed}
+use Rattle.tasks.proofs.ShareLaws.{timed, hyperperiod-low, hyperperiod-divided, hyperperiod-least, share_le}
+use Rattle.tasks.proofs.AmountLaws.{counted-below, counted-distinct, counted-length, counted-ahead, counted-order, counted-only, counted_best}
+use Rattle.tasks.proofs.SlackLaws.{compliant-covers}
+use Rattle.tasks.proofs.TestsLaws.{tests-passed, tests-compliant, tests-bounded}
+use Rattle.tasks.proofs.FoundLaws.{found_zeros, found-compliant, found-least, found-length, found_unique}
 use Rattle.tasks.specs.BoundLaws.{bound-each, bound-more}
-
-pub record Common (s : TaskSet) (h : ℕ) : Type 0 where
-  pub positive : 1 ≤ h
-  pub divided : (i : ℕ) → i < s.count → h % (s.task i).separation ≡ 0
-
-pub record Candidates (s : TaskSet) (l : List ℕ) : Type 0 where
-  pub loops : (i : ℕ) → member i l ≡ true → i < s.count
-  pub distinct : Distinct l
-  pub many : length l ≡ s.cores - 1
-
--- "names its loops, largest first, equal weights by lower loop"
-pub record ByWeight (s : TaskSet) (x : ℕ → ℕ) (l : List ℕ) : Type 0 where
-  pub loops : Candidates s l
-  pub largest : (i j : ℕ) → member i l ≡ true → j < s.count → member j l ≡ false → weight s x j ≤ weight s x i
-  pub lower : (i j : ℕ) → member i l ≡ true → j < s.count → member j l ≡ false → weight s x j ≡ weight s x i → i < j
-  pub falling : (a b : ℕ) → a < b → b < length l → weight s x (row l b) ≤ weight s x (row l a)
-  pub rising : (a b : ℕ) → a < b → b < length l → weight s x (row l b) ≡ weight s x (row l a) → row l a < row l b
-
-pub record Least (s : TaskSet) (x : ℕ → ℕ) : Type 0 where
-  pub compliant : Compliant s x
-  pub least : (y : ℕ → ℕ) → Compliant s y → (k : ℕ) → k < s.count → x k ≤ y k
+use Rattle.tasks.specs.Terms.{Common, Candidates, ByWeight, Least}
 
 module _ (c : Content) (passed : limit_tests c ≡ Accepted) where
   -- "H is the least common multiple of all T."

@@ -13,8 +13,8 @@ use native.Mathlib.Omega.{arith}
 use borrow.Author.Tests.{leb-true, le-leb}
 use Rattle.tasks.specs.TaskSet.{TaskSet, hyperperiod, amount, cover, Compliant, covers, needed}
 use Rattle.tasks.specs.Limits.{Limits}
-use Rattle.tasks.specs.ShareLaws.{hyperperiod-low}
-use Rattle.tasks.specs.AmountLaws.{amount_ext}
+use Rattle.tasks.proofs.ShareLaws.{hyperperiod-low}
+use Rattle.tasks.proofs.AmountLaws.{amount_ext}
 
 module _ (s : TaskSet) where
   pub compliant-covers : (x : ℕ → ℕ) → Compliant s x → (k : ℕ) → k < s.count → covers s x k ≡ true

@@ -18,6 +18,7 @@ use Rattle.laws.specs.SumLaws.{sum_less, sum_le_mul}
 use Rattle.laws.specs.Tab.{tab}
 use Rattle.laws.specs.TabLaws.{get_or-tab, length-tab}
 use Rattle.laws.specs.Settle.{same, unless, settle}
+use Rattle.laws.specs.Settle.{Settled}
 
 -- a list as a row, 0 past its end
 abbrev at : List ℕ → ℕ → ℕ
@@ -34,11 +35,6 @@ module _ (n : ℕ) (x y : List ℕ) where
       let p : ℕ → Bool = λ k. not (eqb (at x k) (at y k)) in
       let h : first p n < n = lt_of_le-ne (first_le p n) (eqb-false _ _ e) in
       (first p n, h, eqb-false _ _ (not-true _ (first_holds p n h)))
-
-pub record Settled (g : (ℕ → ℕ) → ℕ → ℕ) (n : ℕ) (x : List ℕ) : Type 0 where
-  pub still : (k : ℕ) → k < n → g (λ i. get_or x i 0) k ≡ get_or x k 0
-  pub least : (v : ℕ → ℕ) → ((k : ℕ) → k < n → g v k ≤ v k) → (k : ℕ) → k < n → get_or x k 0 ≤ v k
-  pub long : length x ≡ n
 
 module _ (g : (ℕ → ℕ) → ℕ → ℕ) (n c : ℕ)
     (mono : (x y : ℕ → ℕ) → ((k : ℕ) → k < n → x k ≤ y k) → (k : ℕ) → k < n → g x k ≤ g y k)

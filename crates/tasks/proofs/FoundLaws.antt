@@ -16,13 +16,15 @@ use Rattle.std.proofs.Math.Seq.{ext_get_or}
 use Rattle.std.proofs.Math.Dec.{ltb}
 use Rattle.laws.specs.Tab.{tab}
 use Rattle.laws.specs.TabLaws.{ext_tab}
-use Rattle.laws.specs.SettleLaws.{Settled, settled}
+use Rattle.laws.specs.Settle.{Settled}
+use Rattle.laws.proofs.SettleLaws.{settled}
 use Rattle.tasks.specs.TaskSet.{TaskSet, amount, Compliant, needed, row, raise, ceiling, core_for_each, found}
 use Rattle.tasks.specs.Limits.{Limits, Enough}
-use Rattle.tasks.specs.AmountLaws.{amount_mono}
-use Rattle.tasks.specs.SlackLaws.{needed_mono, compliant-needed, needed-compliant}
-use Rattle.tasks.specs.CeilingLaws.{ceiling-compliant}
-use Rattle.tasks.specs.RisingLaws.{Raised, Rising, still-compliant}
+use Rattle.tasks.proofs.AmountLaws.{amount_mono}
+use Rattle.tasks.proofs.SlackLaws.{needed_mono, compliant-needed, needed-compliant}
+use Rattle.tasks.proofs.CeilingLaws.{ceiling-compliant}
+use Rattle.tasks.specs.Terms.{Raised, Rising}
+use Rattle.tasks.proofs.RisingLaws.{still-compliant}
 
 zero_at : (n k : ℕ) → ◌≡◌ {A = ℕ} (get_or (replicate n 0) k 0) 0
 zero_at zero k = refl

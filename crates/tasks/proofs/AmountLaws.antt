@@ -23,7 +23,7 @@ use Rattle.laws.specs.SortedLaws.{Leading, sorted_by_places}
 use Rattle.laws.specs.LargestLaws.{heavier, Precedes, ahead_precedes, precedes_ahead, largest-sorted, largest-ahead, largest-only, largest-below, largest-distinct, largest-length, largest-count_le, largest_ext, largest_is_sum_in, largest_best, largest_mono, largest_le_mul}
 use Rattle.tasks.specs.TaskSet.{TaskSet, weight, surplus, counted, amount, row}
 use Rattle.tasks.specs.Limits.{Limits}
-use Rattle.tasks.specs.ShareLaws.{weight_mono, weight-high, surpluses_high}
+use Rattle.tasks.proofs.ShareLaws.{weight_mono, weight-high, surpluses_high}
 
 module _ (s : TaskSet) where
   pub counted-below : (x : ℕ → ℕ) (i : ℕ) → member i (counted s x) ≡ true → i < s.count

@@ -30,6 +30,7 @@ use Rattle.tasks.specs.declared.Task.{Task}
 use Rattle.tasks.specs.declared.Plan.{Plan}
 use Rattle.tasks.specs.TaskSet.{TaskSet, row}
 use Rattle.tasks.specs.Content.{has_deadlines, in_edition, Content, late_of, no_task, zero_task, task_of, content_of, plan_of, tidy, Same}
+use Rattle.tasks.specs.Terms.{with_slack, Fits}
 
 pub plan_ext :
     (p q : Plan) → p.edition ≡ q.edition → p.offered ≡ q.offered → p.cores ≡ q.cores → p.tasks ≡ q.tasks
@@ -43,18 +44,6 @@ set_ext s u m n t = λ i. record { cores = m i; count = n i; task = λ k. t k i 
 pub content_ext :
     (c d : Content) → c.edition ≡ d.edition → c.tasks ≡ d.tasks → c.label ≡ d.label → c.offers ≡ d.offers → c.slack ≡ d.slack → c ≡ d
 content_ext c d e t l o s = λ i. record { edition = e i; tasks = t i; label = l i; offers = o i; slack = s i }
-
-unfoldable pub with_slack : Plan → List ℕ → Plan
-with_slack p x =
-    record {
-      edition = p.edition;
-      offered = p.offered;
-      cores = p.cores;
-      tasks = p.tasks;
-      labels = p.labels;
-      task = p.task;
-      slack = x;
-    }
 
 pub by_edition : (P : Bool → Type 0) (e : ℕ) → P true → P false → P (has_deadlines e)
 by_edition P e with-deadlines without = go (has_deadlines e)
@@ -109,15 +98,6 @@ late-high e t bound = omega arith
 pub used-task : (p : Plan) (i : ℕ) → i < p.tasks → (content_of p).tasks.task i ≡ in_edition p.edition (task_of p.task i)
 unfolding content_of
 used-task p i h = cut_below p.tasks _ no_task i h
-
-pub record Fits (c : Content) : Type 0 where
-  pub cores-high : c.tasks.cores ≤ 8
-  pub tasks-high : c.tasks.count ≤ 16
-  pub label-past : (i : ℕ) → c.tasks.cores ≤ i → c.label i ≡ 0
-  pub task-past : (i : ℕ) → c.tasks.count ≤ i → c.tasks.task i ≡ no_task
-  pub slack-past : (i : ℕ) → c.tasks.count ≤ i → c.slack i ≡ 0
-  pub deadlines : (i : ℕ) → in_edition c.edition (c.tasks.task i) ≡ c.tasks.task i
-  pub offers : (c.offers ≡ 0) ⊎ (c.offers ≡ c.tasks.count)
 
 -- a row that is z from n on, put in a list of N, and read below n again
 pub row_back : {A : Type 0} (f : ℕ → A) (z : A) (n N : ℕ) → n ≤ N → ((i : ℕ) → n ≤ i → f i ≡ z) → (i : ℕ) → cut n (λ j. get_or (tab f N) j z) z i ≡ f i

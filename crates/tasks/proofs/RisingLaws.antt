@@ -14,17 +14,10 @@ use Rattle.laws.specs.Sum.{sum}
 use Rattle.laws.specs.SumLaws.{sum_less, sum_le_mul}
 use Rattle.tasks.specs.TaskSet.{TaskSet, amount, Compliant, needed, ceiling}
 use Rattle.tasks.specs.Limits.{Limits}
-use Rattle.tasks.specs.AmountLaws.{amount_mono}
-use Rattle.tasks.specs.SlackLaws.{needed_mono, compliant-needed, needed-compliant}
-use Rattle.tasks.specs.CeilingLaws.{ceiling-compliant}
-
--- y is x raised once
-unfoldable pub Raised : TaskSet → (ℕ → ℕ) → (ℕ → ℕ) → Type 0
-Raised s x y = (k : ℕ) → k < s.count → y k ≡ needed s (amount s x) k
-
-pub record Rising (s : TaskSet) (x : ℕ → ℕ) : Type 0 where
-  pub rises : (k : ℕ) → k < s.count → x k ≤ needed s (amount s x) k
-  pub least : (y : ℕ → ℕ) → Compliant s y → (k : ℕ) → k < s.count → x k ≤ y k
+use Rattle.tasks.proofs.AmountLaws.{amount_mono}
+use Rattle.tasks.proofs.SlackLaws.{needed_mono, compliant-needed, needed-compliant}
+use Rattle.tasks.proofs.CeilingLaws.{ceiling-compliant}
+use Rattle.tasks.specs.Terms.{Raised, Rising}
 
 pub rising-start : (s : TaskSet) (x : ℕ → ℕ) → ((k : ℕ) → k < s.count → x k ≡ 0) → Rising s x
 rising-start s x z = record { rises = λ k h. omega (arith, z k h); least = λ y c k h. omega (arith, z k h) }

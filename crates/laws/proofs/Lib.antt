@@ -1,0 +1,2 @@
+pub mod MultipleLaws
+pub mod SettleLaws

@@ -1,0 +1,10 @@
+pub mod ShareLaws
+pub mod RisingLaws
+pub mod ContentLaws
+pub mod LimitsLaws
+pub mod TestsLaws
+pub mod TaskTheorems
+pub mod AmountLaws
+pub mod SlackLaws
+pub mod CeilingLaws
+pub mod FoundLaws
