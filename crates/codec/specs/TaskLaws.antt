@@ -17,8 +17,8 @@ use mathlib.Core.List.{List, [], ◌++◌, append_assoc, append-nil}
 use Rattle.std.proofs.Math.ListN.{length}
 use Rattle.tasks.specs.declared.Task.{Task}
 use Rattle.tasks.specs.Content.{has_deadlines, in_edition, Content}
-use Rattle.tasks.specs.ContentLaws.{by_edition, cut-edition}
-use Rattle.tasks.specs.TestsLaws.{Passed}
+use Rattle.tasks.proofs.ContentLaws.{by_edition, cut-edition}
+use Rattle.tasks.specs.Terms.{Passed}
 use Rattle.numbers.specs.Bytes.{byte, number, digits}
 use Rattle.codec.specs.Table.{task_size, edition_in, task_count, task_in, plain_bytes, task_bytes, task_set_in, content_in}
 use Rattle.numbers.specs.ByteLaws.{Bytes, number_same, number_digits, number-digits-at, digits_number, length_digits}
