@@ -24,7 +24,7 @@ use Rattle.tasks.specs.TaskSet.{TaskSet, plain_task as loop, hyperperiod, share,
 use Rattle.tasks.specs.Content.{Content, no_task, task_of}
 use Rattle.tasks.specs.Limits.{Limits, Enough, Bounded}
 use Rattle.tasks.specs.Tests.{lowest, first_met, outside, bad_label, test3, test4, test5, test6, test7, test8, test28, test9, test10, test11, test12, test13, tests}
-use Rattle.tasks.specs.TestsLaws.{tests-limits, tests-compliant, tests-bounded}
+use Rattle.tasks.proofs.TestsLaws.{tests-limits, tests-compliant, tests-bounded}
 use Rattle.machine.specs.Machine.{Machine, opened, too_soon, joined, admitted, waiting, released, point, before, chosen, idle, on_core, runs, served, advanced, tick, response, responses}
 use Rattle.machine.specs.Reached.{Reached, opening, release}
 use Rattle.machine.specs.Choice.{reached-tick}

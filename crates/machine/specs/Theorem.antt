@@ -18,8 +18,8 @@ use Rattle.std.proofs.Math.ListN.{length, length-append}
 use borrow.Author.Tests.{lt-leb, leb-true}
 use Rattle.tasks.specs.TaskSet.{TaskSet, Compliant, core_for_each, bound}
 use Rattle.tasks.specs.Limits.{Limits, Enough, Bounded}
-use Rattle.tasks.specs.ShareLaws.{timed, hyperperiod-low, share_exact, share_le}
-use Rattle.tasks.specs.AmountLaws.{amount_best}
+use Rattle.tasks.proofs.ShareLaws.{timed, hyperperiod-low, share_exact, share_le}
+use Rattle.tasks.proofs.AmountLaws.{amount_best}
 use Rattle.tasks.specs.BoundLaws.{bound-each, bound-more}
 use Rattle.machine.specs.Machine.{Job, job, Machine, opened, too_soon, full, joined, served, response, responses, advanced}
 use Rattle.machine.specs.Reached.{Reached, opening, release, ticked, OnTime}

@@ -23,10 +23,10 @@ use Rattle.tasks.specs.declared.Answer.{Answer}
 use Rattle.tasks.specs.declared.Answer.TheVariants.{Accepted, Refused}
 use Rattle.tasks.specs.TaskSet.{row}
 use Rattle.tasks.specs.Content.{in_edition, task_of, content_of, tidy}
-use Rattle.tasks.specs.ContentLaws.{used-task}
+use Rattle.tasks.proofs.ContentLaws.{used-task}
 use Rattle.tasks.specs.Tests.{test_plan}
 use Rattle.tasks.specs.Limits.{Limits, Enough, Bounded}
-use Rattle.tasks.specs.TestsLaws.{tests-limits, tests-compliant, tests-bounded, plan-passed}
+use Rattle.tasks.proofs.TestsLaws.{tests-limits, tests-compliant, tests-bounded, plan-passed}
 use Rattle.machine.specs.Machine.{release_tick, remaining, Lane, Machine, opened}
 use Rattle.machine.specs.Sound.{Rising, Newest, Past, SoundLane}
 use Rattle.state.specs.declared.State.{State}

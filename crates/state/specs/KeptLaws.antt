@@ -15,7 +15,7 @@ use Rattle.tasks.specs.declared.Plan.{Plan}
 use Rattle.tasks.specs.declared.Answer.{Answer}
 use Rattle.tasks.specs.declared.Answer.TheVariants.{Accepted, Refused}
 use Rattle.tasks.specs.Content.{content_of, tidy}
-use Rattle.tasks.specs.ContentLaws.{tidy-tidy}
+use Rattle.tasks.proofs.ContentLaws.{tidy-tidy}
 use Rattle.tasks.specs.Tests.{or_next, first_met, test_plan, unless_refused}
 use Rattle.machine.specs.Machine.{Job, job, Machine, opened, full, Allowed, joined, admitted, served, advanced, runs, tick}
 use Rattle.machine.specs.Admission.{admit_tests}

@@ -14,7 +14,7 @@ use Rattle.tasks.specs.declared.Answer.TheVariants.{Accepted}
 use Rattle.tasks.specs.TaskSet.{TaskSet}
 use Rattle.tasks.specs.Content.{Content}
 use Rattle.tasks.specs.Tests.{tests}
-use Rattle.tasks.specs.TestsLaws.{tests-limits, tests-compliant, tests-bounded}
+use Rattle.tasks.proofs.TestsLaws.{tests-limits, tests-compliant, tests-bounded}
 use Rattle.machine.specs.Machine.{Machine, too_soon, full, chosen, idle, on_core, runs}
 use Rattle.machine.specs.Reached.{Reached}
 use Rattle.machine.specs.Theorem.{never_full}

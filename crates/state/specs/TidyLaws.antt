@@ -14,9 +14,9 @@ use Rattle.tasks.specs.declared.Plan.{Plan}
 use Rattle.tasks.specs.declared.Answer.TheVariants.{Accepted}
 use Rattle.tasks.specs.TaskSet.{row}
 use Rattle.tasks.specs.Content.{has_deadlines, in_edition, no_task, zero_task, task_of, content_of, plan_of, tidy}
-use Rattle.tasks.specs.ContentLaws.{cut-edition, kept_in, in_kept, mark_back, zero_task_lem, no_task_lem, content-tidy}
+use Rattle.tasks.proofs.ContentLaws.{cut-edition, kept_in, in_kept, mark_back, zero_task_lem, no_task_lem, content-tidy}
 use Rattle.tasks.specs.Tests.{bad_edition, tests, test_plan}
-use Rattle.tasks.specs.TestsLaws.{plan-passed, plan-accepted}
+use Rattle.tasks.proofs.TestsLaws.{plan-passed, plan-accepted}
 use Rattle.state.specs.SoundState.{tidy_label, tidy_task, tidy_test}
 use Rattle.laws.specs.EveryLaws.{both, and_both}
 use Rattle.state.specs.AllLaws.{all-at, of-all}

@@ -16,8 +16,8 @@ use Rattle.laws.specs.SumLaws.{sum_in, sum_add, sum_mul, sum_mono}
 use Rattle.laws.specs.Member.{member}
 use Rattle.tasks.specs.declared.Task.{Task}
 use Rattle.tasks.specs.TaskSet.{TaskSet, hyperperiod, share, weight, surplus, counted, amount, needed}
-use Rattle.tasks.specs.AmountLaws.{counted-few, amount_best, amount_is}
-use Rattle.tasks.specs.SlackLaws.{needed-covers, needed-least}
+use Rattle.tasks.proofs.AmountLaws.{counted-few, amount_best, amount_is}
+use Rattle.tasks.proofs.SlackLaws.{needed-covers, needed-least}
 use Rattle.wishes.specs.Wish.{room, with_offsets, largest_offset, at_slack}
 use Rattle.wishes.specs.WishLaws.{Within}
 use Rattle.wishes.proofs.WishLaws.{largest-low, largest_mono_at}

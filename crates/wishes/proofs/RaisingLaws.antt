@@ -18,7 +18,7 @@ use Rattle.laws.specs.EveryLaws.{below_or_not}
 use Rattle.laws.specs.Sum.{sum}
 use Rattle.laws.specs.SumLaws.{sum_less, sum_mono}
 use Rattle.tasks.specs.TaskSet.{TaskSet, hyperperiod, amount, needed, row}
-use Rattle.tasks.specs.SlackLaws.{needed-least}
+use Rattle.tasks.proofs.SlackLaws.{needed-least}
 use Rattle.wishes.specs.Wish.{room, with_offsets, at_slack, wished, passes, no_solution}
 use Rattle.wishes.specs.WishLaws.{Within, Kept}
 use Rattle.wishes.proofs.WishLaws.{at_mono, need_mono, kept-needed, needed-kept-at, wished-kept, wished-least}

@@ -17,12 +17,13 @@ use Rattle.laws.specs.Sum.{count}
 use Rattle.laws.specs.SumLaws.{sum_in, sum_add, sum_mono}
 use Rattle.laws.specs.Member.{member}
 use Rattle.laws.specs.LargestLaws.{largest_mono}
-use Rattle.laws.specs.SettleLaws.{Settled, settled}
+use Rattle.laws.specs.Settle.{Settled}
+use Rattle.laws.proofs.SettleLaws.{settled}
 use Rattle.tasks.specs.declared.Task.{Task}
 use Rattle.tasks.specs.TaskSet.{TaskSet, hyperperiod, share, weight, surplus, counted, amount, cover, Compliant, needed, raise, ceiling, bound_of, row}
-use Rattle.tasks.specs.AmountLaws.{counted-few, amount_best, amount_is}
-use Rattle.tasks.specs.SlackLaws.{needed_mono, compliant-needed, needed-compliant}
-use Rattle.tasks.specs.CeilingLaws.{ceiling-compliant}
+use Rattle.tasks.proofs.AmountLaws.{counted-few, amount_best, amount_is}
+use Rattle.tasks.proofs.SlackLaws.{needed_mono, compliant-needed, needed-compliant}
+use Rattle.tasks.proofs.CeilingLaws.{ceiling-compliant}
 use Rattle.wishes.specs.Wish.{room, with_offset, with_offsets, Solution, largest_offset, at_slack, wished}
 use Rattle.wishes.specs.WishLaws.{Within, Kept}
 

@@ -19,8 +19,9 @@ use Rattle.tasks.specs.TaskSet.{TaskSet, hyperperiod, share, found, bound, row}
 use Rattle.tasks.specs.Content.{Content}
 use Rattle.tasks.specs.Tests.{refuse, or_next, first_met, number_of, test3, test4, test5, test6, test7, test8, test28, test9, test10, test11, test12, test13, tests}
 use Rattle.tasks.specs.AnswerLaws.{refuse-passed, refuse-met, pass_outside, pass_lowest, lowest-passed, or_next-passed, first_met-passed, pass_first_met, first_met-append, outside-passed, first_met-none}
-use Rattle.tasks.specs.LimitsLaws.{limit_tests, slack_tests, tests_split, limits-passed}
-use Rattle.tasks.specs.FoundLaws.{found-compliant, found-least}
+use Rattle.tasks.specs.Terms.{limit_tests, slack_tests}
+use Rattle.tasks.proofs.LimitsLaws.{tests_split, limits-passed}
+use Rattle.tasks.proofs.FoundLaws.{found-compliant, found-least}
 use Rattle.tasks.specs.BoundLaws.{bound-more}
 use Rattle.wishes.specs.Wish.{room, with_offsets, Solution, largest_offset, at_slack, wished, passes, no_solution, sheet5, test26, sheet11, test27, wish_tests, solved}
 use Rattle.wishes.specs.WishLaws.{Kept}
