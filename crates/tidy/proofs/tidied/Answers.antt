@@ -1,5 +1,5 @@
 -- `tidy::tidied` meets its contract.
-use Rattle.tasks.specs.ContentLaws.{tidied_code}
+use Rattle.tasks.proofs.ContentLaws.{tidied_code}
 use Rattle.tidy.proofs.tidied.Goals as goal
 
 pub returns : goal.returns
