@@ -1,6 +1,7 @@
 // From one clock to a later one, by leaps: who runs depends only on the heads and their priority points, so as long as no running job finishes
 // and nothing is released every tick is the same tick.
 #![tactic(auto)]
+
 ghost use Rattle.std.specs.Prelude.{◌≡◌, ◌≤◌, ◌<◌, min, length};
 ghost use Rattle.running.specs.Running.{arrays};
 ghost use Rattle.running.specs.Leap.{Standing, Ready, Leapt, Advanced};
