@@ -14,8 +14,8 @@ use Rattle.std.proofs.Math.Dec.{ltb}
 use borrow.Author.Tests.{ltb-true, ltb-false}
 use Rattle.tasks.specs.TaskSet.{TaskSet, hyperperiod, needed}
 use Rattle.tasks.specs.Limits.{Limits}
-use Rattle.tasks.specs.ShareLaws.{hyperperiod-low}
-use Rattle.tasks.specs.SlackLaws.{needed-covers, needed-least}
+use Rattle.tasks.proofs.ShareLaws.{hyperperiod-low}
+use Rattle.tasks.proofs.SlackLaws.{needed-covers, needed-least}
 use Rattle.slack.specs.Arrays.{lifted, need}
 
 module _ (a h : ℕ) (low : 1 ≤ h) where

@@ -9,7 +9,7 @@ use Rattle.tasks.specs.declared.Answer.{Answer}
 use Rattle.tasks.specs.declared.Answer.TheVariants.{Accepted}
 use Rattle.tasks.specs.TaskSet.{TaskSet, hyperperiod, share, surplus}
 use Rattle.tasks.specs.Tests.{refuse, first_met, bad_multiple, bad_shares}
-use Rattle.tasks.specs.ShareLaws.{Timed}
+use Rattle.tasks.specs.Terms.{Timed}
 use Rattle.slack.specs.declared.rates.Rates.{Rates}
 
 pub record Ranges (s : TaskSet) : Type 0 where

@@ -17,7 +17,7 @@ use Rattle.laws.specs.Multiple.{lcm_below}
 use Rattle.tasks.specs.declared.Answer.TheVariants.{Accepted, Refused}
 use Rattle.tasks.specs.TaskSet.{TaskSet, hyperperiod, share, surplus, row}
 use Rattle.tasks.specs.Tests.{first_met}
-use Rattle.tasks.specs.ShareLaws.{share_le}
+use Rattle.tasks.proofs.ShareLaws.{share_le}
 use Rattle.fields.specs.Columns.{set_from}
 use Rattle.slack.specs.Rates.{Ranges, rates_test}
 

@@ -19,9 +19,10 @@ use Rattle.laws.specs.Sum.{sum}
 use Rattle.laws.specs.Tab.{tab, cut}
 use Rattle.laws.specs.TabLaws.{length-tab, get_or-tab, get_or-tab-out}
 use Rattle.tasks.specs.TaskSet.{TaskSet, hyperperiod, counted, amount, needed, found, row}
-use Rattle.tasks.specs.AmountLaws.{counted_ext}
-use Rattle.tasks.specs.RisingLaws.{Raised, Rising, rising_step, rising_falls}
-use Rattle.tasks.specs.FoundLaws.{found-still, found_array}
+use Rattle.tasks.proofs.AmountLaws.{counted_ext}
+use Rattle.tasks.specs.Terms.{Raised, Rising}
+use Rattle.tasks.proofs.RisingLaws.{rising_step, rising_falls}
+use Rattle.tasks.proofs.FoundLaws.{found-still, found_array}
 use Rattle.slack.specs.RatesLaws.{row_filled}
 use Rattle.slack.specs.Arrays.{lifted, need, upto, ArraysOf}
 use Rattle.slack.specs.ArraysLaws.{upto-below, upto-above}

@@ -19,9 +19,9 @@ use Rattle.laws.specs.LargestLaws.{largest_ext, largest-below}
 use Rattle.laws.specs.Tab.{tab, cut}
 use Rattle.laws.specs.TabLaws.{get_or-cut}
 use Rattle.tasks.specs.declared.Answer.TheVariants.{Accepted, Refused}
-use Rattle.tasks.specs.TaskSet.{TaskSet, hyperperiod, share, surplus, weight, counted, amount, cover, covers, row}
+use Rattle.tasks.specs.TaskSet.{TaskSet, hyperperiod, weight, counted, amount, cover, covers, row}
 use Rattle.tasks.specs.Limits.{Limits}
-use Rattle.tasks.specs.ShareLaws.{share-high, surpluses_high, hyperperiod-low}
+use Rattle.tasks.proofs.ShareLaws.{share-high, surpluses_high, hyperperiod-low}
 use Rattle.tasks.specs.Tests.{lowest}
 use Rattle.tasks.specs.AnswerLaws.{refuse-passed, lowest-passed, lowest-found, lowest-none, first_met-passed, outside-passed}
 use Rattle.slack.specs.declared.rates.Rates.{Rates}

@@ -12,9 +12,7 @@ use native.Mathlib.Omega.{arith}
 use Prim.Native.Nat.{ℕ, ◌≤◌, ◌<◌, ◌+◌, ◌*◌}
 use mathlib.Core.Path.{◌≡◌, ap, ◌∙◌}
 use lib.ListN.{get_or}
-use borrow.Author.Rules.{rules}
-use Rattle.slack.proofs.amount.amount.Statement.{statement}
-use Rattle.slack.proofs.amount.amount.Tie as tie
+use Rattle.slack.proofs.amount.amount.Goals as goal
 
 module _ (w : ℕ → ℕ) (n : ℕ) (l : List ℕ) (h : n ≤ 16) (g : Weighed w n l) where
   entry : (i : ℕ) → i < n → get_or l i 0 ≡ w i
@@ -42,18 +40,15 @@ module _ (w : ℕ → ℕ) (n : ℕ) (l : List ℕ) (h : n ≤ 16) (g : Weighed 
         again = c.again;
       }
 
-weigh-requires : tie.Need-weigh-requires
-weigh-requires c κs = search rules
+pub choose-requires : goal.choose-requires
+choose-requires c =
+    let s = c in
+    (light _ _ _ s.requires.0.sixteen c.weigh-weight.ensures, s.requires.2, s.requires.3)
 
-choose-requires : tie.Need-choose-requires
-choose-requires c κs =
-    let s = c.before.before.before in
-    (light _ _ _ s.requires.0.sixteen c.before.before.weigh.ensures, s.requires.2, s.requires.3)
-
-add-result : tie.Need-overflow-add-result
-add-result c =
-    let s = c.before.before.before.before in
-    let g = c.before.before.before.weigh.ensures in
+pub overflow_add-result : goal.overflow_add-result
+overflow_add-result c =
+    let s = c in
+    let g = c.weigh-weight.ensures in
     omega (
       arith,
       c.choose.ensures.total,
@@ -61,10 +56,7 @@ add-result c =
       high _ _ _ s.requires.0.sixteen g s.args.many,
     )
 
-returns : tie.Need-returns
+pub returns : goal.returns
 returns c =
-    let s = c.before.before.before.before in
-    done _ _ _ s.requires.0.sixteen c.before.before.before.weigh.ensures _ _ _ _ c.choose.ensures
-
-pub amount-spec : {M : Type 1} → statement M
-amount-spec = tie.close (tie.spec weigh-requires choose-requires add-result returns)
+    let s = c in
+    done _ _ _ s.requires.0.sixteen c.weigh-weight.ensures _ _ _ _ c.choose.ensures

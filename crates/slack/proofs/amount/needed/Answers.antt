@@ -4,15 +4,14 @@ use Prim.Native.Nat.{ℕ, ◌+◌, ◌-◌, ◌/◌, ◌≤◌, ◌<◌}
 use mathlib.Core.Path.{◌≡◌, ◌∙◌}
 use mathlib.Core.List.{List}
 use Rattle.tasks.specs.TaskSet.{TaskSet, hyperperiod, amount, row}
-use Rattle.tasks.specs.ShareLaws.{hyperperiod-low}
-use Rattle.tasks.specs.AmountLaws.{amount-high}
-use Rattle.tasks.specs.CeilingLaws.{level_high}
+use Rattle.tasks.proofs.ShareLaws.{hyperperiod-low}
+use Rattle.tasks.proofs.AmountLaws.{amount-high}
+use Rattle.tasks.proofs.CeilingLaws.{level_high}
 use Rattle.slack.specs.Weights.{weight_row, Amounts}
 use Rattle.slack.specs.Arrays.{need, ArraysOf, Needs}
 use Rattle.slack.specs.NeedLaws.{need-least}
-use Rattle.slack.specs.StageLaws.{cores-low, more, multiple-low, multiple-high, few, surplus-high, counted-row, amount-row}
-use Rattle.slack.proofs.amount.needed.Statement.{statement}
-use Rattle.slack.proofs.amount.needed.Tie as tie
+use Rattle.slack.specs.StageLaws.{more, multiple-low, multiple-high, few, surplus-high, counted-row, amount-row}
+use Rattle.slack.proofs.amount.needed.Goals as goal
 
 module _ {s : TaskSet} {shares budgets offsets : List ℕ} {h surpluses m n : ℕ} (g : ArraysOf s shares budgets offsets h surpluses m n)
     (x : List ℕ) (low : (i : ℕ) → i < n → row x i ≤ 1600000) {names : List ℕ} {a : ℕ}
@@ -37,14 +36,20 @@ module _ {s : TaskSet} {shares budgets offsets : List ℕ} {h surpluses m n : �
     done : Needs s (row x) names ((a + (h - 1)) / h)
     done = record { needs = of; limit = limit; counts = rw g.cores at (w.names ∙ counted-row g x) }
 
-pub needed-spec : {M : Type 1} → statement M
-needed-spec =
-    tie.close
-    (tie.spec
-    (λ c. omega (arith, cores-low c.before.requires.0.2))
-    (λ c κs. let s = c.before in let g = s.requires.0.2 in (few g, surplus-high g, s.requires.1, omega (arith, more g)))
-    (λ c. multiple-low c.before.before.requires.0.2)
-    (λ c. let s = c.before.before in omega (arith, whole-high s.requires.0.2 _ s.requires.2 c.amount.ensures, multiple-high s.requires.0.2))
-    (λ c. multiple-low c.before.before.requires.0.2)
-    (λ c. let s = c.before.before in omega (arith, limit s.requires.0.2 _ s.requires.2 c.amount.ensures))
-    (λ c. let s = c.before.before in (λ t b k. done k _ s.requires.2 c.amount.ensures, c.amount.ensures.again)))
+pub amount-whole-requires : goal.amount-whole-requires
+amount-whole-requires c = let g = c.requires.0.2 in (few g, surplus-high g, c.requires.1, omega (arith, more g))
+
+pub overflow_sub-result : goal.overflow_sub-result
+overflow_sub-result c = multiple-low c.requires.0.2
+
+pub overflow_add-result : goal.overflow_add-result
+overflow_add-result c = omega (arith, whole-high c.requires.0.2 _ c.requires.2 c.amount-whole.ensures, multiple-high c.requires.0.2)
+
+pub nonzero_div-result : goal.nonzero_div-result
+nonzero_div-result c = multiple-low c.requires.0.2
+
+pub overflow_cast-result : goal.overflow_cast-result
+overflow_cast-result c = omega (arith, limit c.requires.0.2 _ c.requires.2 c.amount-whole.ensures)
+
+pub returns : goal.returns
+returns c = ((λ t b k. done k _ c.requires.2 c.amount-whole.ensures), c.amount-whole.ensures.again)
