@@ -1,6 +1,5 @@
 pub mod Machine
 pub mod Admission
-pub mod AdmissionLaws
 pub mod Reached
 pub mod Queue
 pub mod Owed
@@ -8,11 +7,6 @@ pub mod BeforeLaws
 pub mod Choice
 pub mod Cores
 pub mod Invariant
-pub mod Release
-pub mod Due
-pub mod Tick
-pub mod OwnCore
-pub mod Theorem
 pub mod Sound
 pub mod Work
 pub mod Met

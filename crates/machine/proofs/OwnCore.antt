@@ -9,10 +9,11 @@ use Rattle.tasks.specs.TaskSet.{TaskSet}
 use Rattle.machine.specs.Machine.{Job, Machine, waiting}
 use Rattle.machine.specs.Reached.{EarliestFirst, Reached, opening, release, ticked}
 use Rattle.machine.specs.Queue.{InTime}
-use Rattle.machine.specs.Choice.{each-runs}
-use Rattle.machine.specs.Invariant.{Timely, opening-timely}
-use Rattle.machine.specs.Release.{release-timely}
-use Rattle.machine.specs.Tick.{ticked-timely}
+use Rattle.machine.proofs.Choice.{each-runs}
+use Rattle.machine.specs.Invariant.{Timely}
+use Rattle.machine.proofs.Invariant.{opening-timely}
+use Rattle.machine.proofs.Release.{release-timely}
+use Rattle.machine.proofs.Tick.{ticked-timely}
 
 module _ (s : TaskSet) (few : s.count ≤ s.cores) where
   none-late :

@@ -12,11 +12,14 @@ use Rattle.laws.specs.SumLaws.{sum_mono, sum_add, sum_mul, sum_in, count_mono}
 use Rattle.tasks.specs.TaskSet.{TaskSet, hyperperiod, share, weight, surplus, amount}
 use Rattle.machine.specs.Machine.{Job, Machine, served, advanced}
 use Rattle.machine.specs.Reached.{EarliestFirst}
-use Rattle.machine.specs.Queue.{next, next-later, next-clock, Chain, chain-later, chain-served, InTime, in_time_served}
-use Rattle.machine.specs.Owed.{served-owed, early-served, line-later, calm}
-use Rattle.machine.specs.Choice.{early_at, busy_run, calm_run}
-use Rattle.machine.specs.Invariant.{Setting, next_of, potential_of, potential, Chained, Timely, Invariant, overdue, spread}
-use Rattle.machine.specs.Due.{left_in_time}
+use Rattle.machine.specs.Queue.{next, Chain, InTime}
+use Rattle.machine.proofs.Queue.{next-later, next-clock, chain-later, chain-served, in_time_served}
+use Rattle.machine.proofs.Owed.{served-owed, early-served, line-later, calm}
+use Rattle.machine.specs.Choice.{early_at}
+use Rattle.machine.proofs.Choice.{busy_run, calm_run}
+use Rattle.machine.specs.Invariant.{Setting, next_of, potential_of, potential, Chained, Timely, Invariant}
+use Rattle.machine.proofs.Invariant.{overdue, spread}
+use Rattle.machine.proofs.Due.{left_in_time}
 
 chain-ticked :
     (T C t : ℕ) (last : Option ℕ) (b : Bool) (q : List Job) → Chain T C (next T t last) 0 q

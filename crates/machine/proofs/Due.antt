@@ -12,9 +12,11 @@ use Rattle.laws.specs.SumLaws.{sum_mono, sum_add, sum_mul, sum_zero, sum_but_one
 use Rattle.tasks.specs.TaskSet.{TaskSet, hyperperiod, amount, cover, Compliant}
 use Rattle.machine.specs.Machine.{Job, job, Machine, waiting, point}
 use Rattle.machine.specs.Reached.{EarliestFirst}
-use Rattle.machine.specs.Owed.{served-owed}
-use Rattle.machine.specs.Choice.{early_at, point-early, left_out}
-use Rattle.machine.specs.Invariant.{Setting, next_of, potential_of, potential, shared_bound, Due, Invariant, overdue}
+use Rattle.machine.proofs.Owed.{served-owed}
+use Rattle.machine.specs.Choice.{early_at}
+use Rattle.machine.proofs.Choice.{point-early, left_out}
+use Rattle.machine.specs.Invariant.{Setting, next_of, potential_of, potential, shared_bound, Due, Invariant}
+use Rattle.machine.proofs.Invariant.{overdue}
 
 -- m running heads and the one left out with w to do, d ticks after its priority point, against the loop's side of the condition
 clash :

@@ -11,8 +11,10 @@ use Rattle.laws.specs.Sum.{count}
 use Rattle.laws.specs.SumLaws.{sum_mono, count_mono}
 use Rattle.tasks.specs.TaskSet.{TaskSet, hyperperiod, share}
 use Rattle.machine.specs.Machine.{Job, job, Lane, Machine, too_soon, Allowed, joined, admitted}
-use Rattle.machine.specs.Queue.{next, next-free, next-taken, Chain, chain-joined, InTime, in_time_joined}
-use Rattle.machine.specs.Owed.{early, owed, line, release-line}
+use Rattle.machine.specs.Queue.{next, Chain, InTime}
+use Rattle.machine.proofs.Queue.{next-free, next-taken, chain-joined, in_time_joined}
+use Rattle.machine.specs.Owed.{early, owed, line}
+use Rattle.machine.proofs.Owed.{release-line}
 use Rattle.machine.specs.Choice.{early_at}
 use Rattle.machine.specs.Invariant.{Setting, next_of, potential_of, potential, Chained, Timely, Invariant}
 

@@ -23,11 +23,12 @@ use Rattle.tasks.proofs.AmountLaws.{amount_best}
 use Rattle.tasks.specs.BoundLaws.{bound-each, bound-more}
 use Rattle.machine.specs.Machine.{Job, job, Machine, opened, too_soon, full, joined, served, response, responses, advanced}
 use Rattle.machine.specs.Reached.{Reached, opening, release, ticked, OnTime}
-use Rattle.machine.specs.Queue.{next-free, all_in_time, in_time_response, in_time_room}
-use Rattle.machine.specs.Invariant.{Setting, next_of, Timely, Invariant, opening-kept}
-use Rattle.machine.specs.Release.{each, release-kept}
-use Rattle.machine.specs.Tick.{tick-kept}
-use Rattle.machine.specs.OwnCore.{own_core_kept}
+use Rattle.machine.proofs.Queue.{next-free, all_in_time, in_time_response, in_time_room}
+use Rattle.machine.specs.Invariant.{Setting, next_of, Timely, Invariant}
+use Rattle.machine.proofs.Invariant.{opening-kept}
+use Rattle.machine.proofs.Release.{each, release-kept}
+use Rattle.machine.proofs.Tick.{tick-kept}
+use Rattle.machine.proofs.OwnCore.{own_core_kept}
 
 pub setting : (s : TaskSet) (x : ℕ → ℕ) → Limits s → Compliant s x → Setting s x
 setting s x L c =

@@ -1,0 +1,15 @@
+pub mod AdmissionLaws
+pub mod Due
+pub mod Release
+pub mod Tick
+pub mod OwnCore
+pub mod Theorem
+pub mod BeforeLaws
+pub mod Choice
+pub mod Cores
+pub mod Invariant
+pub mod Queue
+pub mod Owed
+pub mod Sound
+pub mod Work
+pub mod MetLaws
