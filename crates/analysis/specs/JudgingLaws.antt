@@ -17,7 +17,7 @@ use Rattle.tasks.specs.TaskSet.{TaskSet, row}
 use Rattle.tasks.specs.Content.{Content}
 use Rattle.tasks.specs.Tests.{first_met, or_next, found_test, bounds_test, test3, test4, test5, test6, test7, test8, test28, test9, test10, test11, tests}
 use Rattle.tasks.specs.AnswerLaws.{pass_lowest}
-use Rattle.tasks.specs.LimitsLaws.{limit_tests}
+use Rattle.tasks.specs.Terms.{limit_tests}
 use Rattle.analysis.specs.SlackTest.{offered_test, had_slack}
 use Rattle.analysis.specs.PlanTestLaws.{test_refused, few-tasks, test_found, test_offered}
 

@@ -20,7 +20,8 @@ use Rattle.tasks.specs.Content.{Content, content_of}
 use Rattle.tasks.specs.Tests.{first_met, or_next, found_test, bounds_test, test11, test12, test13, tests}
 use Rattle.tasks.specs.AnswerLaws.{lowest_ext, lowest-passed, or_next-passed, first_met-passed}
 use Rattle.tasks.specs.Limits.{Limits}
-use Rattle.tasks.specs.LimitsLaws.{limit_tests, slack_tests, tests_split, limits-passed}
+use Rattle.tasks.specs.Terms.{limit_tests, slack_tests}
+use Rattle.tasks.proofs.LimitsLaws.{tests_split, limits-passed}
 use Rattle.analysis.specs.SlackTest.{offering, offered_test, had_slack}
 
 or_next-refused : (a b : Answer) (j i : ℕ) → or_next a b ≡ Refused j i → (a ≡ Refused j i) ⊎ ((a ≡ Accepted) × (b ≡ Refused j i))

@@ -16,7 +16,7 @@ use Rattle.tasks.specs.declared.Answer.TheVariants.{Accepted}
 use Rattle.tasks.specs.TaskSet.{TaskSet, found, row}
 use Rattle.tasks.specs.Content.{Content, content_of}
 use Rattle.tasks.specs.Tests.{refuse, first_met, or_next, bad_offers, compliant_test, test6, test7, test8, test28, test9, test10, test11}
-use Rattle.tasks.specs.LimitsLaws.{limit_tests}
+use Rattle.tasks.specs.Terms.{limit_tests}
 use Rattle.slack.specs.Rates.{rates_test}
 use Rattle.slack.specs.Arrays.{Had}
 use Rattle.analysis.specs.declared.slack_test.Tested.{Tested}

@@ -21,13 +21,13 @@ use Rattle.tasks.specs.declared.Answer.{Answer}
 use Rattle.tasks.specs.declared.Answer.TheVariants.{Accepted, Refused}
 use Rattle.tasks.specs.TaskSet.{TaskSet, plain_task, plain, counted, core_for_each, found, row}
 use Rattle.tasks.specs.PlainLaws.{plain-multiple, plain_shares, plain-counted, plain-compliant, plain-found}
-use Rattle.tasks.specs.AmountLaws.{counted_ext}
-use Rattle.tasks.specs.FoundLaws.{found_zeros}
+use Rattle.tasks.proofs.AmountLaws.{counted_ext}
+use Rattle.tasks.proofs.FoundLaws.{found_zeros}
 use Rattle.tasks.specs.Content.{in_edition, Content, content_of, task_of, no_task}
 use Rattle.tasks.specs.Tests.{refuse, bad_label, bad_count, first_met, or_next, compliant_test, test3, test4, test5, test6, test7, test8, test28, test9, test10, test11}
 use Rattle.tasks.specs.AnswerLaws.{refuse-passed, lowest_ext, first_met-append, first_met-passed}
 use Rattle.tasks.specs.Limits.{Limits}
-use Rattle.tasks.specs.LimitsLaws.{limit_tests}
+use Rattle.tasks.specs.Terms.{limit_tests}
 use Rattle.fields.specs.Columns.{columns_of, set_from}
 use Rattle.fields.specs.Stages.{least_by, frame_test, fields_test}
 use Rattle.fields.specs.StageLaws.{fields_scan}

@@ -9,7 +9,7 @@ use Rattle.tasks.specs.TaskSet.{row}
 use Rattle.tasks.specs.Content.{content_of}
 use Rattle.tasks.specs.Tests.{first_met, or_next, test3, test4, test5, test6, test7, test8, test28, test9, test10, test11}
 use Rattle.tasks.specs.AnswerLaws.{or_next_assoc}
-use Rattle.tasks.specs.LimitsLaws.{limit_tests}
+use Rattle.tasks.specs.Terms.{limit_tests}
 use Rattle.analysis.specs.declared.slack_test.Tested.{Tested}
 use Rattle.fields.specs.Stages.{frame_test}
 use Rattle.slack.specs.StageLaws.{frame-passed}
@@ -18,14 +18,7 @@ use Rattle.analysis.specs.SlackTestLaws.{frame-tests, limits_split, stopped, pas
 use Rattle.fields.specs.StageLaws.{not_both}
 use Prim.Native.Nat.{ℕ}
 use mathlib.Core.Path.{◌≡◌, ap, sym, ◌∙◌}
-use borrow.Author.Rules.{rules}
-use Rattle.analysis.proofs.slack_test.test_slack.Statement.{statement}
-use Rattle.analysis.proofs.slack_test.test_slack.Tie as tie
-use Rattle.analysis.proofs.slack_test.test_slack.Reads as reads
-use Rattle.analysis.proofs.slack_test.test_slack.Lts as lts
-use Rattle.fields.proofs.frame.frame.Reads as frame-reads
-use Rattle.analysis.proofs.slack_test.test_tasks.Reads as test-tasks-reads
-use Rattle.analysis.proofs.slack_test.untested.Reads as untested-reads
+use Rattle.analysis.proofs.slack_test.test_slack.Goals as goal
 
 regroup : (a b c d : Answer) → or_next (or_next a (or_next b c)) d ≡ or_next a (or_next b (or_next c d))
 regroup a b c d = or_next_assoc a (or_next b c) d ∙ ap (or_next a) (or_next_assoc b c d)
@@ -58,39 +51,15 @@ module _ (p : Plan) (k : ℕ) (a : Answer) (ea : a ≡ frame_test false p.cores 
   tested : (t : Tested) → a ≡ Accepted → TasksTested p k t → PlanTested p k t
   tested t e g = record { answer = g.answer ∙ sym (passed_on _ _ (sym framed ∙ e)) ∙ sym joined; had = g.had }
 
-frame-requires : tie.Need-frame-requires
-frame-requires c κs = search rules
+pub returns-in_default : goal.returns-in_default
+returns-in_default c =
+    let s = c in
+    refused s.args.plan s.args.offers _ c.frame-framed.ensures _ _ _ c.in_default.is c.untested.ensures
 
-enum_told : tie.Need-enum-told
-enum_told c = search rules
+pub test_tasks-requires : goal.test_tasks-requires
+test_tasks-requires c = frame-passed false _ _ _ (sym c.frame-framed.ensures ∙ c.in-Accepted.is)
 
-enum-told-2 : tie.Need-enum-told-2
-enum-told-2 c = search rules
-
-untested-requires : tie.Need-untested-requires
-untested-requires c κs = search rules
-
-returns : tie.Need-returns
+pub returns : goal.returns
 returns c =
-    let s = c.before.before.before.before.before.before in
-    refused s.args.plan s.args.offers _ c.before.before.before.frame.ensures _ _ _ c.before.enum-told2.given.1 c.untested.ensures
-
-test-tasks-requires : tie.Need-test-tasks-requires
-test-tasks-requires c κs = frame-passed false _ _ _ (sym c.before.before.frame.ensures ∙ c.enum_told.given.1)
-
-returns-2 : tie.Need-returns-2
-returns-2 c =
-    let s = c.before.before.before.before.before.before in
-    tested s.args.plan s.args.offers _ c.before.before.before.frame.ensures _ c.before.enum_told.given.1 c.test-tasks.ensures
-
-pub test-slack-spec : {M : Type 1} → statement M
-test-slack-spec =
-    tie.close
-    (tie.spec
-    frame-requires
-    enum_told
-    enum-told-2
-    untested-requires
-    returns
-    test-tasks-requires
-    returns-2)
+    let s = c in
+    tested s.args.plan s.args.offers _ c.frame-framed.ensures _ c.in-Accepted.is c.test_tasks.ensures

@@ -17,15 +17,7 @@ use Rattle.analysis.specs.SlackTestLaws.{columns-set, plain_ranges, fields_tests
 use Rattle.fields.specs.StageLaws.{not_both}
 use Prim.Native.Nat.{ℕ}
 use mathlib.Core.Path.{◌≡◌, ap₂, sym, subst, ◌∙◌}
-use borrow.Author.Rules.{rules}
-use Rattle.analysis.proofs.slack_test.test_tasks.Statement.{statement}
-use Rattle.analysis.proofs.slack_test.test_tasks.Tie as tie
-use Rattle.analysis.proofs.slack_test.test_tasks.Reads as reads
-use Rattle.analysis.proofs.slack_test.test_tasks.Lts as lts
-use Rattle.fields.proofs.columns.split.Reads as split-reads
-use Rattle.fields.proofs.ranges.task_ranges.Reads as task-ranges-reads
-use Rattle.analysis.proofs.slack_test.test_rated.Reads as test-rated-reads
-use Rattle.analysis.proofs.slack_test.untested.Reads as untested-reads
+use Rattle.analysis.proofs.slack_test.test_tasks.Goals as goal
 
 module _ (p : Plan) (k : ℕ) (f : Framed 1 p.cores p.tasks) (a : Answer) (ea : a ≡ fields_test p.edition (task_of p.task) p.tasks) where
   fielded : a ≡ first_met (test6 (offering p k) ∷ test7 (offering p k) ∷ test8 (offering p k) ∷ test28 (offering p k) ∷ [])
@@ -58,45 +50,17 @@ module _ (p : Plan) (k : ℕ) (f : Framed 1 p.cores p.tasks) (a : Answer) (ea : 
           had = λ w. had-plan p k _ stands _ _ (g.had w);
         }
 
-split-requires : tie.Need-split-requires
-split-requires c κs = search rules
+pub returns-in_default : goal.returns-in_default
+returns-in_default c =
+    let s = c in
+    refused s.args.plan s.args.offers s.requires _ c.task_ranges-fielded.ensures _ _ _ c.in_default.is c.untested.ensures
 
-task-ranges-requires : tie.Need-task-ranges-requires
-task-ranges-requires c κs = search rules
+pub test_rated-requires : goal.test_rated-requires
+test_rated-requires c =
+    let s = c in
+    (s.requires, ranges s.args.plan s.args.offers s.requires _ c.task_ranges-fielded.ensures _ c.split-columns.ensures c.in-Accepted.is)
 
-enum_told : tie.Need-enum-told
-enum_told c = search rules
-
-enum-told-2 : tie.Need-enum-told-2
-enum-told-2 c = search rules
-
-untested-requires : tie.Need-untested-requires
-untested-requires c κs = search rules
-
-returns : tie.Need-returns
+pub returns : goal.returns
 returns c =
-    let s = c.before.before.before.before.before in
-    refused s.args.plan s.args.offers s.pre _ c.before.before.before.task-ranges.ensures _ _ _ c.before.enum-told2.given.1 c.untested.ensures
-
-test-rated-requires : tie.Need-test-rated-requires
-test-rated-requires c κs =
-    let s = c.before.before.before.before.before.before.before.before.before.before.before.before.before in
-    (s.pre, ranges s.args.plan s.args.offers s.pre _ c.before.before.before.before.before.before.before.before.before.before.before.task-ranges.ensures _ c.before.before.before.before.before.before.before.before.split.ensures c.before.before.before.before.before.before.before.before.before.enum_told.given.1)
-
-returns-2 : tie.Need-returns-2
-returns-2 c =
-    let s = c.before.before.before.before.before.before.before.before.before.before.before.before.before.before in
-    tested s.args.plan s.args.offers s.pre _ c.before.before.before.before.before.before.before.before.before.before.before.before.task-ranges.ensures _ c.before.before.before.before.before.before.before.before.before.split.ensures c.before.before.before.before.before.before.before.before.before.before.enum_told.given.1 _ c.test-rated.ensures
-
-pub test-tasks-spec : {M : Type 1} → statement M
-test-tasks-spec =
-    tie.close
-    (tie.spec
-    task-ranges-requires
-    enum_told
-    enum-told-2
-    untested-requires
-    returns
-    split-requires
-    test-rated-requires
-    returns-2)
+    let s = c in
+    tested s.args.plan s.args.offers s.requires _ c.task_ranges-fielded.ensures _ c.split-columns.ensures c.in-Accepted.is _ c.test_rated.ensures

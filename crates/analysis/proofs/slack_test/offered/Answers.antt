@@ -1,0 +1,32 @@
+-- Offered slack is tested with the amount at it, and the tasks that this counts are named.
+use Rattle.slack.specs.StageLaws.{offered-refused, offered-passed, offered-had}
+use Rattle.fields.specs.StageLaws.{not_both}
+use Rattle.slack.specs.StageLaws.{more, tasks-high, few, surplus-high, amount-row}
+use native.Mathlib.Omega.{arith}
+use mathlib.Core.Path.{sym, ◌∙◌}
+use Rattle.analysis.proofs.slack_test.offered.Goals as goal
+
+pub amount-whole-requires : goal.amount-whole-requires
+amount-whole-requires c =
+    let g = c.requires.1 in
+    (few g, surplus-high g, c.first_names-names.ensures _ (tasks-high g), omega (arith, more g))
+
+pub returns-then-bad-tasks : goal.returns-then-bad-tasks
+returns-then-bad-tasks c =
+    λ s g.
+    let used = c.tidy_slack-used in
+    let whole = c.amount-whole.ensures.whole ∙ amount-row g used.result in
+    let r = offered-refused g _ _ used.ensures _ whole _ c.first_uncovered-bad.ensures c.if-bad-tasks.true in
+    record { answer = c.untested.ensures ∙ sym r; had = λ e. absurd (not_both _ 12 _ c.untested.ensures e) }
+
+pub returns : goal.returns
+returns c =
+    λ s g.
+    let used = c.tidy_slack-used in
+    let a = c.amount-whole.ensures in
+    let whole = a.whole ∙ amount-row g used.result in
+    let bad = c.first_uncovered-bad.ensures in
+    record {
+      answer = sym (offered-passed g _ _ used.ensures _ whole _ bad c.if-bad-tasks.false);
+      had = λ _. offered-had g _ _ used.ensures _ whole _ bad _ a.names;
+    }
