@@ -16,7 +16,7 @@ use borrow.Author.Tests.{ltb-true, ltb-false, eqb-true, eqb-false, eq-eqb}
 use Rattle.tasks.specs.TaskSet.{TaskSet, row}
 use Rattle.tasks.specs.Limits.{Limits}
 use Rattle.machine.specs.Machine.{Job, job, Machine, pending, waiting, runs, left_of}
-use Rattle.machine.specs.Choice.{earliest}
+use Rattle.machine.proofs.Choice.{earliest}
 use Rattle.choice.specs.Key.{key_of}
 use Rattle.heads.specs.Order.{head_work, Head, Heads, work_after, HeadsRun, Inserted}
 use Rattle.heads.specs.OrderLaws.{owns_key, place-runs, place-idle}

@@ -18,9 +18,11 @@ use Rattle.laws.specs.SumLaws.{sum_mono, sum_add, sum_zero, sum_but_one, term_le
 use Rattle.tasks.specs.TaskSet.{TaskSet}
 use Rattle.machine.specs.Machine.{Job, job, Machine, pending, waiting, runs, tick}
 use Rattle.machine.specs.Reached.{Reached}
-use Rattle.machine.specs.Choice.{earliest}
-use Rattle.machine.specs.Sound.{Rising, reached-sound}
-use Rattle.machine.specs.Work.{work, work_in, work-ticked, some-run}
+use Rattle.machine.proofs.Choice.{earliest}
+use Rattle.machine.specs.Sound.{Rising}
+use Rattle.machine.proofs.Sound.{reached-sound}
+use Rattle.machine.specs.Work.{work, work_in}
+use Rattle.machine.proofs.Work.{work-ticked, some-run}
 use Rattle.history.specs.Engine.{is_taken, Call, state}
 use Rattle.history.specs.Log.{Entry, loop_at, demand_at, wait, calls, outcome, owed, all_owed, rest, whole}
 use Rattle.history.specs.LogLaws.{demanded-calls}

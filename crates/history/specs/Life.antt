@@ -21,8 +21,9 @@ use Rattle.tasks.specs.Tests.{refuse, first_met, outside}
 use Rattle.machine.specs.Machine.{Job, job, Machine, too_soon, full, joined, admitted, runs, served, advanced, tick}
 use Rattle.machine.specs.Admission.{join_tests, admit_tests}
 use Rattle.machine.specs.Reached.{AllInTime, Reached}
-use Rattle.machine.specs.Theorem.{bound_theorem, never_full}
-use Rattle.machine.specs.Sound.{Rising, reached-sound}
+use Rattle.machine.proofs.Theorem.{bound_theorem, never_full}
+use Rattle.machine.specs.Sound.{Rising}
+use Rattle.machine.proofs.Sound.{reached-sound}
 use Rattle.machine.specs.Work.{work}
 use Rattle.history.specs.Engine.{taken, refused, outcome_of, Call, step, ask, clock, state, verdict, demanded, named_ticks, Ends, HistoryClaim}
 use Rattle.history.specs.EngineLaws.{named-now, named_mono, ends-step, ends-ask, ends_now, ends-once}

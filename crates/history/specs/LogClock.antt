@@ -19,8 +19,9 @@ use Rattle.tasks.specs.TaskSet.{TaskSet, bound}
 use Rattle.tasks.specs.Limits.{Limits, Enough, Bounded}
 use Rattle.machine.specs.Machine.{Job, job, pending, waiting}
 use Rattle.machine.specs.Reached.{AllInTime}
-use Rattle.machine.specs.Theorem.{bound_theorem}
-use Rattle.machine.specs.Sound.{Rising, Newest, Past, reached-sound}
+use Rattle.machine.proofs.Theorem.{bound_theorem}
+use Rattle.machine.specs.Sound.{Rising, Newest, Past}
+use Rattle.machine.proofs.Sound.{reached-sound}
 use Rattle.history.specs.Engine.{Engine, Call, clock, state}
 use Rattle.history.specs.EngineLaws.{clock-wait}
 use Rattle.history.specs.Log.{Entry, tick_at, wait, calls, outcome, all_owed, rest, whole, Claim}

@@ -22,7 +22,8 @@ use borrow.Author.Tests.{lt-leb, leb-true, eq-eqb}
 use Rattle.laws.specs.Sum.{sum}
 use Rattle.tasks.specs.TaskSet.{TaskSet}
 use Rattle.machine.specs.Machine.{Job, job, joined, admitted, runs, served, advanced, tick}
-use Rattle.machine.specs.Sound.{Rising, reached-sound}
+use Rattle.machine.specs.Sound.{Rising}
+use Rattle.machine.proofs.Sound.{reached-sound}
 use Rattle.machine.specs.Work.{work}
 use Rattle.history.specs.Engine.{Engine, Call, step, clock, state, verdict, named_ticks, Ends}
 use Rattle.history.specs.EngineLaws.{demanded-until, named-now, ends_now}

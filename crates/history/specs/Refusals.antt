@@ -20,7 +20,7 @@ use Rattle.tasks.specs.Limits.{Limits, Enough, Bounded}
 use Rattle.tasks.specs.Tests.{refuse, first_met, outside}
 use Rattle.machine.specs.Machine.{Machine, opened, within, too_soon, full, joined, admitted, advanced, tick}
 use Rattle.machine.specs.Admission.{join_tests, admit_tests}
-use Rattle.machine.specs.Theorem.{never_full}
+use Rattle.machine.proofs.Theorem.{never_full}
 use Rattle.history.specs.Engine.{taken, refused, is_taken, outcome_of, Engine, Call, ask, clock, state, verdict}
 use Rattle.history.specs.Log.{Entry, tick_at, loop_at, demand_at, back, wait, until, calls, outcome, Taken, Admissible}
 use Rattle.history.specs.LogLaws.{is_taken_lem, back-onward, onward-back, clock-entry, entry-cases}

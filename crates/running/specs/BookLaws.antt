@@ -21,8 +21,9 @@ use Rattle.laws.specs.MemberLaws.{member-cases}
 use Rattle.tasks.specs.declared.Plan.{Plan}
 use Rattle.tasks.specs.TaskSet.{TaskSet}
 use Rattle.machine.specs.Machine.{Job, job, runs, served, advanced, tick}
-use Rattle.machine.specs.Sound.{Rising, reached-sound}
-use Rattle.machine.specs.Choice.{earliest}
+use Rattle.machine.specs.Sound.{Rising}
+use Rattle.machine.proofs.Sound.{reached-sound}
+use Rattle.machine.proofs.Choice.{earliest}
 use Rattle.state.specs.Fit.{Fit}
 use Rattle.history.specs.Engine.{refused, Call, step, clock, state, named_ticks, Ends}
 use Rattle.history.specs.EngineLaws.{ends-step}

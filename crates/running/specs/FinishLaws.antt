@@ -15,7 +15,8 @@ use Rattle.tasks.specs.declared.Plan.{Plan}
 use Rattle.tasks.specs.TaskSet.{TaskSet, row}
 use Rattle.tasks.specs.Content.{content_of}
 use Rattle.machine.specs.Machine.{Job, job, Machine, pending, waiting, runs, served, advanced, tick}
-use Rattle.machine.specs.Sound.{Rising, reached-sound}
+use Rattle.machine.specs.Sound.{Rising}
+use Rattle.machine.proofs.Sound.{reached-sound}
 use Rattle.state.specs.Fit.{Fit}
 use Rattle.state.specs.KeptLaws.{reached-fit}
 use Rattle.state.specs.FitLaws.{in_task, in_count, plan-limits}

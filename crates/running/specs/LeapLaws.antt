@@ -21,8 +21,8 @@ use Rattle.tasks.specs.TaskSet.{TaskSet, row}
 use Rattle.tasks.specs.Content.{content_of}
 use Rattle.tasks.specs.Limits.{Limits}
 use Rattle.machine.specs.Machine.{Job, job, Machine, pending, waiting, runs, left_of, served, advanced, tick}
-use Rattle.machine.specs.Sound.{reached-sound}
-use Rattle.machine.specs.Choice.{earliest}
+use Rattle.machine.proofs.Sound.{reached-sound}
+use Rattle.machine.proofs.Choice.{earliest}
 use Rattle.state.specs.FitLaws.{in_cores, plan-limits}
 use Rattle.history.specs.Engine.{Engine, Call, step, state}
 use Rattle.history.specs.EngineLaws.{clock-wait}

@@ -5,7 +5,7 @@ use Rattle.std.proofs.lemmas.Bool.{false≢true}
 use Rattle.std.proofs.Common.{sym, ap, ◌∙◌, ltb-true, ltb-false}
 use Rattle.tasks.specs.TaskSet.{TaskSet}
 use Rattle.machine.specs.Machine.{Lane, pending, waiting, opened}
-use Rattle.machine.specs.Sound.{reached-sound}
+use Rattle.machine.proofs.Sound.{reached-sound}
 use Rattle.history.specs.Engine.{Call, state}
 use Rattle.history.specs.OnMachine.{machine_engine}
 use Rattle.history.specs.Balance.{reached}

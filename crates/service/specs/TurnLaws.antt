@@ -19,7 +19,7 @@ use Rattle.tasks.specs.declared.Plan.{Plan}
 use Rattle.tasks.specs.TaskSet.{TaskSet, row}
 use Rattle.tasks.specs.Content.{content_of}
 use Rattle.machine.specs.Machine.{Job, job, Machine, pending, waiting, runs, served, advanced, tick, responses}
-use Rattle.machine.specs.Choice.{earliest}
+use Rattle.machine.proofs.Choice.{earliest}
 use Rattle.state.specs.State.{jobs_in, released_in, last_in, remaining_in, release_in, state_of}
 use Rattle.choice.specs.Pick.{keys_after, keys_of}
 use Rattle.service.specs.Serve.{ran, last_tick, response_after, jobs_after, work_after, release_after, turn_jobs, turn_work, turn_release, turn_responses, turn_of, turns}

@@ -20,9 +20,9 @@ use Rattle.tasks.specs.Tests.{or_next, first_met, test_plan, unless_refused}
 use Rattle.machine.specs.Machine.{Job, job, Machine, opened, full, Allowed, joined, admitted, served, advanced, runs, tick}
 use Rattle.machine.specs.Admission.{admit_tests}
 use Rattle.machine.specs.Reached.{Reached}
-use Rattle.machine.specs.Choice.{earliest}
-use Rattle.machine.specs.Sound.{opened-sound, admitted-sound, advanced-sound, reached-sound}
-use Rattle.machine.specs.Theorem.{reached-holds}
+use Rattle.machine.proofs.Choice.{earliest}
+use Rattle.machine.proofs.Sound.{opened-sound, admitted-sound, advanced-sound, reached-sound}
+use Rattle.machine.proofs.Theorem.{reached-holds}
 use Rattle.state.specs.State.{state_of}
 use Rattle.state.specs.Calls.{open_of, tasks_of, step_tests, release_tests, release_of, ticked_of, step_of}
 use Rattle.state.specs.Fit.{Fit}

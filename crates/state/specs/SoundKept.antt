@@ -13,7 +13,7 @@ use Rattle.tasks.specs.Tests.{test_plan, unless_refused}
 use Rattle.tasks.specs.AnswerLaws.{first_met-passed}
 use Rattle.machine.specs.Machine.{opened, admitted, tick}
 use Rattle.machine.specs.Admission.{admit_tests}
-use Rattle.machine.specs.AdmissionLaws.{taken_allowed}
+use Rattle.machine.proofs.AdmissionLaws.{taken_allowed}
 use Rattle.state.specs.declared.State.{State}
 use Rattle.state.specs.State.{state_of, machine_of}
 use Rattle.state.specs.SoundState.{sound_of}

@@ -17,7 +17,7 @@ use Rattle.tasks.specs.Tests.{tests}
 use Rattle.tasks.proofs.TestsLaws.{tests-limits, tests-compliant, tests-bounded}
 use Rattle.machine.specs.Machine.{Machine, too_soon, full, chosen, idle, on_core, runs}
 use Rattle.machine.specs.Reached.{Reached}
-use Rattle.machine.specs.Theorem.{never_full}
+use Rattle.machine.proofs.Theorem.{never_full}
 
 module _ (k : Content) (a : tests k ≡ Accepted) (M : Machine) (r : Reached k.tasks M) (i : ℕ) where
   pub reached-room : i < k.tasks.count → too_soon k.tasks M i ≡ false → full M i ≡ false
