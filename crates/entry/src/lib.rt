@@ -1,5 +1,6 @@
 // One entry of a log: up to its tick, and its release handed over.
 #![tactic(auto)]
+
 ghost use Rattle.std.specs.Prelude.{◌≡◌, List, ℕ, length};
 ghost use Rattle.tasks.specs.declared.Plan.{Plan};
 ghost use Rattle.tasks.specs.Tests.{number_of};
