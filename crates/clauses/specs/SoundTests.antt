@@ -22,7 +22,7 @@ use Rattle.tasks.specs.Tests.{test_plan}
 use Rattle.state.specs.declared.State.{State}
 use Rattle.state.specs.State.{flag_at}
 use Rattle.state.specs.SoundState.{all_of, passes, tidy_label, tidy_task, tidy_test, loop_test, loop_sound, place_test, place_sound, sound_of}
-use Rattle.state.specs.AllLaws.{all-at, of-all, all-step, loop-of, place_in_lem}
+use Rattle.state.proofs.AllLaws.{all-at, of-all, all-step, loop-of, place_in_lem}
 
 unfoldable pub label_zero : ℕ → List ℕ → ℕ → Bool
 label_zero cores labels i = ltb i cores || eqb (row labels i) 0

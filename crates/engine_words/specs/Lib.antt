@@ -1,4 +1,2 @@
 pub mod Words
-pub mod PartLaws
 pub mod WordsLaws
-pub mod StoredLaws

@@ -13,8 +13,8 @@ use Rattle.laws.specs.TabLaws.{set-tab, tab_ext}
 use Rattle.tasks.specs.declared.Plan.{Plan}
 use Rattle.machine.specs.Machine.{Job, job, release_tick, remaining, Machine, joined, admitted}
 use Rattle.state.specs.State.{no_job, job_at, flag_of, tick_of, jobs_in, released_in, last_in, remaining_in, release_in, state_of}
-use Rattle.state.specs.AllLaws.{by_place}
-use Rattle.state.specs.ViewLaws.{job-at}
+use Rattle.state.proofs.AllLaws.{by_place}
+use Rattle.state.proofs.ViewLaws.{job-at}
 
 -- a queue with one job more, read at place q
 joined_at : (l : List Job) (j : Job) (q : ℕ) → get_or (l ++ j ∷ []) q no_job ≡ cond (eqb q (length l)) j (get_or l q no_job)

@@ -13,7 +13,7 @@ use Rattle.laws.specs.Tab.{tab}
 use Rattle.laws.specs.TabLaws.{get_or-tab, ext_tab, set-tab, tab_ext}
 use Rattle.tasks.specs.TaskSet.{row}
 use Rattle.service.specs.Serve.{moved_to, moved}
-use Rattle.state.specs.AllLaws.{by_place, loop-of, place_in_lem}
+use Rattle.state.proofs.AllLaws.{by_place, loop-of, place_in_lem}
 
 unfoldable pub moved_row : ℕ → List ℕ → ℕ → ℕ
 moved_row i l k = cond (eqb (k / 16) i) (cond (eqb (k % 16) 15) 0 (row l (k + 1))) (row l k)

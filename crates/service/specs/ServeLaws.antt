@@ -17,8 +17,8 @@ use Rattle.machine.specs.Machine.{Job, job, release_tick, remaining, Machine, se
 use Rattle.state.specs.State.{no_job, job_at, jobs_in, remaining_in, release_in}
 use Rattle.service.specs.Serve.{moved, last_tick, work_after, release_after, jobs_after, response_after}
 use Rattle.service.specs.MoveLaws.{moved_row, moved-row}
-use Rattle.state.specs.AllLaws.{by_place, loop-of, place_in_lem}
-use Rattle.state.specs.ViewLaws.{job-at, row-jobs, row-remaining, row-release}
+use Rattle.state.proofs.AllLaws.{by_place, loop-of, place_in_lem}
+use Rattle.state.proofs.ViewLaws.{job-at, row-jobs, row-remaining, row-release}
 
 pub record Serves (i : ℕ) (M N : Machine) : Type 0 where
   pub low : i < 16

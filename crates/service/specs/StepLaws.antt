@@ -25,9 +25,9 @@ use Rattle.choice.specs.Pick.{keys_after, pick_at, keys_of, Jobless}
 use Rattle.service.specs.Serve.{turns}
 use Rattle.service.specs.CodeLaws.{Are}
 use Rattle.state.specs.Fit.{Shaped, Fit}
-use Rattle.state.specs.FitLaws.{plan-limits, few-tasks, idle, machine_back, state-back, sound-fit}
-use Rattle.state.specs.ViewLaws.{row-jobs}
-use Rattle.choice.specs.TickLaws.{runs-picked}
+use Rattle.state.proofs.FitLaws.{plan-limits, few-tasks, idle, machine_back, state-back, sound-fit}
+use Rattle.state.proofs.ViewLaws.{row-jobs}
+use Rattle.choice.proofs.TickLaws.{runs-picked}
 use Rattle.service.specs.TurnLaws.{turned, ticked-state, all-responses, turns_are}
 use Rattle.service.specs.AdmitLaws.{admitted-state}
 

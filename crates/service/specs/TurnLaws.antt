@@ -25,9 +25,9 @@ use Rattle.choice.specs.Pick.{keys_after, keys_of}
 use Rattle.service.specs.Serve.{ran, last_tick, response_after, jobs_after, work_after, release_after, turn_jobs, turn_work, turn_release, turn_responses, turn_of, turns}
 use Rattle.service.specs.ServeLaws.{Serves, same-work, same-release, same-jobs, served-work, served-release, served-jobs, served-response}
 use Rattle.state.specs.Fit.{Fit}
-use Rattle.state.specs.FitLaws.{in_count, fit-tasks, known-lane}
-use Rattle.state.specs.ViewLaws.{row-jobs}
-use Rattle.choice.specs.TickLaws.{run-picked}
+use Rattle.state.proofs.FitLaws.{in_count, fit-tasks, known-lane}
+use Rattle.state.proofs.ViewLaws.{row-jobs}
+use Rattle.choice.proofs.TickLaws.{run-picked}
 
 unfoldable pub turned : Plan → Machine → ℕ → Machine
 turned p M i = advanced (λ j. runs (content_of p).tasks M j && ltb j i) M

@@ -1,14 +1,8 @@
 pub mod State
 pub mod SoundState
 pub mod Calls
-pub mod AllLaws
 pub mod Fit
 pub mod ViewLaws
 pub mod Parts
 pub mod QueueLaws
-pub mod TidyLaws
-pub mod FitLaws
-pub mod KeptLaws
 pub mod CallLaws
-pub mod TakenLaws
-pub mod SoundKept

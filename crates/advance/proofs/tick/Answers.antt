@@ -1,9 +1,9 @@
 -- `advance::tick` meets its contract.
 use Rattle.advance.specs.Advanced.{Ready}
 use Rattle.service.specs.StepLaws.{sound-limits, sound-few, sound_jobless, TickCode, tick_code}
-use Rattle.choice.specs.PickLaws.{keys-rest}
+use Rattle.choice.proofs.PickLaws.{keys-rest}
 use Rattle.choice.specs.Pick.{Jobless}
-use Rattle.state.specs.FitLaws.{in_cores}
+use Rattle.state.proofs.FitLaws.{in_cores}
 use Rattle.state.specs.Parts.{state_from}
 use Rattle.state.specs.declared.State.{State}
 use Prim.Native.Nat.{◌≤◌}

@@ -5,7 +5,7 @@ use Rattle.tasks.specs.TaskSet.{row}
 use mathlib.Core.Bool.{false}
 use lib.ListN.{get_or}
 use Rattle.engine_words.specs.Words.{word_of_flag}
-use Rattle.engine_words.specs.PartLaws.{stored-none, stored_next}
+use Rattle.engine_words.proofs.PartLaws.{stored-none, stored_next}
 use Rattle.engine_store.proofs.put.put_flags.Goals as goal
 
 pub loop-i-init : goal.loop-i-init

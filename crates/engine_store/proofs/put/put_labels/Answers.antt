@@ -2,7 +2,7 @@
 use mathlib.Core.Path.{refl}
 use native.Mathlib.Omega.{arith}
 use Rattle.tasks.specs.TaskSet.{row}
-use Rattle.engine_words.specs.PartLaws.{stored-none, stored_next}
+use Rattle.engine_words.proofs.PartLaws.{stored-none, stored_next}
 use Rattle.engine_store.proofs.put.put_labels.Goals as goal
 
 pub loop-i-init : goal.loop-i-init

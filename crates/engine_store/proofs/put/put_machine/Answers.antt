@@ -1,7 +1,7 @@
 -- `engine_store::put::put_machine` meets its contract.
 use Rattle.tasks.specs.Content.{zero_plan}
 use Rattle.state.specs.State.{flag_at}
-use Rattle.engine_words.specs.StoredLaws.{machine_stored}
+use Rattle.engine_words.proofs.StoredLaws.{machine_stored}
 use Rattle.engine_store.proofs.put.put_machine.Goals as goal
 
 pub returns : goal.returns

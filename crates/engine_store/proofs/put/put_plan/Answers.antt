@@ -1,5 +1,5 @@
 -- `engine_store::put::put_plan` meets its contract.
-use Rattle.engine_words.specs.StoredLaws.{plan-stored}
+use Rattle.engine_words.proofs.StoredLaws.{plan-stored}
 use Rattle.engine_store.proofs.put.put_plan.Goals as goal
 
 pub returns : goal.returns

@@ -2,7 +2,7 @@
 use Rattle.laws.specs.TabLaws.{filled_none, filled_next, cut_all}
 use Rattle.tasks.specs.TaskSet.{row}
 use Rattle.engine_words.specs.Words.{part}
-use Rattle.engine_words.specs.WordsLaws.{label-byte}
+use Rattle.engine_words.proofs.WordsLaws.{label-byte}
 use native.Mathlib.Omega.{arith}
 use Prim.Native.Nat.{◌+◌}
 use mathlib.Core.Path.{◌≡◌, ◌∙◌}

@@ -5,7 +5,7 @@ use native.Mathlib.Nat.{zero-add}
 use native.Mathlib.Omega.{arith}
 use Rattle.tasks.specs.TaskSet.{row}
 use Rattle.engine_words.specs.Words.{part}
-use Rattle.engine_words.specs.PartLaws.{stored-none, stored_next, stored-all}
+use Rattle.engine_words.proofs.PartLaws.{stored-none, stored_next, stored-all}
 use Rattle.engine_store.proofs.read.places.Goals as goal
 
 pub loop-k-init : goal.loop-k-init

@@ -1,7 +1,7 @@
 -- `engine_store::read::plan` meets its contract.
 use Rattle.tasks.specs.TaskSet.{row}
 use Rattle.engine_words.specs.Words.{plan_in}
-use Rattle.engine_words.specs.WordsLaws.{edition-byte}
+use Rattle.engine_words.proofs.WordsLaws.{edition-byte}
 use Rattle.engine_store.proofs.read.plan.Goals as goal
 
 pub byte-requires : goal.byte-requires

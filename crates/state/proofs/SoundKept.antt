@@ -19,9 +19,9 @@ use Rattle.state.specs.State.{state_of, machine_of}
 use Rattle.state.specs.SoundState.{sound_of}
 use Rattle.state.specs.Calls.{open_of, tasks_of, step_tests, release_tests, release_of, ticked_of, not_stepped, step_of}
 use Rattle.state.specs.Fit.{Shaped}
-use Rattle.state.specs.FitLaws.{sound-fit, fit-sound}
-use Rattle.state.specs.KeptLaws.{opened-fit, admitted-fit, ticked-fit}
-use Rattle.state.specs.CallLaws.{step-passed}
+use Rattle.state.proofs.FitLaws.{sound-fit, fit-sound}
+use Rattle.state.proofs.KeptLaws.{opened-fit, admitted-fit, ticked-fit}
+use Rattle.state.proofs.CallLaws.{step-passed}
 
 pub open_sound : (p : Plan) → test_plan p ≡ Accepted → sound_of (open_of p).state ≡ true
 unfolding open_of

@@ -26,8 +26,8 @@ use Rattle.machine.proofs.Theorem.{reached-holds}
 use Rattle.state.specs.State.{state_of}
 use Rattle.state.specs.Calls.{open_of, tasks_of, step_tests, release_tests, release_of, ticked_of, step_of}
 use Rattle.state.specs.Fit.{Fit}
-use Rattle.state.specs.TidyLaws.{tidy-accepted}
-use Rattle.state.specs.FitLaws.{plan-limits, plan-compliant, plan-bounded, in_count, in_cores, fit-sound, machine_back}
+use Rattle.state.proofs.TidyLaws.{tidy-accepted}
+use Rattle.state.proofs.FitLaws.{plan-limits, plan-compliant, plan-bounded, in_count, in_cores, fit-sound, machine_back}
 
 pub opened-fit : (p : Plan) → test_plan p ≡ Accepted → Fit (tidy p) opened
 unfolding opened

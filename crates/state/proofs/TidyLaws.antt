@@ -19,8 +19,8 @@ use Rattle.tasks.specs.Tests.{bad_edition, tests, test_plan}
 use Rattle.tasks.proofs.TestsLaws.{plan-passed, plan-accepted}
 use Rattle.state.specs.SoundState.{tidy_label, tidy_task, tidy_test}
 use Rattle.laws.specs.EveryLaws.{both, and_both}
-use Rattle.state.specs.AllLaws.{all-at, of-all}
-use Rattle.state.specs.QueueLaws.{either, or_else}
+use Rattle.state.proofs.AllLaws.{all-at, of-all}
+use Rattle.state.proofs.QueueLaws.{either, or_else}
 use Rattle.state.specs.Fit.{ShapedPlan}
 
 -- a list whose entries are z from n on is filled in order from its own row, cut off at n

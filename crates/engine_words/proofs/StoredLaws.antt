@@ -17,7 +17,7 @@ use Rattle.numbers.specs.Bytes.{entries}
 use Rattle.state.specs.declared.State.{State}
 use Rattle.state.specs.State.{flag_at}
 use Rattle.engine_words.specs.Words.{word_of_flag, task_words, plan_words, machine_words, words_of}
-use Rattle.engine_words.specs.WordsLaws.{length-tasks, length-plan, length_machine, length-words}
+use Rattle.engine_words.proofs.WordsLaws.{length-tasks, length-plan, length_machine, length-words}
 
 module _ (l : List ℕ) (p : Plan) where
   pub plan-stored :

@@ -21,12 +21,13 @@ use Rattle.tasks.specs.Content.{content_of, task_of}
 use Rattle.machine.specs.Machine.{Job, job, release_tick, Lane, Machine, opened, waiting, chosen, on_core, runs}
 use Rattle.state.specs.State.{jobs_in, release_in}
 use Rattle.choice.specs.Key.{key_of_none, head_key, key_of, sooner}
-use Rattle.choice.specs.KeyLaws.{key-small, key-of-task, ranked-keys}
+use Rattle.choice.proofs.KeyLaws.{key-small, key-of-task, ranked-keys}
 use Rattle.choice.specs.Pick.{keys_after, pick_at, key_at, keys_of}
-use Rattle.choice.specs.RankPickLaws.{key_if, Keyed, picks_rank, picks_taken}
+use Rattle.choice.specs.RankPickLaws.{key_if, Keyed}
+use Rattle.choice.proofs.RankPickLaws.{picks_rank, picks_taken}
 use Rattle.state.specs.Fit.{Fit}
-use Rattle.state.specs.FitLaws.{in_task, in_count, in_cores, fit-tasks, fit-limits, idle-lane, known-lane}
-use Rattle.state.specs.ViewLaws.{job-at, row-jobs, row-release}
+use Rattle.state.proofs.FitLaws.{in_task, in_count, in_cores, fit-tasks, fit-limits, idle-lane, known-lane}
+use Rattle.state.proofs.ViewLaws.{job-at, row-jobs, row-release}
 
 module _ (p : Plan) (M : Machine) (F : Fit p M) where
   abbrev s : TaskSet

@@ -34,11 +34,13 @@ use Rattle.state.specs.State.{no_job, flag_of, tick_of, state_of, last_of, flag_
 use Rattle.state.specs.SoundState.{all_of, passes, tidy_test, loop_sound, place_sound, sound_of}
 use Rattle.state.specs.Fit.{Shaped, Fit}
 use Rattle.laws.specs.EveryLaws.{both, and_both}
-use Rattle.state.specs.AllLaws.{all-at, of-all, by_place, loop-of, place_in_lem}
-use Rattle.state.specs.QueueLaws.{rising-from, rising-at, rising-next, newest-from, newest-at, LoopFacts, loop_facts, facts_loop, PlaceFacts, place_facts, facts_place}
-use Rattle.state.specs.TidyLaws.{tidy-from, tidy_to, tidied-shaped}
-use Rattle.state.specs.ViewLaws as views
-use Rattle.state.specs.ViewLaws.{Backed, state_backed, job-at, row-jobs, flag_in, row_last, row-remaining, row-release, shaped-state}
+use Rattle.state.proofs.AllLaws.{all-at, of-all, by_place, loop-of, place_in_lem}
+use Rattle.state.specs.QueueLaws.{LoopFacts, PlaceFacts}
+use Rattle.state.proofs.QueueLaws.{rising-from, rising-at, rising-next, newest-from, newest-at, loop_facts, facts_loop, place_facts, facts_place}
+use Rattle.state.proofs.TidyLaws.{tidy-from, tidy_to, tidied-shaped}
+use Rattle.state.proofs.ViewLaws as views
+use Rattle.state.specs.ViewLaws.{Backed}
+use Rattle.state.proofs.ViewLaws.{state_backed, job-at, row-jobs, flag_in, row_last, row-remaining, row-release, shaped-state}
 
 passed : (a : Answer) → passes a ≡ true → a ≡ Accepted
 passed Accepted e = refl

@@ -1,0 +1,4 @@
+pub mod KeyLaws
+pub mod PickLaws
+pub mod TickLaws
+pub mod RankPickLaws

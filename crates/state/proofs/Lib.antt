@@ -1,0 +1,9 @@
+pub mod AllLaws
+pub mod KeptLaws
+pub mod SoundKept
+pub mod TakenLaws
+pub mod TidyLaws
+pub mod FitLaws
+pub mod CallLaws
+pub mod QueueLaws
+pub mod ViewLaws
