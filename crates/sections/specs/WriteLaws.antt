@@ -11,7 +11,7 @@ use Rattle.laws.specs.TabLaws.{cut_below}
 use Rattle.tasks.specs.declared.Plan.{Plan}
 use Rattle.tasks.specs.TaskSet.{row}
 use Rattle.tasks.specs.Content.{Content, content_of, task_of}
-use Rattle.tasks.specs.ContentLaws.{used-task}
+use Rattle.tasks.proofs.ContentLaws.{used-task}
 use Rattle.numbers.specs.Bytes.{digits, entries}
 use Rattle.codec.specs.Table.{task_size, tasks_from, slack_from, table_length, task_bytes, bytes_of}
 use Rattle.numbers.specs.ByteLaws.{length_digits, length-entries, entries-same}

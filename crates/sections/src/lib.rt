@@ -1,5 +1,6 @@
 // A plan's bytes, section by section. Document 01, "Bytes of a show table".
 #![tactic(auto)]
+
 ghost use Rattle.std.specs.Prelude.{◌≡◌, [], ◌∷◌, ◌++◌, ◌+◌, ◌*◌, ◌≤◌, length, drop};
 ghost use Rattle.std.proofs.lemmas.List.Edits.{sets};
 ghost use Rattle.tasks.specs.TaskSet.{row};
