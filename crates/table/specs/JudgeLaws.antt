@@ -17,11 +17,12 @@ use Rattle.tasks.specs.declared.Plan.{Plan}
 use Rattle.tasks.specs.declared.Answer.{Answer}
 use Rattle.tasks.specs.declared.Answer.TheVariants.{Accepted, Refused}
 use Rattle.tasks.specs.TaskSet.{TaskSet, counted, core_for_each, found, row}
-use Rattle.tasks.specs.AmountLaws.{counted_ext}
+use Rattle.tasks.proofs.AmountLaws.{counted_ext}
 use Rattle.tasks.specs.Content.{Content, counted_of, content_of, plan_of, zero_plan}
 use Rattle.tasks.specs.Tests.{first_met, or_next, test3, test4, test5, test6, test7, test8, test28, test9, test10, test11, tests, unless_refused}
 use Rattle.tasks.specs.AnswerLaws.{refuse-passed, or_next-passed, first_met-passed, first_met-append, first_met_alone}
-use Rattle.tasks.specs.LimitsLaws.{limit_tests, slack_tests, tests_split, limits-passed}
+use Rattle.tasks.specs.Terms.{limit_tests, slack_tests}
+use Rattle.tasks.proofs.LimitsLaws.{tests_split, limits-passed}
 use Rattle.analysis.specs.SlackTest.{offering, offered_test, had_slack}
 use Rattle.analysis.specs.PlanTest.{bounds_of}
 use Rattle.analysis.specs.SlackTestLaws.{passed_on}
@@ -29,7 +30,8 @@ use Rattle.analysis.specs.JudgingLaws.{judging, judging-tests, judging-found, ju
 use Rattle.table.specs.declared.Judgement.{Judgement}
 use Rattle.codec.specs.Table.{core_count, task_count, slack_count, task_set_in, content_in, test1, test2, verdict}
 use Rattle.reader.specs.Counted.{counts_test}
-use Rattle.tasks.specs.ContentLaws.{content_ext, with_slack}
+use Rattle.tasks.proofs.ContentLaws.{content_ext}
+use Rattle.tasks.specs.Terms.{with_slack}
 use Rattle.table.specs.Judged.{refused_with, counted_in, judged}
 use Rattle.table.specs.LoadedLaws.{loaded, edition-same, tasks_in, labels_in, slack_in_lem, limits-all}
 

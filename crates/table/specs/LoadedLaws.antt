@@ -11,10 +11,11 @@ use Rattle.laws.specs.TabLaws.{cut-above}
 use Rattle.tasks.specs.declared.Plan.{Plan}
 use Rattle.tasks.specs.Content.{Content, no_task, content_of, plan_of}
 use Rattle.tasks.specs.Tests.{outside, first_met, test3, test4, test5, test6, test7, test8, test28, test9, test10}
-use Rattle.tasks.specs.LimitsLaws.{limit_tests}
+use Rattle.tasks.specs.Terms.{limit_tests}
 use Rattle.numbers.specs.Bytes.{byte, number}
 use Rattle.codec.specs.Table.{task_size, tasks_from, slack_from, core_count, task_count, tasks_at, slack_count, slack_at, task_in, task_set_in, content_in}
-use Rattle.tasks.specs.ContentLaws.{plan_ext, with_slack, tasks-back, labels-back, slack-back}
+use Rattle.tasks.proofs.ContentLaws.{plan_ext, tasks-back, labels-back, slack-back}
+use Rattle.tasks.specs.Terms.{with_slack}
 use Rattle.codec.specs.TaskLaws.{edition_in_lem}
 use Rattle.reader.specs.CountedLaws.{CountsIn}
 

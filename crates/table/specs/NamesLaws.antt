@@ -20,9 +20,9 @@ use Rattle.tasks.specs.TaskSet.{counted, core_for_each, row}
 use Rattle.tasks.specs.Content.{counted_of}
 use Rattle.tasks.specs.Tests.{tests}
 use Rattle.tasks.specs.AnswerLaws.{first_met-passed}
-use Rattle.tasks.specs.AmountLaws.{counted-below, counted-length}
+use Rattle.tasks.proofs.AmountLaws.{counted-below, counted-length}
 use Rattle.tasks.specs.Limits.{Limits}
-use Rattle.tasks.specs.TestsLaws.{tests-limits}
+use Rattle.tasks.proofs.TestsLaws.{tests-limits}
 use Rattle.codec.specs.Table.{content_in, test1, test2, verdict}
 use Rattle.table.specs.declared.Judgement.{Judgement}
 use Rattle.table.specs.Judged.{counted_in, judged}

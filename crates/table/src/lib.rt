@@ -1,5 +1,6 @@
 // From a show table's bytes to a plan.
 #![tactic(auto)]
+
 use tasks::{Answer, Plan};
 
 mod verdict;

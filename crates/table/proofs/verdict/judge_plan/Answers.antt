@@ -10,7 +10,7 @@ use Rattle.laws.specs.Tab.{tab, cut}
 use Rattle.laws.specs.TabLaws.{tab_ext, get_or-first}
 use Rattle.tasks.specs.TaskSet.{counted, core_for_each, row}
 use Rattle.tasks.specs.Limits.{Limits}
-use Rattle.tasks.specs.AmountLaws.{counted-length}
+use Rattle.tasks.proofs.AmountLaws.{counted-length}
 use Rattle.tasks.specs.declared.Plan.{Plan}
 use Rattle.tasks.specs.declared.Answer.{Answer}
 use Rattle.tasks.specs.declared.Answer.TheVariants.{Accepted, Refused}
@@ -22,11 +22,10 @@ use Rattle.analysis.specs.PlanTest.{bounds_of}
 use Rattle.analysis.specs.PlanTestLaws.{tested-limits}
 use Rattle.table.specs.declared.Judgement.{Judgement}
 use Rattle.table.specs.Judged.{refused_with}
-use Rattle.tasks.specs.ContentLaws.{with_slack}
+use Rattle.tasks.specs.Terms.{with_slack}
 use Rattle.table.specs.JudgeLaws.{Judges, judged_answer, judged_names}
 use borrow.Author.Rules.{rules}
-use Rattle.table.proofs.verdict.judge_plan.Statement.{statement}
-use Rattle.table.proofs.verdict.judge_plan.Tie as tie
+use Rattle.table.proofs.verdict.judge_plan.Goals as goal
 
 module _ (p : Plan) (k : ℕ) (t : Tested) (g : PlanTested p k t) where
   -- a refusal hands back a plan of zeros
@@ -96,82 +95,39 @@ module _ (p : Plan) (k : ℕ) (t : Tested) (g : PlanTested p k t) where
         go true q = omega arith
         go false q = omega (arith, few.1)
 
-test-slack-requires : tie.Need-test-slack-requires
-test-slack-requires c κs = search rules
+pub returns-in_default : goal.returns-in_default
+returns-in_default c =
+    let s = c in
+    untested s.args.plan s.args.offers _ c.test_slack-tested.ensures _ _ _ c.refused.ensures c.in_default.is
 
-enum_told : tie.Need-enum-told
-enum_told c = search rules
+pub plan_bounds-bounded-requires : goal.plan_bounds-bounded-requires
+plan_bounds-bounded-requires c =
+    let s = c in
+    (few s.args.plan s.args.offers _ c.test_slack-tested.ensures c.in-Accepted.is).2
 
-enum-told-2 : tie.Need-enum-told-2
-enum-told-2 c = search rules
+pub returns-in_default-bounded : goal.returns-in_default-bounded
+returns-in_default-bounded c =
+    let s = c in
+    let g = c.test_slack-tested.ensures in
+    refused s.args.plan s.args.offers _ g _ _ _ _ c.refused-in_default-bounded.ensures c.in_default-bounded.is
+    (bounded s.args.plan s.args.offers _ g c.in-Accepted.is _ c.plan_bounds-bounded.ensures)
 
-refused-requires : tie.Need-refused-requires
-refused-requires c κs = search rules
+pub named-count-requires : goal.named-count-requires
+named-count-requires c =
+    let t = c in
+    omega (arith, few t.args.plan t.args.offers _ t.test_slack-tested.ensures c.in-Accepted.is)
 
-returns : tie.Need-returns
-returns c =
-    let s = c.before.before.before.before in
-    untested s.args.plan s.args.offers _ c.before.before.before.test-slack.ensures _ _ _ c.refused.ensures c.before.enum-told2.given.1
+pub tidy_bytes-counted-requires : goal.tidy_bytes-counted-requires
+tidy_bytes-counted-requires c =
+    let d = c in
+    let t = d in
+    let long : length t.test_slack-tested.result.names ≡ 16 = search rules in
+    omega (arith, named-few t.args.plan t.args.offers _ t.test_slack-tested.ensures c.in-Accepted.is _ c.named-count.ensures)
 
-plan-bounds-requires : tie.Need-plan-bounds-requires
-plan-bounds-requires c κs =
-    let s = c.before.before.before.before in
-    (few s.args.plan s.args.offers _ c.before.before.before.test-slack.ensures c.before.enum_told.given.1).2
-
-enum-told-3 : tie.Need-enum-told-3
-enum-told-3 c = search rules
-
-enum-told-4 : tie.Need-enum-told-4
-enum-told-4 c = search rules
-
-refused-requires-2 : tie.Need-refused-requires-2
-refused-requires-2 c κs = search rules
-
-returns-2 : tie.Need-returns-2
-returns-2 c =
-    let s = c.before.before.before.before.before.before.before.before in
-    let g = c.before.before.before.before.before.before.before.test-slack.ensures in
-    refused s.args.plan s.args.offers _ g _ _ _ _ c.refused2.ensures c.before.enum-told4.given.1
-    (bounded s.args.plan s.args.offers _ g c.before.before.before.before.before.enum_told.given.1 _ c.before.before.before.plan-bounds.ensures)
-
-named-requires : tie.Need-named-requires
-named-requires c κs =
-    let t = c.before.before.before.before.before.before.before in
-    omega (arith, few t.before.args.plan t.before.args.offers _ t.test-slack.ensures c.before.before.before.before.before.enum_told.given.1)
-
-slice-aggregate-tidy-bytes : tie.Need-slice-aggregate-tidy-bytes
-slice-aggregate-tidy-bytes c = search rules
-
-tidy-bytes-requires : tie.Need-tidy-bytes-requires
-tidy-bytes-requires c κs =
-    let d = c.before.before in
-    let t = d.before.before.before.before.before.before.before in
-    let long : length t.test-slack.result.names ≡ 16 = search rules in
-    omega (arith, named-few t.before.args.plan t.before.args.offers _ t.test-slack.ensures d.before.before.before.before.before.enum_told.given.1 _ c.before.named.ensures)
-
-returns-3 : tie.Need-returns-3
+pub returns : goal.returns
 unfolding with_slack
-returns-3 c =
-    let d = c.before.before.before in
-    let t = d.before.before.before.before.before.before.before in
-    accepted t.before.args.plan t.before.args.offers _ t.test-slack.ensures d.before.before.before.before.before.enum_told.given.1 _
-    d.before.before.before.plan-bounds.ensures d.before.enum-told3.given.1 _ c.before.before.named.ensures _ c.tidy-bytes.ensures
-
-pub judge-plan-spec : {M : Type 1} → statement M
-judge-plan-spec =
-    tie.close
-    (tie.spec
-    test-slack-requires
-    enum_told
-    enum-told-2
-    refused-requires
-    returns
-    plan-bounds-requires
-    enum-told-3
-    enum-told-4
-    refused-requires-2
-    returns-2
-    named-requires
-    slice-aggregate-tidy-bytes
-    tidy-bytes-requires
-    returns-3)
+returns c =
+    let d = c in
+    let t = d in
+    accepted t.args.plan t.args.offers _ t.test_slack-tested.ensures c.in-Accepted.is _
+    d.plan_bounds-bounded.ensures c.in-Accepted-bounded.is _ c.named-count.ensures _ c.tidy_bytes-counted.ensures
