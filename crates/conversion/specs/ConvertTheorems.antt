@@ -19,10 +19,11 @@ use Rattle.tasks.specs.declared.Plan.{Plan}
 use Rattle.tasks.specs.declared.Answer.TheVariants.{Accepted, Refused}
 use Rattle.tasks.specs.TaskSet.{core_for_each, bound}
 use Rattle.tasks.specs.Content.{has_deadlines, Content, late, no_task, content_of, plan_of}
-use Rattle.tasks.specs.ContentLaws.{content_ext, Fits}
+use Rattle.tasks.proofs.ContentLaws.{content_ext}
+use Rattle.tasks.specs.Terms.{Fits}
 use Rattle.tasks.specs.Tests.{refuse, first_met, number_of, index_of, bad_edition, tests, test_plan}
 use Rattle.tasks.specs.AnswerLaws.{refuse-passed, pass_lowest, or_next-passed, neither, first_met-passed}
-use Rattle.tasks.specs.LimitsLaws.{tests_split, deadlines-passed}
+use Rattle.tasks.proofs.LimitsLaws.{tests_split, deadlines-passed}
 use Rattle.tasks.specs.NumberLaws.{Lowest, lowest-met, met-lowest, refuse-number, Numbers, ◌also◌, no_more, tests-number, met_next, met-first}
 use Rattle.numbers.specs.ByteLaws.{Bytes}
 use Rattle.codec.specs.Table.{counted_length, edition_in, content_in, test1, test2, verdict, bytes_of}

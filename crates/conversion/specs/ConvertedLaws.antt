@@ -26,9 +26,10 @@ use Rattle.tasks.specs.declared.Answer.TheVariants.{Accepted, Refused}
 use Rattle.tasks.specs.TaskSet.{TaskSet, plain, core_for_each, found, row}
 use Rattle.tasks.specs.PlainLaws.{plain-multiple, plain_shares, plain-compliant, plain-found, plain-bounds}
 use Rattle.tasks.specs.Content.{has_deadlines, in_edition, Content, late_of, no_task, content_of, plan_of}
-use Rattle.tasks.specs.ContentLaws.{edition_zero, edition-again, Fits, fits-back}
+use Rattle.tasks.proofs.ContentLaws.{edition_zero, edition-again, fits-back}
+use Rattle.tasks.specs.Terms.{Fits}
 use Rattle.tasks.specs.Tests.{refuse, first_met, bad_edition, bad_deadline, bad_multiple, bad_shares, compliant_test, found_test, bounds_test, test3, test4, test5, test6, test7, test8, test28, test9, test10, test11, test12, test13, tests, test_plan}
-use Rattle.tasks.specs.TestsLaws.{tests-limits, plan-accepted}
+use Rattle.tasks.proofs.TestsLaws.{tests-limits, plan-accepted}
 use Rattle.tasks.specs.AnswerLaws.{refuse-passed, pass_lowest, lowest-passed, lowest_ext, or_next-passed, first_met_alone, first_met_pass, first_met-stop, first_met-passed, first_met-append, neither, pass_outside}
 use Rattle.codec.specs.Table.{edition_in, content_in, verdict}
 use Rattle.roundtrip.specs.SectionLaws.{verdict-parts, table_fits}

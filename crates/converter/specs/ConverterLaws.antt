@@ -22,7 +22,8 @@ use Rattle.tasks.specs.declared.Plan.{Plan}
 use Rattle.tasks.specs.declared.Answer.TheVariants.{Accepted, Refused}
 use Rattle.tasks.specs.TaskSet.{core_for_each}
 use Rattle.tasks.specs.Content.{has_deadlines, Content, no_task, task_of, content_of, plan_of}
-use Rattle.tasks.specs.ContentLaws.{plan_ext, by_edition, Fits}
+use Rattle.tasks.proofs.ContentLaws.{plan_ext, by_edition}
+use Rattle.tasks.specs.Terms.{Fits}
 use Rattle.tasks.specs.Tests.{refuse, lowest, first_met, bad_edition, test_plan}
 use Rattle.tasks.specs.AnswerLaws.{neither, lowest-none, lowest-found}
 use Rattle.numbers.specs.Bytes.{byte}

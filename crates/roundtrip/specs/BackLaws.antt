@@ -16,13 +16,15 @@ use Rattle.laws.specs.Tab.{cut}
 use Rattle.laws.specs.TabLaws.{cut_below, cut-above}
 use Rattle.tasks.specs.TaskSet.{found, row}
 use Rattle.tasks.specs.Content.{Content, no_task}
-use Rattle.tasks.specs.TestsLaws.{Passed, slack-high}
-use Rattle.tasks.specs.FoundLaws.{found-past}
+use Rattle.tasks.specs.Terms.{Passed}
+use Rattle.tasks.proofs.TestsLaws.{slack-high}
+use Rattle.tasks.proofs.FoundLaws.{found-past}
 use Rattle.numbers.specs.Bytes.{byte, number, digits, entries}
 use Rattle.codec.specs.Table.{task_size, tasks_from, slack_from, edition_in, core_count, task_count, tasks_at, slack_count, slack_at, task_in, task_set_in, content_in, task_bytes, bytes_of}
 use Rattle.numbers.specs.ByteLaws.{number-after, number_digits, length_digits, length-entries, byte-entries, number-entries}
 use Rattle.codec.specs.TaskLaws.{length-task, task-same, limits_narrow, task-back}
-use Rattle.tasks.specs.ContentLaws.{content_ext, Fits}
+use Rattle.tasks.proofs.ContentLaws.{content_ext}
+use Rattle.tasks.specs.Terms.{Fits}
 
 -- the edition and the cores' section of a content's bytes
 abbrev front : Content → List ℕ

@@ -17,14 +17,16 @@ use Rattle.tasks.specs.declared.Answer.{Answer}
 use Rattle.tasks.specs.declared.Answer.TheVariants.{Accepted, Refused}
 use Rattle.tasks.specs.Content.{Content, counted_of, content_of, plan_of, tidy, Same}
 use Rattle.tasks.specs.Tests.{or_next, first_met, bad_edition, tests, test_plan}
-use Rattle.tasks.specs.TestsLaws.{Passed, tests-passed, plan-passed, plan-accepted}
+use Rattle.tasks.specs.Terms.{Passed}
+use Rattle.tasks.proofs.TestsLaws.{tests-passed, plan-passed, plan-accepted}
 use Rattle.tasks.specs.AnswerLaws.{first_met-passed}
 use Rattle.table.specs.declared.Judgement.{Judgement}
 use Rattle.codec.specs.Table.{edition_in, counted_length, task_set_in, content_in, verdict, bytes_of}
 use Rattle.table.specs.Judged.{judged_as, counted_in, judged}
 use Rattle.writer.specs.Written.{write_test, written_length, written_to}
 use Rattle.numbers.specs.ByteLaws.{Bytes}
-use Rattle.tasks.specs.ContentLaws.{Fits, fits-back, plan-fits, mark_back, same_exactly}
+use Rattle.tasks.specs.Terms.{Fits}
+use Rattle.tasks.proofs.ContentLaws.{fits-back, plan-fits, mark_back, same_exactly}
 use Rattle.roundtrip.specs.SectionLaws.{Parts, verdict-parts, parts-verdict, table-parts, labels-again, tasks-again, slack-again, table_fits}
 use Rattle.sections.specs.WriteLaws.{length-bytes}
 use Rattle.roundtrip.specs.BackLaws.{back-edition, back-cores, back-tasks, back-offers, read_back}

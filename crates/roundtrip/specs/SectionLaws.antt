@@ -17,14 +17,15 @@ use Rattle.tasks.specs.declared.Answer.TheVariants.{Accepted}
 use Rattle.tasks.specs.TaskSet.{found, row}
 use Rattle.tasks.specs.Content.{no_task}
 use Rattle.tasks.specs.Tests.{first_met, bad_edition, tests}
-use Rattle.tasks.specs.TestsLaws.{Passed, tests-passed}
-use Rattle.tasks.specs.FoundLaws.{found-past}
+use Rattle.tasks.specs.Terms.{Passed}
+use Rattle.tasks.proofs.TestsLaws.{tests-passed}
+use Rattle.tasks.proofs.FoundLaws.{found-past}
 use Rattle.tasks.specs.AnswerLaws.{refuse-passed, first_met-passed}
 use Rattle.numbers.specs.Bytes.{byte, number, digits, entries}
 use Rattle.codec.specs.Table.{task_size, tasks_from, slack_from, table_length, counted_length, edition_in, core_count, task_count, tasks_at, slack_count, slack_at, task_in, task_set_in, content_in, test1, test2, verdict, task_bytes}
 use Rattle.numbers.specs.ByteLaws.{Bytes, digits_number, entries-same, entries-parts}
 use Rattle.codec.specs.TaskLaws.{entry-inside, edition_in_lem, task-again}
-use Rattle.tasks.specs.ContentLaws.{Fits}
+use Rattle.tasks.specs.Terms.{Fits}
 
 pub record Parts (t : List ℕ) : Type 0 where
   pub edition : bad_edition (edition_in t) ≡ false

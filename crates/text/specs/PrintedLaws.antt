@@ -27,9 +27,9 @@ use Rattle.tasks.specs.declared.Answer.TheVariants.{Accepted}
 use Rattle.tasks.specs.TaskSet.{core_for_each, bound_by, bound, row}
 use Rattle.tasks.specs.Limits.{Bounded}
 use Rattle.tasks.specs.Content.{late_of, late, content_of, task_of}
-use Rattle.tasks.specs.ContentLaws.{used-task, late-edition, late-high}
+use Rattle.tasks.proofs.ContentLaws.{used-task, late-edition, late-high}
 use Rattle.tasks.specs.Tests.{test_plan}
-use Rattle.tasks.specs.TestsLaws.{tests-passed, tests-limits, tests-bounded, slack-high, plan-passed}
+use Rattle.tasks.proofs.TestsLaws.{tests-passed, tests-limits, tests-bounded, slack-high, plan-passed}
 use Rattle.numbers.specs.Bytes.{entries}
 use Rattle.numbers.specs.ByteLaws.{entries-same}
 use Rattle.text.specs.Printed.{pair_line, counts_line, task_line, refusal_line, line_of, plan_lines, counted_line}

@@ -8,7 +8,7 @@ use Rattle.tasks.specs.declared.Plan.{Plan}
 use Rattle.tasks.specs.declared.Answer.TheVariants.{Accepted, Refused}
 use Rattle.tasks.specs.Content.{content_of}
 use Rattle.tasks.specs.Tests.{first_met, test_plan}
-use Rattle.tasks.specs.TestsLaws.{tests-limits, plan-passed}
+use Rattle.tasks.proofs.TestsLaws.{tests-limits, plan-passed}
 use Rattle.writer.specs.declared.Written.{Written}
 use Rattle.codec.specs.Table.{bytes_of}
 use Rattle.writer.specs.Written.{answer_of_written, length_of_written, write_test, written_length, written_to}
