@@ -1,5 +1,6 @@
 // What A gains as a wish sheet's slack rises, and how far it has to rise at least.
 #![tactic(auto)]
+
 ghost use Rattle.std.specs.Prelude.{◌≡◌, List, [], ℕ, ◌+◌, ◌*◌, ◌<◌, ◌≤◌, length, take};
 ghost use Rattle.tasks.specs.TaskSet.{row};
 ghost use Rattle.wish_gains.specs.Gains.{Gain, Gains};
