@@ -24,13 +24,13 @@ use Rattle.tasks.specs.declared.Answer.{Answer}
 use Rattle.tasks.specs.declared.Answer.TheVariants.{Accepted, Refused}
 use Rattle.tasks.specs.TaskSet.{TaskSet, row}
 use Rattle.tasks.specs.Content.{content_of, tidy}
-use Rattle.tasks.specs.ContentLaws.{content-tidy, tidy-tidy}
+use Rattle.tasks.proofs.ContentLaws.{content-tidy, tidy-tidy}
 use Rattle.tasks.specs.Tests.{test_plan, unless_refused}
 use Rattle.machine.specs.Machine.{Job, Lane, Machine, opened, admitted, pending, waiting, idle, on_core, runs, advanced, tick}
 use Rattle.machine.specs.Admission.{admit_tests}
 use Rattle.machine.specs.Reached.{Reached, opening, release}
-use Rattle.machine.specs.Choice.{earliest, reached-tick}
-use Rattle.machine.specs.Sound.{reached-sound}
+use Rattle.machine.proofs.Choice.{earliest, reached-tick}
+use Rattle.machine.proofs.Sound.{reached-sound}
 use Rattle.state.specs.declared.State.{State}
 use Rattle.state.specs.State.{jobs_in, state_of}
 use Rattle.state.specs.SoundState.{all_of}

@@ -23,8 +23,8 @@ use Rattle.table.specs.Judged.{judged}
 use Rattle.roundtrip.specs.RoundTrip.{judged-fits}
 use Rattle.machine.specs.Machine.{Machine, opened, responses, runs, tick, advanced}
 use Rattle.machine.specs.Reached.{Reached}
-use Rattle.machine.specs.Choice.{earliest}
-use Rattle.machine.specs.Theorem.{bound_theorem}
+use Rattle.machine.proofs.Choice.{earliest}
+use Rattle.machine.proofs.Theorem.{bound_theorem}
 use Rattle.state.specs.declared.State.{State}
 use Rattle.state.specs.declared.Stepped.{Stepped}
 use Rattle.state.specs.State.{state_of}

@@ -12,7 +12,7 @@ use Rattle.std.proofs.Common.{sym, ap, ◌∙◌, append_assoc, eq-eqb, eqb-true
 use Rattle.laws.specs.Every.{every}
 use Rattle.laws.specs.EveryLaws.{both, and_both}
 use Rattle.decimal.specs.Decimal.{decimal, digit}
-use Rattle.decimal.specs.DecimalLaws.{decimal-digits}
+use Rattle.decimal.proofs.DecimalLaws.{decimal-digits}
 
 pub record StandsIn (w l : List ℕ) : Type 0 where
   pub ahead : List ℕ

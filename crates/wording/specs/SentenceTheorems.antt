@@ -16,7 +16,7 @@ use Rattle.laws.specs.First.{first}
 use Rattle.laws.specs.Every.{every}
 use Rattle.laws.specs.EveryLaws.{below_or_not, both, and_both, every_append, every-at}
 use Rattle.decimal.specs.Decimal.{words, decimal, said, digit}
-use Rattle.decimal.specs.DecimalLaws.{NoDigit, decimal-ends, every-decimal, decimal-length, decimal_64, length-said}
+use Rattle.decimal.proofs.DecimalLaws.{NoDigit, decimal-ends, every-decimal, decimal-length, decimal_64, length-said}
 use Rattle.wording.specs.Sentence.{Wording, wordings, last_known, Known, wording, sentence_of, longest}
 use Rattle.wording.specs.WordingLaws.{others, between, apart, plain, place-apart, rule-apart, place-plain, rule-plain, place_short, rule-short}
 use Rattle.wording.specs.LetterLaws.{StandsIn, letters, letters-append, letters-decimal, letters_stand, starts, has, stands-has, has-stands, stands-within}

@@ -1,6 +1,7 @@
 // What telling a refusal answers. What document 02, §2, says of the sentences is in specs/.
 // How long the sentence is, or the refusal.
 #![tactic(auto)]
+
 #[derive(Clone, Copy)]
 pub enum Composed {
     Length(usize),
