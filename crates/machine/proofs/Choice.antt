@@ -5,7 +5,6 @@
 --     busy_run            where at least m heads have a priority point of at most y, m of those run
 --     calm_run            where fewer have one, all of those run
 --     earliest            document 01's choice has the three facts
---     reached-tick        so its tick leads from a machine that is reached to another
 use Rattle.std.specs.Prelude.{ℕ, ◌+◌, ◌≤◌, ◌<◌, Bool, not, ◌&&◌, ◌≡◌, refl, List, [], ◌∷◌}
 use Rattle.std.proofs.Math.Bool.{true, false, cond, and-eq-true_iff}
 use Rattle.std.proofs.Common.{true≢false, sym, ◌∙◌, ⊎_elim, leb-true, le-leb}
@@ -17,9 +16,9 @@ use Rattle.laws.specs.FirstLaws.{first_or_none, first_holds, first-none}
 use Rattle.laws.specs.SumLaws.{sum_less, count_mono, count_le, count-full}
 use Rattle.laws.specs.RankLaws.{chosen_in, chosen-count, chosen_best}
 use Rattle.tasks.specs.TaskSet.{TaskSet}
-use Rattle.machine.specs.Machine.{Job, job, Machine, pending, waiting, head_release, point, before, chosen, runs, tick}
+use Rattle.machine.specs.Machine.{Job, job, Machine, pending, waiting, head_release, point, before, chosen, runs}
 use Rattle.machine.proofs.BeforeLaws.{heads-order, after-point}
-use Rattle.machine.specs.Reached.{EarliestFirst, Reached, ticked}
+use Rattle.machine.specs.Reached.{EarliestFirst}
 use Rattle.machine.specs.Owed.{early}
 use Rattle.machine.specs.Choice.{early_at}
 
@@ -39,12 +38,15 @@ module _ (s : TaskSet) (M : Machine) where
   pub early-waits : (y i : ℕ) → early_at s M y i ≡ true → waiting M i ≡ true
   unfolding early_at waiting
   early-waits y i e = early-pending (s.task i).offset y (M.lane i).queue e
+
   pub early-point : (y i : ℕ) → early_at s M y i ≡ true → point s M i ≤ y
   unfolding early_at point
   early-point y i e = omega (arith, early-release (s.task i).offset y (M.lane i).queue e)
+
   pub point-early : (y i : ℕ) → waiting M i ≡ true → point s M i ≤ y → early_at s M y i ≡ true
   unfolding early_at point waiting
   point-early y i e h = release-early (s.task i).offset y (M.lane i).queue e (omega arith)
+
   module _ (run : ℕ → Bool) (E : EarliestFirst s M run) where
     pub left_out : (j : ℕ) → j < s.count → waiting M j ≡ true → run j ≡ false → count run s.count ≡ s.cores
     unfolding count
@@ -129,7 +131,3 @@ earliest s M =
       order = λ i j r h w idle.
           after-point s M j i (chosen_best (before s M) (waiting M) s.cores s.count (heads-order s M) i j r h w idle);
     }
-
-pub reached-tick : (s : TaskSet) (M : Machine) → Reached s M → Reached s (tick s M)
-unfolding tick
-reached-tick s M r = ticked (runs s M) (earliest s M) r

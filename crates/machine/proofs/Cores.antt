@@ -16,17 +16,20 @@ use Rattle.laws.specs.RankLaws.{Sorted, sorted-at, sorted-places, chosen_in, cho
 use Rattle.tasks.specs.TaskSet.{TaskSet}
 use Rattle.machine.specs.Machine.{Machine, waiting, before, chosen, idle, on_core, runs}
 use Rattle.machine.specs.BeforeLaws.{Earlier}
-use Rattle.machine.proofs.BeforeLaws.{heads-order, earlier-ahead, ahead-earlier}
+use Rattle.machine.proofs.BeforeLaws.{heads-order}
+use Rattle.machine.proofs.EarlierLaws.{earlier-ahead, ahead-earlier}
 use Rattle.machine.specs.Cores.{Busy}
 
 module _ (s : TaskSet) (M : Machine) where
   chosen_in_order : Sorted (before s M) (chosen s M)
   unfolding chosen
   chosen_in_order = chosen-sorted (before s M) (waiting M) s.cores s.count (heads-order s M)
+
   pub earlier-runs : (i j : ℕ) → Earlier s M i j → i < s.count → waiting M i ≡ true → runs s M j ≡ true → runs s M i ≡ true
   unfolding runs chosen
   earlier-runs i j e h wait r =
       ahead-chosen (before s M) (waiting M) s.cores s.count (heads-order s M) j i r h wait (earlier-ahead s M i j e)
+
   -- no table has a loop with the number that stands for an idle core
   module _ (few : s.count ≤ idle) where
     place-of : (k : ℕ) → Busy s M k → k < length (chosen s M)
@@ -59,6 +62,7 @@ module _ (s : TaskSet) (M : Machine) where
     unfolding on_core
     earlier_core a b h e =
         sorted-places (before s M) (chosen s M) chosen_in_order a b idle (place-of a h) (earlier-ahead s M (on_core s M a) (on_core s M b) e)
+
   pub runs_core : (i : ℕ) → runs s M i ≡ true → (k : ℕ) × (k < s.cores) × (on_core s M k ≡ i)
   unfolding runs on_core chosen
   runs_core i r =

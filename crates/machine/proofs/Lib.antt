@@ -13,3 +13,5 @@ pub mod Owed
 pub mod Sound
 pub mod Work
 pub mod MetLaws
+pub mod EarlierLaws
+pub mod ReachedLaws

@@ -24,7 +24,7 @@ use Rattle.tasks.specs.Tests.{lowest, first_met, outside, bad_label, test3, test
 use Rattle.tasks.proofs.TestsLaws.{tests-limits, tests-compliant, tests-bounded}
 use Rattle.machine.specs.Machine.{Machine, opened, too_soon, joined, admitted, waiting, released, point, before, chosen, idle, on_core, runs, served, advanced, tick, response, responses}
 use Rattle.machine.specs.Reached.{Reached, opening, release}
-use Rattle.machine.proofs.Choice.{reached-tick}
+use Rattle.machine.proofs.ReachedLaws.{reached-tick}
 use Rattle.machine.specs.Met.{p3, p3-slack, all_released, watch, p2, p2_released, pair, no_slack, pair_released}
 
 abbrev content : Content

@@ -38,18 +38,22 @@ module _ (T C : ℕ) where
   pub chain-later : (nxt nxt' r : ℕ) (q : List Job) → nxt ≤ nxt' → Chain T C nxt r q → Chain T C nxt' r q
   chain-later nxt nxt' r [] h c = le_trans c h
   chain-later nxt nxt' r (job a w ∷ q) h c = (c.0, c.1, c.2, chain-later nxt nxt' (a + T) q h c.3)
+
   pub chain_since : (nxt r r' : ℕ) (q : List Job) → r' ≤ r → Chain T C nxt r q → Chain T C nxt r' q
   chain_since nxt r r' [] h c = le_trans h c
   chain_since nxt r r' (job a w ∷ q) h c = (le_trans h c.0, c.1, c.2, c.3)
+
   pub chain-served : (nxt r : ℕ) (q : List Job) → Chain T C nxt r q → Chain T C nxt r (served q)
   unfolding served
   chain-served nxt r [] c = c
   chain-served nxt r (job a zero ∷ q) c = chain_since nxt (a + T) r q (omega arith) c.3
   chain-served nxt r (job a (suc zero) ∷ q) c = chain_since nxt (a + T) r q (omega arith) c.3
   chain-served nxt r (job a (suc (suc w)) ∷ q) c = (c.0, omega arith, omega arith, c.3)
+
   pub chain-joined : (t c r : ℕ) (q : List Job) → 1 ≤ c → c ≤ C → Chain T C t r q → Chain T C (t + T) r (q ++ job t c ∷ [])
   chain-joined t c r [] low high h = (h, low, high, le_refl _)
   chain-joined t c r (job a w ∷ q) low high h = (h.0, h.1, h.2, chain-joined t c (a + T) q low high h.3)
+
   pub chain_length : (nxt r : ℕ) (q : List Job) → Chain T C nxt r q → r + length q * T ≤ nxt
   chain_length nxt r [] c = omega arith
   chain_length nxt r (job a w ∷ q) c = omega (arith, chain_length nxt (a + T) q c.3)
