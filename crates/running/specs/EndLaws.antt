@@ -21,8 +21,8 @@ use Rattle.tasks.specs.Content.{content_of}
 use Rattle.machine.specs.Machine.{Job, opened, pending, waiting}
 use Rattle.state.specs.declared.State.{State}
 use Rattle.state.specs.State.{state_of}
-use Rattle.state.specs.FitLaws.{plan-limits, plan-compliant, plan-bounded}
-use Rattle.state.specs.CallLaws.{opened_empty}
+use Rattle.state.proofs.FitLaws.{plan-limits, plan-compliant, plan-bounded}
+use Rattle.state.proofs.CallLaws.{opened_empty}
 use Rattle.history.specs.Engine.{Outcome, taken, refused, Engine, Call, state, Ends}
 use Rattle.history.specs.EngineLaws.{ends-step, ends-once}
 use Rattle.history.specs.Log.{Entry, loop_at, wait, calls, outcome, Taken, owed, rest, whole}

@@ -23,7 +23,7 @@ use Rattle.tasks.specs.Content.{task_of, content_of, tidy}
 use Rattle.tasks.specs.Tests.{test_plan}
 use Rattle.machine.specs.Machine.{Job, job, Machine, full, joined, admitted, pending, waiting, head_release}
 use Rattle.state.specs.State.{flag_of, tick_of, released_in, last_in}
-use Rattle.state.specs.FitLaws.{plan-limits}
+use Rattle.state.proofs.FitLaws.{plan-limits}
 use Rattle.service.specs.AdmitLaws.{admitted-released, admitted-last}
 use Rattle.choice.specs.Key.{head_key, key_of}
 use Rattle.heads.specs.Order.{head_work, Heads, Inserted}

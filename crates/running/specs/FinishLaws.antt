@@ -18,8 +18,8 @@ use Rattle.machine.specs.Machine.{Job, job, Machine, pending, waiting, runs, ser
 use Rattle.machine.specs.Sound.{Rising}
 use Rattle.machine.proofs.Sound.{reached-sound}
 use Rattle.state.specs.Fit.{Fit}
-use Rattle.state.specs.KeptLaws.{reached-fit}
-use Rattle.state.specs.FitLaws.{in_task, in_count, plan-limits}
+use Rattle.state.proofs.KeptLaws.{reached-fit}
+use Rattle.state.proofs.FitLaws.{in_task, in_count, plan-limits}
 use Rattle.service.specs.Serve.{moved}
 use Rattle.history.specs.Engine.{Engine, Call, step, state}
 use Rattle.history.specs.Log.{Entry, no_entry, tick_at, demand_at}

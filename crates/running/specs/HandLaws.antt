@@ -19,8 +19,8 @@ use Rattle.tasks.specs.Content.{task_of, content_of}
 use Rattle.machine.specs.Machine.{Machine}
 use Rattle.machine.specs.Admission.{admit_tests}
 use Rattle.state.specs.State.{flag_of, tick_of, last_of}
-use Rattle.state.specs.ViewLaws.{flag_in, row_last}
-use Rattle.state.specs.FitLaws.{in_task, in_count, plan-limits}
+use Rattle.state.proofs.ViewLaws.{flag_in, row_last}
+use Rattle.state.proofs.FitLaws.{in_task, in_count, plan-limits}
 use Rattle.state.specs.CallLaws.{admission}
 use Rattle.history.specs.Engine.{taken, refused, is_taken, outcome_of}
 use Rattle.history.specs.Log.{Entry, tick_at, loop_at, demand_at, outcome}

@@ -23,7 +23,7 @@ use Rattle.tasks.specs.Limits.{Limits}
 use Rattle.machine.specs.Machine.{Job, job, Machine, pending, waiting, runs, left_of, served, advanced, tick}
 use Rattle.machine.proofs.Sound.{reached-sound}
 use Rattle.machine.proofs.Choice.{earliest}
-use Rattle.state.specs.FitLaws.{in_cores, plan-limits}
+use Rattle.state.proofs.FitLaws.{in_cores, plan-limits}
 use Rattle.history.specs.Engine.{Engine, Call, step, state}
 use Rattle.history.specs.EngineLaws.{clock-wait}
 use Rattle.history.specs.Log.{wait}

@@ -10,8 +10,8 @@ use Rattle.std.proofs.Common.{sym, ◌∙◌, arith}
 use mathlib.Core.List.{List, [], ◌∷◌}
 use Rattle.tasks.specs.TaskSet.{TaskSet}
 use Rattle.machine.specs.Machine.{Job, job, Machine, pending, waiting, head_release, released, chosen, runs, left_of, served, advanced, tick}
-use Rattle.machine.proofs.BeforeLaws.{before_same}
-use Rattle.state.specs.ViewLaws.{machine_ext}
+use Rattle.machine.proofs.EarlierLaws.{before_same}
+use Rattle.state.proofs.ViewLaws.{machine_ext}
 use Rattle.history.specs.Engine.{Call, step, state}
 use Rattle.history.specs.Log.{wait}
 use Rattle.history.specs.OnMachine.{machine_engine}

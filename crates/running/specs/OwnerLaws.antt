@@ -11,7 +11,7 @@ use Rattle.laws.specs.TabLaws.{length-tab, get_or-tab, set-tab, tab_ext}
 use Rattle.tasks.specs.TaskSet.{row}
 use Rattle.service.specs.Serve.{moved}
 use Rattle.service.specs.MoveLaws.{moved_row, moved-row}
-use Rattle.state.specs.AllLaws.{by_place, loop-of, place_in_lem}
+use Rattle.state.proofs.AllLaws.{by_place, loop-of, place_in_lem}
 use Rattle.running.specs.Running.{owners_in, counts_in}
 
 pub owner_at : (O : ℕ → List ℕ) (i q : ℕ) → i < 16 → q < 16 → row (owners_in O) (16 * i + q) ≡ get_or (O i) q 0

@@ -6,7 +6,7 @@
 --     advanced-none, advanced-ready, advanced-more      before the first leap, between two, and after one more
 use Rattle.std.specs.Prelude.{ℕ, ◌+◌, ◌-◌, ◌≤◌, ◌≡◌, List}
 use Rattle.std.proofs.Common.{sym, ap, subst, ◌∙◌, arith}
-use Rattle.state.specs.FitLaws.{plan-limits}
+use Rattle.state.proofs.FitLaws.{plan-limits}
 use Rattle.history.specs.EngineLaws.{clock-wait}
 use Rattle.history.specs.Log.{wait}
 use Rattle.heads.specs.RoomLaws.{heads-few}

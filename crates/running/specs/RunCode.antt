@@ -21,7 +21,7 @@ use Rattle.tasks.specs.declared.Plan.{Plan}
 use Rattle.tasks.specs.TaskSet.{row}
 use Rattle.tasks.specs.declared.Answer.TheVariants.{Accepted}
 use Rattle.tasks.specs.Tests.{test_plan}
-use Rattle.state.specs.FitLaws.{in_count, plan-limits}
+use Rattle.state.proofs.FitLaws.{in_count, plan-limits}
 use Rattle.tasks.specs.Content.{task_of, content_of}
 use Rattle.history.specs.Engine.{is_taken}
 use Rattle.history.specs.Log.{Entry, wait, calls, outcome}
