@@ -7,21 +7,16 @@
 --     finished-report             and an entry that is written so finishes with f, by demand 3
 --     report-refused, refused-report      the same of a refused entry
 --     counts_all                  every entry is counted once
-use Rattle.std.specs.Prelude.{ℕ, zero, suc, ◌+◌, ◌<◌, cond, not, ◌&&◌, List, [], ◌∷◌, length, leb, eqb}
-use Rattle.std.proofs.Math.Path.{◌≡◌, refl, sym}
-use Rattle.std.proofs.Common.{◌∙◌, le_of_eq, arith}
+use Rattle.std.specs.Prelude.{ℕ, zero, suc, cond, not, ◌&&◌, List, [], ◌∷◌, length, leb, eqb}
 use Rattle.std.proofs.Math.Option.{Option, none, some}
-use borrow.Author.Tests.{le-leb, lt-leb}
 use Rattle.laws.specs.First.{first}
-use Rattle.laws.specs.FirstLaws.{first_unique}
 use Rattle.laws.specs.Sum.{count}
-use Rattle.laws.specs.SumLaws.{count_not}
 use Rattle.tasks.specs.TaskSet.{TaskSet}
 use Rattle.tasks.specs.Tests.{refuse, first_met}
 use Rattle.machine.specs.Machine.{within}
 use Rattle.machine.specs.Admission.{unknown, bad_demand}
 use Rattle.history.specs.Engine.{Outcome, taken, refused, is_taken, outcome_of, Engine, clock, named_ticks}
-use Rattle.history.specs.Log.{Entry, tick_at, loop_at, demand_at, back, outcome, owed, whole, Finishes, Claim}
+use Rattle.history.specs.Log.{Entry, tick_at, loop_at, demand_at, back, outcome, owed, whole}
 
 -- "kind 1 and finish tick, or kind 2 and refusal number"
 pub data Report : Type 0 where
@@ -61,41 +56,3 @@ met E s l e =
     ∷ refuse 21 (bad_demand (s.task (loop_at l e)).budget (demand_at l e))
     ∷ refuse 22 (within (s.task (loop_at l e)).separation (tick_at l e) (last_taken E l (loop_at l e) e))
     ∷ []))
-
-module _ (E : Engine) (l : List Entry) where
-  pub counts_all : taken_count E l + refused_count E l ≡ length l
-  unfolding taken_count refused_count
-  counts_all = count_not (λ e. is_taken (outcome E l e)) (length l)
-
-  pub finish-tick : (e f : ℕ) → Finishes E l e f → finish_tick E l e ≡ f
-  unfolding finish_tick
-  finish-tick e f F =
-      first_unique _ (suc (clock (whole E l))) f (omega (arith, F.1.made)) (le-leb _ _ (le_of_eq (sym F.1.enough)))
-      (λ g h. lt-leb _ _ (F.1.first_so g h))
-
-  pub report-finished : (e f : ℕ) → Finishes E l e f → report E l e ≡ finished f
-  unfolding report
-  report-finished e f F = rw (F.0, finish-tick e f F)
-
-  pub report-refused : (e k : ℕ) → outcome E l e ≡ refused k → report E l e ≡ refusal k
-  unfolding report
-  report-refused e k q = rw q
-
-  pub finished-report : (s : TaskSet) (x : ℕ → ℕ) → Claim E s x l → (e f : ℕ) → e < length l → report E l e ≡ finished f → Finishes E l e f
-  unfolding report
-  finished-report s x C e f h r = go (outcome E l e) refl (finish_tick E l e) refl r
-    where
-      go : (o : Outcome) → outcome E l e ≡ o → (g : ℕ) → finish_tick E l e ≡ g → report_of o g ≡ finished f → Finishes E l e f
-      go taken q g t r =
-          let T = C.in_time e h q in
-          let same : T.0 ≡ f = sym (finish-tick e T.0 T.1) ∙ t ∙ cc in
-          rw (sym same) T.1
-      go (refused k) q g t r = let z : ◌≡◌ {A = ℕ} 0 1 = cc in absurd (omega arith)
-
-  pub refused-report : (e k : ℕ) → report E l e ≡ refusal k → outcome E l e ≡ refused k
-  unfolding report
-  refused-report e k r = go (outcome E l e) refl (finish_tick E l e) r
-    where
-      go : (o : Outcome) → outcome E l e ≡ o → (g : ℕ) → report_of o g ≡ refusal k → outcome E l e ≡ refused k
-      go taken q g r = let z : ◌≡◌ {A = ℕ} 0 1 = cc in absurd (omega arith)
-      go (refused n) q g r = cc

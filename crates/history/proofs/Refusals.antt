@@ -23,9 +23,9 @@ use Rattle.machine.specs.Admission.{join_tests, admit_tests}
 use Rattle.machine.proofs.Theorem.{never_full}
 use Rattle.history.specs.Engine.{taken, refused, is_taken, outcome_of, Engine, Call, ask, clock, state, verdict}
 use Rattle.history.specs.Log.{Entry, tick_at, loop_at, demand_at, back, wait, until, calls, outcome, Taken, Admissible}
-use Rattle.history.specs.LogLaws.{is_taken_lem, back-onward, onward-back, clock-entry, entry-cases}
+use Rattle.history.proofs.LogLaws.{is_taken_lem, back-onward, onward-back, clock-entry, entry-cases}
 use Rattle.history.specs.OnMachine.{answer_of, machine_engine}
-use Rattle.history.specs.Balance.{not_refused, same_number, handed-cases, reached, machine_clock}
+use Rattle.history.proofs.Balance.{not_refused, same_number, handed-cases, reached, machine_clock}
 use Rattle.history.specs.Report.{last_taken, met}
 
 module _ (E : Engine) (l : List Entry) where

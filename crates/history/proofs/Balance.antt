@@ -20,13 +20,12 @@ use Rattle.machine.specs.Machine.{Machine, opened, full, Allowed, joined, admitt
 use Rattle.machine.specs.Admission.{admit_tests}
 use Rattle.machine.proofs.AdmissionLaws.{taken_allowed}
 use Rattle.machine.specs.Reached.{Reached, opening, release}
-use Rattle.machine.proofs.Choice.{earliest}
-use Rattle.machine.proofs.ReachedLaws.{reached-tick}
+use Rattle.machine.proofs.Choice.{earliest, reached-tick}
 use Rattle.machine.proofs.Sound.{reached-sound}
 use Rattle.machine.specs.Work.{work}
 use Rattle.machine.proofs.Work.{work-joined, work-served}
 use Rattle.history.specs.Engine.{Outcome, taken, refused, is_taken, outcome_of, Call, step, ask, clock, state, verdict, demanded, named_ticks}
-use Rattle.history.specs.EngineLaws.{named-now}
+use Rattle.history.proofs.EngineLaws.{named-now}
 use Rattle.history.specs.OnMachine.{answer_of, if_taken, handed_of, machine_engine}
 
 pub not_refused : {k : ℕ} → refused k ≡ taken → ⊥

@@ -26,11 +26,11 @@ use Rattle.machine.specs.Sound.{Rising}
 use Rattle.machine.proofs.Sound.{reached-sound}
 use Rattle.machine.specs.Work.{work}
 use Rattle.history.specs.Engine.{Engine, Call, step, clock, state, verdict, named_ticks, Ends}
-use Rattle.history.specs.EngineLaws.{demanded-until, named-now, ends_now}
+use Rattle.history.proofs.EngineLaws.{demanded-until, named-now, ends_now}
 use Rattle.history.specs.Log.{Entry, tick_at, loop_at, demand_at, until, calls, Taken, owed}
-use Rattle.history.specs.LogLaws.{taken_call, demanded-calls}
+use Rattle.history.proofs.LogLaws.{taken_call, demanded-calls}
 use Rattle.history.specs.OnMachine.{handed_of, machine_engine}
-use Rattle.history.specs.Balance.{reached, balance}
+use Rattle.history.proofs.Balance.{reached, balance}
 
 abbrev pub finishing : List Job → Bool
 finishing [] = false

@@ -17,10 +17,11 @@ use Rattle.laws.specs.FirstLaws.{first_or_none, first_holds, first-before, first
 use Rattle.laws.specs.Sum.{sum, count}
 use Rattle.tasks.specs.TaskSet.{TaskSet}
 use Rattle.history.specs.Engine.{is_taken, named_ticks, Engine, clock, state}
-use Rattle.history.specs.EngineLaws.{clock-wait, until-clock}
+use Rattle.history.proofs.EngineLaws.{clock-wait, until-clock}
 use Rattle.history.specs.Log.{Entry, no_entry, tick_at, loop_at, demand_at, largest, wait, until, calls, outcome, Taken, owed, all_owed, rest, whole, Latest, Admissible, InTime, Claim}
-use Rattle.history.specs.LogLaws.{largest_le, largest-least, clock-calls, claim-of}
-use Rattle.history.specs.Mirror.{Mirrors, same-verdict, same-quiet, same-named, same_ends}
+use Rattle.history.proofs.LogLaws.{largest_le, largest-least, clock-calls, claim-of}
+use Rattle.history.specs.Mirror.{Mirrors}
+use Rattle.history.proofs.Mirror.{same-verdict, same-quiet, same-named, same_ends}
 use Rattle.history.specs.Report.{report_of, last_taken, met, finish_tick, report, taken_count, refused_count}
 
 -- no entry has a larger tick than the largest of all, and none past the end

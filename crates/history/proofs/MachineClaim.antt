@@ -9,12 +9,13 @@ use Rattle.tasks.specs.Limits.{Limits, Enough, Bounded}
 use Rattle.machine.specs.Machine.{Job, pending, waiting}
 use Rattle.history.specs.Engine.{Call, ask, state, verdict, demanded, Ends}
 use Rattle.history.specs.Log.{Entry, tick_at, loop_at, demand_at, until, calls, Taken, owed, whole, InTime, Claim}
-use Rattle.history.specs.LogLaws.{clock-entry, taken_call, demanded-calls, taken-whole, claim-of}
+use Rattle.history.proofs.LogLaws.{clock-entry, taken_call, demanded-calls, taken-whole, claim-of}
 use Rattle.history.specs.OnMachine.{quiet_of, machine_engine}
-use Rattle.history.specs.Balance.{answer_allowed}
-use Rattle.history.specs.Life.{Upto, Life, life}
-use Rattle.history.specs.Refusals.{machine_takes}
-use Rattle.history.specs.Drain.{quiet-idle, whole-quiet}
+use Rattle.history.proofs.Balance.{answer_allowed}
+use Rattle.history.specs.Life.{Upto, Life}
+use Rattle.history.proofs.Life.{life}
+use Rattle.history.proofs.Refusals.{machine_takes}
+use Rattle.history.proofs.Drain.{quiet-idle, whole-quiet}
 
 no_job_lem : (r k : ℕ) (q : List Job) → pending q ≡ false → Upto r k q → ⊥
 no_job_lem r k [] e u = u

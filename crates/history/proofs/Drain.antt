@@ -25,9 +25,9 @@ use Rattle.machine.specs.Work.{work, work_in}
 use Rattle.machine.proofs.Work.{work-ticked, some-run}
 use Rattle.history.specs.Engine.{is_taken, Call, state}
 use Rattle.history.specs.Log.{Entry, loop_at, demand_at, wait, calls, outcome, owed, all_owed, rest, whole}
-use Rattle.history.specs.LogLaws.{demanded-calls}
+use Rattle.history.proofs.LogLaws.{demanded-calls}
 use Rattle.history.specs.OnMachine.{quiet_of, machine_engine}
-use Rattle.history.specs.Balance.{reached, balance}
+use Rattle.history.proofs.Balance.{reached, balance}
 
 module _ (s : TaskSet) where
   pub quiet-idle : (M : Machine) → quiet_of s M ≡ true → (i : ℕ) → i < s.count → waiting M i ≡ false

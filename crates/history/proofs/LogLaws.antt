@@ -26,8 +26,8 @@ use Rattle.laws.specs.Sum.{sum}
 use Rattle.tasks.specs.TaskSet.{TaskSet}
 use Rattle.history.specs.Engine.{Outcome, taken, refused, is_taken, Engine, Call, ask, clock, verdict, demanded}
 use Rattle.history.specs.Log.{Entry, tick_at, loop_at, demand_at, largest, back, wait, until, calls, outcome, Taken, owed, rest, whole, Latest, Admissible, InTime, Claim}
-use Rattle.history.specs.EngineLaws.{demanded-until, until-clock, wait-later}
-use Rattle.history.specs.Balance.{not_refused}
+use Rattle.history.proofs.EngineLaws.{demanded-until, until-clock, wait-later}
+use Rattle.history.proofs.Balance.{not_refused}
 
 pub is_taken_lem : (o : Outcome) → is_taken o ≡ true → o ≡ taken
 is_taken_lem taken e = refl

@@ -1,0 +1,14 @@
+pub mod Balance
+pub mod ClaimLaws
+pub mod Drain
+pub mod EngineLaws
+pub mod Life
+pub mod LogClock
+pub mod LogLaws
+pub mod MachineClaim
+pub mod Mirror
+pub mod MirrorLog
+pub mod Owners
+pub mod PlainEngine
+pub mod Refusals
+pub mod Report
