@@ -20,7 +20,8 @@ use Rattle.machine.specs.Machine.{Machine, opened, full, Allowed, joined, admitt
 use Rattle.machine.specs.Admission.{admit_tests}
 use Rattle.machine.proofs.AdmissionLaws.{taken_allowed}
 use Rattle.machine.specs.Reached.{Reached, opening, release}
-use Rattle.machine.proofs.Choice.{earliest, reached-tick}
+use Rattle.machine.proofs.Choice.{earliest}
+use Rattle.machine.proofs.ReachedLaws.{reached-tick}
 use Rattle.machine.proofs.Sound.{reached-sound}
 use Rattle.machine.specs.Work.{work}
 use Rattle.machine.proofs.Work.{work-joined, work-served}
