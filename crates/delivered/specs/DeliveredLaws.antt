@@ -29,19 +29,20 @@ use Rattle.tasks.specs.Tests.{test_plan, unless_refused}
 use Rattle.machine.specs.Machine.{Job, Lane, Machine, opened, admitted, pending, waiting, idle, on_core, runs, advanced, tick}
 use Rattle.machine.specs.Admission.{admit_tests}
 use Rattle.machine.specs.Reached.{Reached, opening, release}
-use Rattle.machine.proofs.Choice.{earliest, reached-tick}
+use Rattle.machine.proofs.Choice.{earliest}
+use Rattle.machine.proofs.ReachedLaws.{reached-tick}
 use Rattle.machine.proofs.Sound.{reached-sound}
 use Rattle.state.specs.declared.State.{State}
 use Rattle.state.specs.State.{jobs_in, state_of}
 use Rattle.state.specs.SoundState.{all_of}
 use Rattle.state.specs.Calls.{open_of, release_of, ticked_of, step_of}
 use Rattle.state.specs.Fit.{Fit}
-use Rattle.state.specs.FitLaws.{plan-limits, plan-compliant, plan-bounded, in_count}
-use Rattle.state.specs.TidyLaws.{tidy-accepted}
-use Rattle.state.specs.KeptLaws.{step-state, release-state, reached-fit, open_state}
-use Rattle.state.specs.TakenLaws.{named-runs}
-use Rattle.state.specs.AllLaws.{all-at, of-all}
-use Rattle.state.specs.ViewLaws.{row-jobs}
+use Rattle.state.proofs.FitLaws.{plan-limits, plan-compliant, plan-bounded, in_count}
+use Rattle.state.proofs.TidyLaws.{tidy-accepted}
+use Rattle.state.proofs.KeptLaws.{step-state, release-state, reached-fit, open_state}
+use Rattle.state.proofs.TakenLaws.{named-runs}
+use Rattle.state.proofs.AllLaws.{all-at, of-all}
+use Rattle.state.proofs.ViewLaws.{row-jobs}
 use Rattle.history.specs.Engine.{taken, refused, Call, clock, state, HistoryClaim, outcome_of}
 use Rattle.history.specs.Log.{Entry, tick_at, outcome, whole, Claim}
 use Rattle.history.specs.Report.{met, report, taken_count, refused_count}

@@ -30,7 +30,7 @@ use Rattle.state.specs.declared.Stepped.{Stepped}
 use Rattle.state.specs.State.{state_of}
 use Rattle.state.specs.SoundState.{sound_of}
 use Rattle.state.specs.Calls.{step_tests, release_tests, release_of, ticked_of, not_stepped, step_of}
-use Rattle.state.specs.FitLaws.{plan-limits, plan-compliant}
+use Rattle.state.proofs.FitLaws.{plan-limits, plan-compliant}
 use Rattle.history.specs.Engine.{outcome_of, Call, step, ask, clock, state, verdict as asked}
 use Rattle.history.specs.OnMachine.{handed_of}
 use Rattle.history.specs.ClaimLaws.{history_room}

@@ -4,4 +4,3 @@ pub mod LetterLaws
 pub mod SentenceTheorems
 pub mod Worked
 pub mod Told
-pub mod ComposeLaws

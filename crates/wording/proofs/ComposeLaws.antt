@@ -12,7 +12,7 @@ use Rattle.laws.specs.SetsLaws.{sets-whole}
 use Rattle.tasks.specs.declared.Answer.TheVariants.{Accepted, Refused}
 use Rattle.decimal.specs.Decimal.{Stored}
 use Rattle.wording.specs.Sentence.{sentence_of, longest}
-use Rattle.wording.specs.SentenceTheorems.{sentence_short}
+use Rattle.wording.proofs.SentenceTheorems.{sentence_short}
 use Rattle.wording.specs.Told.{sentence_test, sentence_length, sentence_leaves}
 
 module _ (k i v : ℕ) {l text : List ℕ} {n : ℕ} (fits : length (sentence_of k i v) ≤ length l) (s : Stored l 0 (sentence_of k i v) n text) where

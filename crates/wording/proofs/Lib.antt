@@ -1,0 +1,3 @@
+pub mod WordingLaws
+pub mod SentenceTheorems
+pub mod ComposeLaws
