@@ -1,6 +1,6 @@
 -- What the theorems on the sentences speak of.
---     bare                 words without their last byte
---     Pieces                  how long its pieces are at most
+--     bare                 what a sentence has without its digits
+--     Pieces               how long its pieces are at most
 use Rattle.std.specs.Prelude.{ℕ, ◌≤◌, List, ◌++◌, length}
 use Rattle.decimal.specs.Decimal.{words, decimal}
 use Rattle.wording.specs.Sentence.{Wording, wording}
