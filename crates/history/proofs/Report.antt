@@ -1,7 +1,6 @@
 -- What a log run writes of each entry, and its two counts; and that it says just what *taken* and *finishes* say.
---     Report, report              finished with a tick, or refused with a number
+--     report                      finished with a tick, or refused with a number
 --     finish_tick                  the first tick by which the loop was named often enough
---     last_taken, met              the tick of the last taken entry of a loop; the first of 17, 20, 21 and 22 that an entry meets
 --     taken_count, refused_count    how many entries are taken, how many refused
 --     finish-tick, report-finished        an entry that finishes with f is written so
 --     finished-report             and an entry that is written so finishes with f, by demand 3

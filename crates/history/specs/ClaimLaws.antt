@@ -1,13 +1,7 @@
 -- The claims written out in numbers of the table, and from the other side: what a claim has to say at least. A claim that is weakened does not
 -- give them.
 --     promised          Y + x + C, or C where loops are no more than cores
---     in_time_sum       an entry is in time exactly if it finishes at most so many ticks after its tick
 --     Conditions        the four conditions of an entry, with its distance to every taken one of its loop before it
---     takes_conditions  it is taken exactly under them
---     history_sum       a release that has ended in a history did so at most so many ticks later
---     history_ends      and once so many ticks have passed it has ended
---     history_room      a refused release has another number than 23
---     history_log       so an entry of a log finishes within them if the claim of histories reaches as far as the log's run
 use Rattle.std.specs.Prelude.{ℕ, ◌+◌, ◌≤◌, ◌<◌, cond, ◌≡◌, List, leb}
 use Rattle.tasks.specs.TaskSet.{TaskSet}
 use Rattle.history.specs.Engine.{Engine}

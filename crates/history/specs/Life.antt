@@ -1,12 +1,7 @@
 -- The life of one taken release in a history of the abstract machine: it is pending, with so many ticks of work up to and with it, or it has
 -- ended in time.
 --     Upto r k q         q holds a job released at r, with k ticks of work up to and with it
---     upto-joined, upto_new, upto-served, upto_in_time     it stays so behind a new job, holds of the new job itself, has one tick less after a
---                        tick in which the loop runs, and says when that job can be done
 --     Life               pending or ended in time
---     life-step, life-ask, life-new, life       a call keeps it, a taken release begins it, so every later history has it
---     free               no release is refused 23
---     machine_history    the claim of every history
 use Prim.Native.Nat.{ℕ, suc, ◌+◌, ◌-◌, ◌≤◌, ◌<◌}
 use Rattle.std.specs.Prelude.{◌≡◌, ◌⊎◌}
 use mathlib.Core.List.{List, [], ◌∷◌}

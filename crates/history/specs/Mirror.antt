@@ -1,8 +1,5 @@
 -- Mirroring: an engine that gives the same answers as another, up to some clock, has the same histories, and the claims carry over.
 --     Mirrors E F B          a relation of the states of E and F at a clock, kept by every call and with the same answers below B
---     like                   it holds along every history
---     same-verdict, same-named, same-demanded, same_ends       what the histories show is the same
---     mirror_history         the claim of all histories carries over
 use Rattle.std.specs.Prelude.{ℕ, suc, ◌<◌, ◌≡◌}
 use Rattle.history.specs.Engine.{Engine}
 

@@ -3,10 +3,6 @@
 --     finish_tick                  the first tick by which the loop was named often enough
 --     last_taken, met              the tick of the last taken entry of a loop; the first of 17, 20, 21 and 22 that an entry meets
 --     taken_count, refused_count    how many entries are taken, how many refused
---     finish-tick, report-finished        an entry that finishes with f is written so
---     finished-report             and an entry that is written so finishes with f, by demand 3
---     report-refused, refused-report      the same of a refused entry
---     counts_all                  every entry is counted once
 use Rattle.std.specs.Prelude.{ℕ, zero, suc, cond, not, ◌&&◌, List, [], ◌∷◌, length, leb, eqb}
 use Rattle.std.proofs.Math.Option.{Option, none, some}
 use Rattle.laws.specs.First.{first}
