@@ -17,9 +17,9 @@ use Rattle.laws.specs.Sum.{sum}
 use Rattle.laws.specs.SumLaws.{sum_ext, sum_mono}
 use Rattle.laws.specs.Tab.{tab, cut}
 use Rattle.tasks.specs.TaskSet.{TaskSet, hyperperiod, share, counted, amount, needed, row}
-use Rattle.tasks.specs.ShareLaws.{hyperperiod-low}
-use Rattle.tasks.specs.AmountLaws.{amount-high}
-use Rattle.tasks.specs.SlackLaws.{needed-least}
+use Rattle.tasks.proofs.ShareLaws.{hyperperiod-low}
+use Rattle.tasks.proofs.AmountLaws.{amount-high}
+use Rattle.tasks.proofs.SlackLaws.{needed-least}
 use Rattle.slack.specs.Arrays.{lifted, upto, ArraysOf}
 use Rattle.slack.specs.NeedLaws.{need-covers, needed_rounded}
 use Rattle.slack.specs.SearchLaws.{turn_lifted}

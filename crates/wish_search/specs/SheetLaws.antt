@@ -11,10 +11,10 @@ use Rattle.laws.specs.SumLaws.{sum_ext}
 use Rattle.laws.specs.Tab.{tab, cut}
 use Rattle.tasks.specs.TaskSet.{TaskSet, hyperperiod, share, surplus, row}
 use Rattle.tasks.specs.Limits.{Limits}
-use Rattle.tasks.specs.ShareLaws.{share-high}
+use Rattle.tasks.proofs.ShareLaws.{share-high}
 use Rattle.slack.specs.Arrays.{ArraysOf}
 use Rattle.slack.specs.RatesLaws.{row_filled}
-use Rattle.wishes.specs.Wish.{room, with_offsets, largest_offset, at_slack, passes}
+use Rattle.wishes.specs.Wish.{with_offsets, largest_offset, at_slack, passes}
 use Rattle.wishes.proofs.WishLaws.{largest-low}
 use Rattle.wish_offsets.specs.Rows.{offset_row, past_row}
 use Rattle.wish_search.specs.SheetArrays.{SheetOf}

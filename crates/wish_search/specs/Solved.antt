@@ -11,7 +11,7 @@ use Rattle.tasks.specs.declared.Answer.{Answer}
 use Rattle.tasks.specs.declared.Answer.TheVariants.{Accepted}
 use Rattle.tasks.specs.TaskSet.{TaskSet, row}
 use Rattle.tasks.specs.Content.{Content}
-use Rattle.tasks.specs.ShareLaws.{Timed}
+use Rattle.tasks.specs.Terms.{Timed}
 use Rattle.tasks.specs.Tests.{refuse, first_met, or_next, test6, test7, test28, test9, test10}
 use Rattle.slack.specs.Rates.{rates_test}
 use Rattle.analysis.specs.SlackTest.{offering}

@@ -18,7 +18,7 @@ use Rattle.laws.specs.SumLaws.{sum_ext}
 use Rattle.laws.specs.Tab.{tab, cut}
 use Rattle.laws.specs.TabLaws.{ext_tab}
 use Rattle.tasks.specs.TaskSet.{TaskSet, hyperperiod, amount, needed, row}
-use Rattle.tasks.specs.ShareLaws.{hyperperiod-low}
+use Rattle.tasks.proofs.ShareLaws.{hyperperiod-low}
 use Rattle.slack.specs.Arrays.{lifted, upto, Needs}
 use Rattle.slack.specs.NeedLaws.{need-covers, need-least, needed_rounded}
 use Rattle.slack.specs.SearchLaws.{changes, turn_lifted, turn_length, turn_past, turn_still, turn_changed}
