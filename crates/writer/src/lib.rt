@@ -1,5 +1,6 @@
 // The writer: a plan handed in unchecked, to a table's bytes.
 #![tactic(auto)]
+
 ghost use Rattle.std.specs.Prelude.{◌≡◌, length};
 ghost use Rattle.tasks.specs.Tests.{test_plan};
 ghost use Rattle.writer.specs.Written.{answer_of_written, length_of_written, write_test, written_length, written_to};
