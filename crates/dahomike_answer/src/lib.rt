@@ -1,5 +1,6 @@
 // The 64-bit number of a refused call, for the functions of both C libraries.
 #![tactic(auto)]
+
 ghost use Rattle.std.specs.Prelude.{◌≡◌};
 ghost use Rattle.dahomike_answer.specs.Number.{answer_number};
 
