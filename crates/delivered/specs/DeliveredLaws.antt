@@ -47,12 +47,13 @@ use Rattle.history.specs.Engine.{taken, refused, Call, clock, state, HistoryClai
 use Rattle.history.specs.Log.{Entry, tick_at, outcome, whole, Claim}
 use Rattle.history.specs.Report.{met, report, taken_count, refused_count}
 use Rattle.history.specs.OnMachine.{answer_of, handed_of, quiet_of, machine_engine}
-use Rattle.history.specs.Balance.{answer_allowed}
-use Rattle.history.specs.Life.{machine_history}
-use Rattle.history.specs.Drain.{quiet-idle, idle-quiet, whole-quiet}
-use Rattle.history.specs.Mirror.{Mirrors, like, same-quiet, mirror_history}
-use Rattle.history.specs.MirrorLog.{same_whole, same-report, same-counts}
-use Rattle.history.specs.LogClock.{whole-clock, mirror_demand, mirror_numbers}
+use Rattle.history.proofs.Balance.{answer_allowed}
+use Rattle.history.proofs.Life.{machine_history}
+use Rattle.history.proofs.Drain.{quiet-idle, idle-quiet, whole-quiet}
+use Rattle.history.specs.Mirror.{Mirrors}
+use Rattle.history.proofs.Mirror.{like, same-quiet, mirror_history}
+use Rattle.history.proofs.MirrorLog.{same_whole, same-report, same-counts}
+use Rattle.history.proofs.LogClock.{whole-clock, mirror_demand, mirror_numbers}
 use Rattle.delivered.specs.Delivered.{names_as_running, nothing_pending, engine_of}
 
 pub same_answer : (s : TaskSet) (M : Machine) (i c : ℕ) → outcome_of (admit_tests s M i c) ≡ answer_of s M i c

@@ -22,11 +22,12 @@ use Rattle.logs.specs.LogBytes.{entry_count, entries_in, log_test}
 use Rattle.logs.specs.LogLaws.{entries-length, entry_at, log-ticks}
 use Rattle.state.specs.Calls.{step_of}
 use Rattle.history.specs.Engine.{refused, Engine, Call, step, clock, state, HistoryClaim}
-use Rattle.history.specs.EngineLaws.{clock-later}
+use Rattle.history.proofs.EngineLaws.{clock-later}
 use Rattle.history.specs.Log.{Entry, tick_at, outcome, whole, Finishes, Claim}
-use Rattle.history.specs.Report.{finished, refusal, met, report, report-finished, finished-report, report-refused, refused-report}
+use Rattle.history.specs.Report.{finished, refusal, met, report}
+use Rattle.history.proofs.Report.{report-finished, finished-report, report-refused, refused-report}
 use Rattle.history.specs.OnMachine.{machine_engine}
-use Rattle.history.specs.Refusals.{met_not_23}
+use Rattle.history.proofs.Refusals.{met_not_23}
 use Rattle.delivered.specs.Delivered.{nothing_pending, engine_of}
 use Rattle.delivered.specs.DeliveredLaws.{plan-steps, plan_history, plan-demand, plan_numbers, plan-ends, plan-quiet, plan-reports}
 

@@ -33,7 +33,7 @@ use Rattle.state.specs.Calls.{step_tests, release_tests, release_of, ticked_of, 
 use Rattle.state.proofs.FitLaws.{plan-limits, plan-compliant}
 use Rattle.history.specs.Engine.{outcome_of, Call, step, ask, clock, state, verdict as asked}
 use Rattle.history.specs.OnMachine.{handed_of}
-use Rattle.history.specs.ClaimLaws.{history_room}
+use Rattle.history.proofs.ClaimLaws.{history_room}
 use Rattle.delivered.specs.Delivered.{engine_of}
 use Rattle.delivered.specs.DeliveredLaws.{Alike, stepped, steps, asks, opens, plan_history}
 use Rattle.delivered.specs.Demand3.{run_on, plan-passes}

@@ -15,7 +15,8 @@ use Rattle.table.specs.Judged.{judged}
 use Rattle.roundtrip.specs.RoundTrip.{judged-tidy}
 use Rattle.logs.specs.LogBytes.{entry_count, entries_in, log_test, reports_to}
 use Rattle.logs.specs.LogLaws.{entries-length}
-use Rattle.history.specs.Report.{report, taken_count, refused_count, counts_all}
+use Rattle.history.specs.Report.{report, taken_count, refused_count}
+use Rattle.history.proofs.Report.{counts_all}
 use Rattle.history.specs.OnMachine.{machine_engine}
 use Rattle.delivered.specs.DeliveredLaws.{plan-reports, plan-counts}
 use Rattle.delivered.specs.Demand3.{run_on, plan-passes, log-early}

@@ -26,12 +26,12 @@ use Rattle.machine.proofs.Sound.{reached-sound}
 use Rattle.machine.proofs.Choice.{earliest}
 use Rattle.state.specs.Fit.{Fit}
 use Rattle.history.specs.Engine.{refused, Call, step, clock, state, named_ticks, Ends}
-use Rattle.history.specs.EngineLaws.{ends-step}
+use Rattle.history.proofs.EngineLaws.{ends-step}
 use Rattle.history.specs.Log.{Entry, loop_at, wait, outcome, Taken, owed}
 use Rattle.history.specs.Report.{finished, refusal}
 use Rattle.history.specs.OnMachine.{machine_engine}
-use Rattle.history.specs.Balance.{not_refused, reached}
-use Rattle.history.specs.Owners.{Owned, finishing, owned-length, owned_head, owner_ends, owners-tick}
+use Rattle.history.proofs.Balance.{not_refused, reached}
+use Rattle.history.proofs.Owners.{Owned, finishing, owned-length, owned_head, owner_ends, owners-tick}
 use Rattle.numbers.specs.Bytes.{byte}
 use Rattle.logs.specs.LogBytes.{report_bytes}
 use Rattle.logs.specs.ReportLaws.{Said, said-length, said-beyond, said_here, said-other}

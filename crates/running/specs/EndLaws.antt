@@ -24,14 +24,16 @@ use Rattle.state.specs.State.{state_of}
 use Rattle.state.proofs.FitLaws.{plan-limits, plan-compliant, plan-bounded}
 use Rattle.state.proofs.CallLaws.{opened_empty}
 use Rattle.history.specs.Engine.{Outcome, taken, refused, Engine, Call, state, Ends}
-use Rattle.history.specs.EngineLaws.{ends-step, ends-once}
+use Rattle.history.proofs.EngineLaws.{ends-step, ends-once}
 use Rattle.history.specs.Log.{Entry, loop_at, wait, calls, outcome, Taken, owed, rest, whole}
-use Rattle.history.specs.Report.{finished, report, report-finished, report-refused}
+use Rattle.history.specs.Report.{finished, report}
+use Rattle.history.proofs.Report.{report-finished, report-refused}
 use Rattle.history.specs.OnMachine.{machine_engine}
-use Rattle.history.specs.Drain.{quiet-idle}
-use Rattle.history.specs.MachineClaim.{machine_claim}
-use Rattle.history.specs.LogClock.{longest, quiet-after, rest-high}
-use Rattle.history.specs.Owners.{owned-length}
+use Rattle.history.proofs.Drain.{quiet-idle}
+use Rattle.history.proofs.MachineClaim.{machine_claim}
+use Rattle.history.specs.LogClock.{longest}
+use Rattle.history.proofs.LogClock.{quiet-after, rest-high}
+use Rattle.history.proofs.Owners.{owned-length}
 use Rattle.logs.specs.LogBytes.{reports_to}
 use Rattle.logs.specs.ReportLaws.{Said, said_all}
 use Rattle.running.specs.LowerLaws.{wait-wait}

@@ -16,13 +16,13 @@ use Rattle.tasks.specs.TaskSet.{TaskSet}
 use Rattle.machine.specs.Machine.{Job, job, admitted, joined}
 use Rattle.state.specs.State.{released_in, last_in}
 use Rattle.history.specs.Engine.{refused, Call, ask, clock, state, verdict, named_ticks, Ends}
-use Rattle.history.specs.EngineLaws.{ends-ask}
+use Rattle.history.proofs.EngineLaws.{ends-ask}
 use Rattle.history.specs.Log.{Entry, tick_at, loop_at, demand_at, until, calls, outcome, Taken, owed}
-use Rattle.history.specs.LogLaws.{taken_call, clock-entry}
+use Rattle.history.proofs.LogLaws.{taken_call, clock-entry}
 use Rattle.history.specs.Report.{finished, refusal}
 use Rattle.history.specs.OnMachine.{handed_of, machine_engine}
-use Rattle.history.specs.Balance.{not_refused, machine_clock}
-use Rattle.history.specs.Owners.{Owned, owners-taken}
+use Rattle.history.proofs.Balance.{not_refused, machine_clock}
+use Rattle.history.proofs.Owners.{Owned, owners-taken}
 use Rattle.logs.specs.LogBytes.{report_bytes}
 use Rattle.logs.specs.ReportLaws.{Said, said-length, said-beyond, said_here, said-other}
 use Rattle.running.specs.Running.{tasks_on, engine_on, Below, Whole, Rooted, Book}

@@ -31,14 +31,14 @@ use Rattle.heads.specs.HeadLaws.{SameHead, heads-same, inserted}
 use Rattle.heads.specs.RoomLaws.{room_for}
 use Rattle.history.specs.Engine as history
 use Rattle.history.specs.Engine.{taken, refused, Call, ask, state, verdict, named_ticks}
-use Rattle.history.specs.EngineLaws.{ends-ask}
+use Rattle.history.proofs.EngineLaws.{ends-ask}
 use Rattle.history.specs.Log.{Entry, tick_at, loop_at, demand_at, back, wait, until, calls, outcome}
-use Rattle.history.specs.LogLaws.{largest-least, clock-calls, clock-entry}
+use Rattle.history.proofs.LogLaws.{largest-least, clock-calls, clock-entry}
 use Rattle.history.specs.Report.{refusal}
 use Rattle.history.specs.OnMachine.{answer_of, handed_of, machine_engine}
-use Rattle.history.specs.Balance.{answer_allowed, machine_clock}
-use Rattle.history.specs.Refusals.{last-wait}
-use Rattle.history.specs.Owners.{owned-length}
+use Rattle.history.proofs.Balance.{answer_allowed, machine_clock}
+use Rattle.history.proofs.Refusals.{last-wait}
+use Rattle.history.proofs.Owners.{owned-length}
 use Rattle.logs.specs.LogBytes.{entries_in, report_bytes}
 use Rattle.running.specs.Running.{Arrays, arrays, tasks_on, engine_on, Running}
 use Rattle.running.specs.WaitLaws.{waits-known}

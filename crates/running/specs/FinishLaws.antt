@@ -25,8 +25,8 @@ use Rattle.history.specs.Engine.{Engine, Call, step, state}
 use Rattle.history.specs.Log.{Entry, no_entry, tick_at, demand_at}
 use Rattle.history.specs.Report.{finished}
 use Rattle.history.specs.OnMachine.{machine_engine}
-use Rattle.history.specs.Balance.{reached, machine_clock}
-use Rattle.history.specs.Owners.{finishing}
+use Rattle.history.proofs.Balance.{reached, machine_clock}
+use Rattle.history.proofs.Owners.{finishing}
 use Rattle.logs.specs.declared.read.Release.{Release}
 use Rattle.logs.specs.LogStages.{Releases}
 use Rattle.logs.specs.LogBytes.{entry_count, entry_in, report_bytes}

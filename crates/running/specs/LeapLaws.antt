@@ -25,11 +25,11 @@ use Rattle.machine.proofs.Sound.{reached-sound}
 use Rattle.machine.proofs.Choice.{earliest}
 use Rattle.state.proofs.FitLaws.{in_cores, plan-limits}
 use Rattle.history.specs.Engine.{Engine, Call, step, state}
-use Rattle.history.specs.EngineLaws.{clock-wait}
+use Rattle.history.proofs.EngineLaws.{clock-wait}
 use Rattle.history.specs.Log.{wait}
 use Rattle.history.specs.OnMachine.{machine_engine}
-use Rattle.history.specs.Balance.{reached}
-use Rattle.history.specs.Owners.{finishing}
+use Rattle.history.proofs.Balance.{reached}
+use Rattle.history.proofs.Owners.{finishing}
 use Rattle.choice.specs.Key.{key_of}
 use Rattle.heads.specs.Order.{head_work, Heads, lowest, work_after, HeadsRun, Finishes}
 use Rattle.heads.specs.OrderLaws.{loop_in, loop-at, owns_key, runs-place}

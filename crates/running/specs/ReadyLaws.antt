@@ -7,7 +7,7 @@
 use Rattle.std.specs.Prelude.{ℕ, ◌+◌, ◌-◌, ◌≤◌, ◌≡◌, List}
 use Rattle.std.proofs.Common.{sym, ap, subst, ◌∙◌, arith}
 use Rattle.state.proofs.FitLaws.{plan-limits}
-use Rattle.history.specs.EngineLaws.{clock-wait}
+use Rattle.history.proofs.EngineLaws.{clock-wait}
 use Rattle.history.specs.Log.{wait}
 use Rattle.heads.specs.RoomLaws.{heads-few}
 use Rattle.running.specs.LowerLaws.{wait-wait}

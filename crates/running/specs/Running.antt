@@ -20,7 +20,7 @@ use Rattle.history.specs.Engine.{refused, Engine, Call, clock, state, named_tick
 use Rattle.history.specs.Log.{Entry, tick_at, loop_at, demand_at, outcome, Taken, owed}
 use Rattle.history.specs.Report.{finished, refusal}
 use Rattle.history.specs.OnMachine.{machine_engine}
-use Rattle.history.specs.Owners.{Owned}
+use Rattle.history.proofs.Owners.{Owned}
 use Rattle.numbers.specs.Bytes.{byte}
 use Rattle.heads.specs.Order.{Heads}
 use Rattle.logs.specs.ReportLaws.{Said}

@@ -8,7 +8,7 @@ use Rattle.machine.specs.Machine.{Lane, pending, waiting, opened}
 use Rattle.machine.proofs.Sound.{reached-sound}
 use Rattle.history.specs.Engine.{Call, state}
 use Rattle.history.specs.OnMachine.{machine_engine}
-use Rattle.history.specs.Balance.{reached}
+use Rattle.history.proofs.Balance.{reached}
 
 pub waits-known : (s : TaskSet) (h : List Call) (i : ℕ) → waiting (state (machine_engine s) h) i ≡ true → i < s.count
 unfolding waiting opened

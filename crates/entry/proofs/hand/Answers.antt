@@ -1,5 +1,5 @@
 -- `entry::hand` meets its contract.
-use Rattle.running.specs.HandLaws.{hand_low, answer_20, hand_answer, hand_refused, hand_behind, hand_place, hand_rises, hand_first}
+use Rattle.running.proofs.HandLaws.{hand_low, answer_20, hand_answer, hand_refused, hand_behind, hand_place, hand_rises, hand_first}
 use Rattle.history.specs.Engine.{outcome_of}
 use Rattle.state.proofs.CallLaws.{admission-room}
 use Rattle.tasks.specs.TaskSet.{row}

@@ -1,5 +1,5 @@
 -- `onward::finish_all` meets its contract; the loop's invariant says which tasks are noted so far.
-use Rattle.running.specs.AllCode.{all_none, all_one, all_more}
+use Rattle.running.proofs.AllCode.{all_none, all_one, all_more}
 use Rattle.tasks.specs.TaskSet.{row}
 use native.Mathlib.Omega.{arith}
 use mathlib.Core.Path.{◌≡◌, refl}

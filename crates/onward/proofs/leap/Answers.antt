@@ -1,6 +1,6 @@
 -- `onward::leap` meets its contract.
 use Rattle.running.specs.ReadyLaws.{ready-few}
-use Rattle.running.specs.AllCode.{leap_in, leap_finishing, leap_made}
+use Rattle.running.proofs.AllCode.{leap_in, leap_finishing, leap_made}
 use native.Mathlib.Omega.{arith}
 use borrow.Author.Rules.{rules}
 use Rattle.onward.proofs.leap.Goals as goal

@@ -1,0 +1,2 @@
+pub mod AllCode
+pub mod HandLaws
