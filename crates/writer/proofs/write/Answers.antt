@@ -1,6 +1,6 @@
 -- `writer::write` meets its contract: a refusal of the plan is a case of `Writes`, and the rest is `write_accepted`.
 use mathlib.Core.Path.{sym, ◌∙◌}
-use Rattle.writer.specs.WriterLaws.{write_refused}
+use Rattle.writer.proofs.WriterLaws.{write_refused}
 use Rattle.writer.proofs.write.Goals as goal
 
 pub returns-in_default : goal.returns-in_default

@@ -4,7 +4,7 @@ use mathlib.Core.Path.{refl}
 use Rattle.writer.specs.declared.Written.TheVariants.{Length, Refused as NotWritten}
 use Rattle.codec.specs.TaskLaws.{size_times}
 use Rattle.sections.specs.WriteLaws.{length-plan}
-use Rattle.writer.specs.WriterLaws.{plan-few, write_short, write_done}
+use Rattle.writer.proofs.WriterLaws.{plan-few, write_short, write_done}
 use Rattle.writer.proofs.write_accepted.Goals as goal
 
 pub table_length-requires : goal.table_length-requires
