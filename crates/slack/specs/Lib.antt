@@ -2,7 +2,6 @@ pub mod Rates
 pub mod RatesLaws
 pub mod Arrays
 pub mod ArraysLaws
-pub mod NeedLaws
 pub mod Weights
 pub mod StageLaws
 pub mod SearchLaws

@@ -18,7 +18,7 @@ use Rattle.laws.specs.Member.{member}
 use Rattle.laws.specs.MemberLaws.{member-at}
 use Rattle.tasks.specs.TaskSet.{row}
 use Rattle.slack.specs.Arrays.{need}
-use Rattle.slack.specs.NeedLaws.{need-least}
+use Rattle.slack.proofs.NeedLaws.{need-least}
 use Rattle.wish_gains.specs.Gains.{Gain, Gains}
 
 -- what an entry is

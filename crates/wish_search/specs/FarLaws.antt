@@ -21,8 +21,8 @@ use Rattle.tasks.proofs.ShareLaws.{hyperperiod-low}
 use Rattle.tasks.proofs.AmountLaws.{amount-high}
 use Rattle.tasks.proofs.SlackLaws.{needed-least}
 use Rattle.slack.specs.Arrays.{lifted, upto, ArraysOf}
-use Rattle.slack.specs.NeedLaws.{need-covers, needed_rounded}
-use Rattle.slack.specs.SearchLaws.{turn_lifted}
+use Rattle.slack.proofs.NeedLaws.{need-covers, needed_rounded}
+use Rattle.slack.proofs.SearchLaws.{turn_lifted}
 use Rattle.slack.specs.StageLaws.{counted-row, amount-row}
 use Rattle.slack.specs.Weights.{weight_row, Amounts}
 use Rattle.wishes.specs.Wish.{room, with_offsets, at_slack}

@@ -20,8 +20,9 @@ use Rattle.laws.specs.TabLaws.{ext_tab}
 use Rattle.tasks.specs.TaskSet.{TaskSet, hyperperiod, amount, needed, row}
 use Rattle.tasks.proofs.ShareLaws.{hyperperiod-low}
 use Rattle.slack.specs.Arrays.{lifted, upto, Needs}
-use Rattle.slack.specs.NeedLaws.{need-covers, need-least, needed_rounded}
-use Rattle.slack.specs.SearchLaws.{changes, turn_lifted, turn_length, turn_past, turn_still, turn_changed}
+use Rattle.slack.proofs.NeedLaws.{need-covers, need-least, needed_rounded}
+use Rattle.slack.specs.SearchLaws.{changes}
+use Rattle.slack.proofs.SearchLaws.{turn_lifted, turn_length, turn_past, turn_still, turn_changed}
 use Rattle.wishes.specs.Wish.{room, with_offsets, at_slack, wished, passes, no_solution}
 use Rattle.wishes.proofs.WishLaws.{at_mono, need_mono, wished-past}
 use Rattle.wishes.specs.RaisingLaws.{Solving, Below}

@@ -3,7 +3,7 @@ use native.Mathlib.Omega.{arith}
 use mathlib.Core.Path.{◌≡◌, sym, ◌∙◌}
 use Rattle.fields.proofs.ranges.ranges.Goals.{then-next-number, else-next-number}
 use Rattle.tasks.specs.Content.{task_of, no_task}
-use Rattle.fields.specs.ScanLaws.{range_none, range_lower, range_kept, seen_none, seen-some}
+use Rattle.fields.proofs.ScanLaws.{range_none, range_lower, range_kept, seen_none, seen-some}
 use Rattle.fields.proofs.ranges.ranges.Goals as goal
 
 pub loop-i-init : goal.loop-i-init

@@ -9,7 +9,7 @@ use Rattle.tasks.proofs.AmountLaws.{amount-high}
 use Rattle.tasks.proofs.CeilingLaws.{level_high}
 use Rattle.slack.specs.Weights.{weight_row, Amounts}
 use Rattle.slack.specs.Arrays.{need, ArraysOf, Needs}
-use Rattle.slack.specs.NeedLaws.{need-least}
+use Rattle.slack.proofs.NeedLaws.{need-least}
 use Rattle.slack.specs.StageLaws.{more, multiple-low, multiple-high, few, surplus-high, counted-row, amount-row}
 use Rattle.slack.proofs.amount.needed.Goals as goal
 

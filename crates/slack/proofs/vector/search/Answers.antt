@@ -1,7 +1,7 @@
 -- The slack rises from zeros and stays below every compliant slack; the names can be handed to the choice again.
 use Rattle.slack.specs.ArraysLaws.{zero_array}
 use Rattle.tasks.proofs.RisingLaws.{rising-start, rising-high}
-use Rattle.slack.specs.SearchLaws.{turn_rising, turn_length, turn_past, turn_over, turn_counted, turn_less}
+use Rattle.slack.proofs.SearchLaws.{turn_rising, turn_length, turn_past, turn_over, turn_counted, turn_less}
 use native.Mathlib.Omega.{arith}
 use mathlib.Core.Path.{refl, sym, ◌∙◌}
 use Rattle.slack.proofs.vector.search.Goals as goal

@@ -6,7 +6,7 @@ use Prim.Native.Nat.{ℕ, ◌≤◌, ◌<◌}
 use Rattle.laws.specs.First.{first}
 use Rattle.slack.specs.ArraysLaws.{zero_array}
 use Rattle.tasks.specs.TaskSet.{TaskSet, row}
-use Rattle.slack.specs.SearchLaws.{turn_length, turn_past}
+use Rattle.slack.proofs.SearchLaws.{turn_length, turn_past}
 use Rattle.wishes.specs.RaisingLaws.{Below}
 use Rattle.wishes.proofs.RaisingLaws.{below-start}
 use Rattle.wish_offsets.specs.Rows.{past_row}
