@@ -1,5 +1,6 @@
 // From a table of one edition to a table of the other: document 02, §6.
 #![tactic(auto)]
+
 ghost use Rattle.std.specs.Prelude.{◌≡◌, cond, ◌||◌, ◌≤◌, length, eqb};
 ghost use Rattle.laws.specs.First.{first};
 ghost use Rattle.laws.specs.Tab.{tab};

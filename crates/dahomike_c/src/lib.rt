@@ -1,6 +1,7 @@
 // The C functions of the desktop planner, over byte slices: a pointer and a length each. Each calls the function of its name in `dahomike`, which
 // other crates can use, and keeps the same contract.
 #![tactic(auto)]
+
 ghost use Rattle.std.specs.Prelude.{◌≡◌, length};
 ghost use Rattle.conversion.specs.Converted.{converted_to};
 ghost use Rattle.replay.specs.Ran.{run_leaves};

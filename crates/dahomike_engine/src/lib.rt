@@ -1,5 +1,6 @@
 // The engine for a controller in C: its calls as C functions over a lent state of 653 words.
 #![tactic(auto)]
+
 ghost use Rattle.std.specs.Prelude.{◌≡◌, ℕ, ◌≤◌, ◌<◌};
 ghost use Rattle.std.proofs.lemmas.List.Edits.{sets};
 ghost use Rattle.tasks.specs.TaskSet.{row};

@@ -1,5 +1,6 @@
 // "The live controller lends its state, and one thin call advances it there."
 #![tactic(auto)]
+
 ghost use Rattle.std.specs.Prelude.{◌≡◌};
 ghost use Rattle.state.specs.Calls.{step_of};
 

@@ -4,6 +4,7 @@
 
 // The file descriptors of standard input and output.
 const STDIN_FILENO: i32 = 0;
+
 const STDOUT_FILENO: i32 = 1;
 
 // Longer input than this is cut off, which changes no text: `text`'s law `long-text`.

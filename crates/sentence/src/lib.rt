@@ -1,5 +1,6 @@
 // A refusal told as one English sentence. Document 02, §2.
 #![tactic(auto)]
+
 mod place;
 mod rule;
 

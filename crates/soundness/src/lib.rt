@@ -1,5 +1,6 @@
 // Whether a state is sound, clause by clause; its table part's test by 1, 3 to 13 and 28 is the analysis's.
 #![tactic(auto)]
+
 ghost use Rattle.std.specs.Prelude.{◌≡◌};
 ghost use Rattle.state.specs.Parts.{state_from};
 ghost use Rattle.state.specs.SoundState.{sound_of};

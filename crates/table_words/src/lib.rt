@@ -1,5 +1,6 @@
 // Fixed words of sentences, those between index and value: what would be right, for 1 to 13, of a table or a plan.
 #![tactic(auto)]
+
 ghost use Rattle.std.specs.Prelude.{◌+◌, ◌≤◌, length};
 ghost use Rattle.decimal.specs.Decimal.{Stored};
 ghost use Rattle.wording.specs.Sentence.{wording};

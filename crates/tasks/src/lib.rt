@@ -1,5 +1,6 @@
 // The records that every layer shares: a task, a plan, and the answer of a test. What document 01 says of them is in specs/.
 #![tactic(auto)]
+
 pub mod bound;
 pub mod edition;
 pub mod limits;

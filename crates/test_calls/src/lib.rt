@@ -1,5 +1,6 @@
 // Lines that make a call and print its case under the name at the line's end.
 #![tactic(auto)]
+
 use state::State;
 use tasks::Plan;
 use test_converts::converted;

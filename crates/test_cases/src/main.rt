@@ -1,6 +1,7 @@
 // Runs the cases of a script on standard input, a line at a time, and prints what came back. docs/TESTING.md has the words that a line may
 // have. The stored output is worked out from documents 01 and 02 by other means.
 #![tactic(auto)]
+
 mod act;
 
 use test_script::line::{find, front};

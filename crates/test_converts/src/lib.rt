@@ -1,5 +1,6 @@
 // A conversion's case: what `convert` answers to a table and leaves in the lent buffer, and what the judge says of both sides.
 #![tactic(auto)]
+
 ghost use Rattle.std.specs.Prelude.{◌<◌};
 
 use tasks::{Answer, Plan, Task};

@@ -1,5 +1,6 @@
 // A sentence's case: what `sentence` answers and what it leaves in the lent buffer.
 #![tactic(auto)]
+
 use test_script::buffer::{FILL, untouched};
 use test_script::line::front;
 use test_script::say;

@@ -1,5 +1,6 @@
 // A wish sheet's case: what `wish` answers to it, and what the judge says of the plan that it found.
 #![tactic(auto)]
+
 use tasks::{Answer, Plan, Task};
 use test_same_plan::{all_zero, same_plan, unused_zero};
 use test_script::buffer::FILL;

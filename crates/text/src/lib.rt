@@ -1,5 +1,6 @@
 // The text that the program `plan` prints for a table. Document 01, the end of "Worked tables", and document 02, §1 and §5.
 #![tactic(auto)]
+
 ghost use Rattle.std.specs.Prelude.{◌≡◌, ◌++◌, ℕ, ◌+◌, ◌-◌, ◌≤◌, ◌<◌, length, take, drop};
 ghost use Rattle.decimal.specs.Decimal.{Stored};
 ghost use Rattle.tasks.specs.declared.Answer.TheVariants.{Accepted};
