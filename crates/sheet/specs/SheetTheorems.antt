@@ -17,9 +17,10 @@ use Rattle.tasks.specs.declared.Plan.{Plan}
 use Rattle.tasks.specs.TaskSet.{row}
 use Rattle.tasks.specs.declared.Answer.TheVariants.{Accepted, Refused}
 use Rattle.tasks.specs.Content.{Content, no_task, counted_of, content_of, plan_of, tidy}
-use Rattle.tasks.specs.ContentLaws.{Fits, fits-back}
+use Rattle.tasks.specs.Terms.{Fits}
+use Rattle.tasks.proofs.ContentLaws.{fits-back}
 use Rattle.tasks.specs.Tests.{bad_edition, tests, test_plan}
-use Rattle.tasks.specs.TestsLaws.{tests-limits, plan-accepted}
+use Rattle.tasks.proofs.TestsLaws.{tests-limits, plan-accepted}
 use Rattle.tasks.specs.AnswerLaws.{refuse-passed, first_met-passed, first_met_pass, or_next-passed, first_met_alone}
 use Rattle.codec.specs.Table.{edition_in, slack_count, task_set_in, content_in, bytes_of, test1, test2}
 use Rattle.codec.specs.TaskLaws.{edition_in_lem}

@@ -17,7 +17,8 @@ use Rattle.tasks.specs.declared.Answer.{Answer}
 use Rattle.tasks.specs.declared.Answer.TheVariants.{Accepted, Refused}
 use Rattle.tasks.specs.TaskSet.{TaskSet, row}
 use Rattle.tasks.specs.Content.{in_edition, Content, no_task, task_of, content_of, plan_of, zero_plan}
-use Rattle.tasks.specs.ContentLaws.{used-task, plan_ext, with_slack}
+use Rattle.tasks.proofs.ContentLaws.{used-task, plan_ext}
+use Rattle.tasks.specs.Terms.{with_slack}
 use Rattle.tasks.specs.Tests.{first_met, unless_refused, test3, test4, test6, test7, test28, test9, test10}
 use Rattle.tasks.specs.AnswerLaws.{refuse-passed, first_met-append, first_met-passed, outside-passed, first_met_alone}
 use Rattle.codec.specs.Table.{core_count, task_count, slack_count, task_set_in, content_in, test1, test2}
