@@ -1,3 +1,3 @@
 pub mod SectionLaws
 pub mod BackLaws
-pub mod RoundTrip
+pub mod Left

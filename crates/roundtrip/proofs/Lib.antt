@@ -1,0 +1,3 @@
+pub mod JudgedBack
+pub mod SameBack
+pub mod RoundTrip
