@@ -31,7 +31,7 @@ use Rattle.codec.specs.TaskLaws.{size_times}
 use Rattle.sections.specs.WriteLaws.{length-bytes}
 use Rattle.roundtrip.specs.SectionLaws.{verdict-parts, table_fits}
 use Rattle.roundtrip.specs.BackLaws.{back-edition}
-use Rattle.roundtrip.specs.RoundTrip.{rewritten, plan-back, verdict-back}
+use Rattle.roundtrip.proofs.RoundTrip.{rewritten, plan-back, verdict-back}
 use Rattle.conversion.specs.Converted.{converted_task, converted, converted_bytes, wanted_test, no_offset, other_deadline, way_test, fit_test, convert_test, converted_length, converted_to}
 use Rattle.conversion.specs.ConvertedLaws.{way_deadlines, fit_passed, fit-more, fit-each, converted-late, converted-kept, table-says, table-passes, ways, other-edition}
 

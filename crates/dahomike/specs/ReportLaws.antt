@@ -23,7 +23,7 @@ use Rattle.tasks.specs.TaskSet.{bound, row}
 use Rattle.tasks.specs.Limits.{Bounded}
 use Rattle.tasks.specs.Content.{Content, plan_of, task_of}
 use Rattle.tasks.specs.Tests.{first_met, unless_refused, tests}
-use Rattle.tasks.specs.TestsLaws.{tests-limits, tests-bounded}
+use Rattle.tasks.proofs.TestsLaws.{tests-limits, tests-bounded}
 use Rattle.numbers.specs.Bytes.{digits, entries}
 use Rattle.numbers.specs.ByteLaws.{length_digits, length-entries, entries-same}
 use Rattle.dahomike_answer.specs.Number.{answer_number}

@@ -17,7 +17,7 @@ use Rattle.tasks.specs.Content.{Content}
 use Rattle.tasks.specs.Tests.{test_plan}
 use Rattle.codec.specs.Table.{content_in, verdict}
 use Rattle.table.specs.Judged.{judged}
-use Rattle.roundtrip.specs.RoundTrip.{judged-fits, judged-passes}
+use Rattle.roundtrip.proofs.RoundTrip.{judged-fits, judged-passes}
 use Rattle.logs.specs.LogBytes.{entry_count, entries_in, log_test}
 use Rattle.logs.specs.LogLaws.{entries-length, entry_at, log-ticks}
 use Rattle.state.specs.Calls.{step_of}

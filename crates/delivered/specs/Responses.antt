@@ -20,7 +20,7 @@ use Rattle.tasks.specs.Content.{Content, content_of}
 use Rattle.tasks.specs.Tests.{number_of, first_met, test_plan}
 use Rattle.codec.specs.Table.{content_in, verdict}
 use Rattle.table.specs.Judged.{judged}
-use Rattle.roundtrip.specs.RoundTrip.{judged-fits}
+use Rattle.roundtrip.proofs.RoundTrip.{judged-fits}
 use Rattle.machine.specs.Machine.{Machine, opened, responses, runs, tick, advanced}
 use Rattle.machine.specs.Reached.{Reached}
 use Rattle.machine.proofs.Choice.{earliest}

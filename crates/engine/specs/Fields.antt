@@ -14,7 +14,7 @@ use Rattle.state.specs.State.{machine_of}
 use Rattle.state.specs.SoundState.{passes}
 use Rattle.state.specs.Calls.{tasks_of, step_tests, ticked_of, step_of}
 use Rattle.state.specs.Parts.{state_from}
-use Rattle.state.specs.CallLaws.{step-taken}
+use Rattle.state.proofs.CallLaws.{step-taken}
 
 abbrev pub FieldsStepped : State → Answer → List ℕ → List ℕ → List ℕ → List ℕ → List ℕ → Type 0
 FieldsStepped s a jobs remaining release runs responses =

@@ -28,13 +28,14 @@ use Rattle.state.specs.State.{machine_of}
 use Rattle.state.specs.SoundState.{all_of, sound_of}
 use Rattle.state.specs.Calls.{tasks_of, open_of, release_of, release_tests, step_of, step_tests, not_stepped}
 use Rattle.history.specs.Engine.{outcome_of, Call, clock, state, HistoryClaim}
-use Rattle.history.specs.Mirror.{Mirrors, like, mirror_history}
+use Rattle.history.specs.Mirror.{Mirrors}
+use Rattle.history.proofs.Mirror.{like, mirror_history}
 use Rattle.delivered.specs.Delivered.{names_as_running, nothing_pending}
 use Rattle.delivered.specs.Demand3.{run_on, demand_histories}
 use Rattle.delivered.specs.Responses.{demand-responses}
 use Rattle.dahomike_answer.specs.Number.{answer_number}
 use Rattle.engine_words.specs.Words.{fields_in}
-use Rattle.engine_words.specs.PartLaws.{row-part}
+use Rattle.engine_words.proofs.PartLaws.{row-part}
 use Rattle.engine_lent.specs.Lent.{open_leaves, release_number, release_leaves, step_number, step_leaves, runs_leave, responses_leave}
 use Rattle.engine_lent.specs.LentLaws.{fit-said, step-answer}
 use Rattle.engine_controller.specs.Controller.{step_runs, outcome_in, nothing_held, controller_of}

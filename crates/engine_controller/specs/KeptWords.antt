@@ -16,19 +16,20 @@ use Rattle.tasks.specs.declared.Answer.TheVariants.{Accepted, Refused}
 use Rattle.tasks.specs.TaskSet.{row}
 use Rattle.tasks.specs.Content.{content_of, plan_of, tidy}
 use Rattle.tasks.specs.Tests.{bad_edition, test_plan, unless_refused}
-use Rattle.tasks.specs.TestsLaws.{plan-passed, tests-passed}
+use Rattle.tasks.proofs.TestsLaws.{plan-passed, tests-passed}
 use Rattle.table.specs.Judged.{judged}
-use Rattle.roundtrip.specs.RoundTrip.{judged-passes}
+use Rattle.roundtrip.proofs.RoundTrip.{judged-passes}
 use Rattle.machine.specs.Machine.{Machine, opened, admitted, tick}
 use Rattle.state.specs.declared.State.{State}
 use Rattle.state.specs.State.{state_of, machine_of}
 use Rattle.state.specs.Calls.{tasks_of, open_of, release_of, release_tests, step_of, step_tests, ticked_of, not_stepped}
 use Rattle.state.specs.SoundState.{passes}
-use Rattle.state.specs.ViewLaws.{shaped-state}
-use Rattle.state.specs.FitLaws.{shaped}
-use Rattle.state.specs.KeptLaws.{opened-fit, open_state}
+use Rattle.state.proofs.ViewLaws.{shaped-state}
+use Rattle.state.proofs.FitLaws.{shaped}
+use Rattle.state.proofs.KeptLaws.{opened-fit, open_state}
 use Rattle.engine_words.specs.Words.{is_byte, fits, said}
-use Rattle.engine_words.specs.WordsLaws.{Whole, words-fit, said-words, said-whole}
+use Rattle.engine_words.specs.WordsLaws.{Whole}
+use Rattle.engine_words.proofs.WordsLaws.{words-fit, said-words, said-whole}
 use Rattle.engine_lent.specs.Lent.{left, open_leaves, release_leaves, step_leaves}
 use Rattle.engine_lent.specs.LentLaws.{step-answer}
 

@@ -14,19 +14,19 @@ use Rattle.tasks.specs.Content.{tidy, plan_of, content_of}
 use Rattle.tasks.specs.Tests.{test_plan}
 use Rattle.table.specs.declared.Judgement.{Judgement}
 use Rattle.table.specs.Judged.{judged}
-use Rattle.roundtrip.specs.RoundTrip.{judged-passes}
+use Rattle.roundtrip.proofs.RoundTrip.{judged-passes}
 use Rattle.state.specs.declared.State.{State}
 use Rattle.state.specs.declared.Opened.{Opened}
 use Rattle.state.specs.declared.Released.{Released}
 use Rattle.state.specs.declared.Stepped.{Stepped}
 use Rattle.state.specs.State.{state_of}
 use Rattle.state.specs.Calls.{open_of, release_of, step_tests, step_of}
-use Rattle.state.specs.CallLaws.{open_limits, step-passed}
-use Rattle.state.specs.KeptLaws.{open_state}
-use Rattle.state.specs.SoundKept.{open_sound}
+use Rattle.state.proofs.CallLaws.{open_limits, step-passed}
+use Rattle.state.proofs.KeptLaws.{open_state}
+use Rattle.state.proofs.SoundKept.{open_sound}
 use Rattle.dahomike_answer.specs.Number.{answer_number}
 use Rattle.engine_words.specs.Words.{words_of, machine_words, fits, fields_in, said}
-use Rattle.engine_words.specs.WordsLaws.{said-whole}
+use Rattle.engine_words.proofs.WordsLaws.{said-whole}
 use Rattle.engine_lent.specs.Lent.{open_number, open_leaves, release_number, release_leaves, step_number, step_leaves, runs_leave, responses_leave}
 use Rattle.engine_lent.specs.LentLaws.{misfit_step, misfit_release, fit-said, sound-jobs, step-answer, step-plan, release-plan, step-jobs, release-jobs, over-said}
 

@@ -24,13 +24,13 @@ use Rattle.state.specs.State.{state_of}
 use Rattle.state.specs.Parts.{state_from}
 use Rattle.state.specs.SoundState.{all_of, passes, tidy_test, loop_test, loop_sound, place_sound, sound_of}
 use Rattle.state.specs.Calls.{release_of, release_tests, step_of, step_tests, ticked_of, not_stepped}
-use Rattle.state.specs.AllLaws.{all-at}
-use Rattle.state.specs.CallLaws.{step-passed}
+use Rattle.state.proofs.AllLaws.{all-at}
+use Rattle.state.proofs.CallLaws.{step-passed}
 use Rattle.state.specs.Fit.{Shaped}
-use Rattle.state.specs.SoundKept.{release-sound, step-sound}
+use Rattle.state.proofs.SoundKept.{release-sound, step-sound}
 use Rattle.engine_words.specs.Words.{words_of, machine_words, part, fits, plan_in, fields_in, said}
-use Rattle.engine_words.specs.WordsLaws.{words-said, misfit_unsound}
-use Rattle.engine_words.specs.StoredLaws.{machine_over}
+use Rattle.engine_words.proofs.WordsLaws.{words-said, misfit_unsound}
+use Rattle.engine_words.proofs.StoredLaws.{machine_over}
 
 pub fit-said : (ws : List ℕ) → fits ws ≡ true → said ws ≡ fields_in ws
 unfolding said

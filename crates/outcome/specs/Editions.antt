@@ -27,13 +27,13 @@ use Rattle.tasks.specs.AnswerLaws.{first_met-passed}
 use Rattle.numbers.specs.Bytes.{digits, entries}
 use Rattle.codec.specs.Table.{core_count, task_count, slack_count, task_set_in, content_in, verdict}
 use Rattle.table.specs.Judged.{judged}
-use Rattle.roundtrip.specs.RoundTrip.{judged-fits}
+use Rattle.roundtrip.proofs.RoundTrip.{judged-fits}
 use Rattle.logs.specs.LogBytes.{entry_count, entries_in, log_test, reports_to}
 use Rattle.history.specs.Engine.{Engine}
 use Rattle.history.specs.Log.{Entry}
 use Rattle.history.specs.Report.{Report, report, taken_count, refused_count}
 use Rattle.history.specs.OnMachine.{machine_engine}
-use Rattle.history.specs.PlainEngine.{plain_engine}
+use Rattle.history.proofs.PlainEngine.{plain_engine}
 use Rattle.delivered.specs.DeliveredLaws.{plan-counts}
 use Rattle.delivered.specs.Demand3.{run_on, plan-passes, log-early, demand_machine}
 use Rattle.replay.specs.declared.run.Ran.{Ran}

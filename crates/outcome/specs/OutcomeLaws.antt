@@ -18,8 +18,9 @@ use Rattle.logs.specs.LogBytes.{entry_count, entries_in, log_test, reports_to}
 use Rattle.logs.specs.LogLaws.{entries-length, tick-at, loop-at, demand-at}
 use Rattle.history.specs.Engine.{refused, is_taken, Engine}
 use Rattle.history.specs.Log.{Entry, tick_at, loop_at, demand_at, outcome as outcome_of, Taken, Finishes, Keeps, Claim}
-use Rattle.history.specs.ClaimLaws.{promised, Conditions, in_time_sum, takes_conditions, history_log}
-use Rattle.history.specs.Refusals.{met-high}
+use Rattle.history.specs.ClaimLaws.{promised, Conditions}
+use Rattle.history.proofs.ClaimLaws.{in_time_sum, takes_conditions, history_log}
+use Rattle.history.proofs.Refusals.{met-high}
 use Rattle.history.specs.Report.{Report, finished, refusal, report, taken_count, refused_count}
 use Rattle.delivered.specs.Demand3.{run_on, Reports, log-early, demand_3, demand_histories, demand_numbers, demand-ends, demand-reports}
 use Rattle.replay.specs.Ran.{run_test, ran_of, run_leaves}

@@ -15,7 +15,7 @@ use Rattle.tasks.specs.TaskSet.{bound}
 use Rattle.tasks.specs.Limits.{Bounded}
 use Rattle.tasks.specs.Content.{no_task}
 use Rattle.tasks.specs.Tests.{tests}
-use Rattle.tasks.specs.TestsLaws.{tests-passed, tests-limits, tests-bounded, slack-high}
+use Rattle.tasks.proofs.TestsLaws.{tests-passed, tests-limits, tests-bounded, slack-high}
 use Rattle.numbers.specs.Bytes.{number, digits, entries}
 use Rattle.numbers.specs.ByteLaws.{length_digits, number-digits-at, number-entries}
 use Rattle.codec.specs.Table.{task_size, edition_in, core_count, task_count, tasks_at, task_in, task_set_in, content_in, verdict}

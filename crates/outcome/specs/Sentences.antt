@@ -11,8 +11,8 @@ use Rattle.laws.specs.EveryLaws.{below_or_not}
 use Rattle.decimal.specs.Decimal.{words}
 use Rattle.wording.specs.Sentence.{last_known, sentence_of}
 use Rattle.wording.specs.LetterLaws.{StandsIn}
-use Rattle.wording.specs.SentenceTheorems.{sentence_injective, other-unknown, known_not_unknown, sentence_printed, sentence_stop, one_stop}
-use Rattle.wording.specs.ComposeLaws.{room-enough}
+use Rattle.wording.proofs.SentenceTheorems.{sentence_injective, other-unknown, known_not_unknown, sentence_printed, sentence_stop, one_stop}
+use Rattle.wording.proofs.ComposeLaws.{room-enough}
 use Rattle.wording.specs.Told.{sentence_leaves}
 use Rattle.dahomike_answer.specs.Number.{answer_number}
 use Rattle.dahomike.specs.Answers.{sentence_number}

@@ -12,7 +12,7 @@ use Rattle.tasks.specs.Content.{content_of}
 use Rattle.tasks.specs.Tests.{first_met}
 use Rattle.codec.specs.Table.{verdict}
 use Rattle.table.specs.Judged.{judged}
-use Rattle.roundtrip.specs.RoundTrip.{judged-tidy}
+use Rattle.roundtrip.proofs.RoundTrip.{judged-tidy}
 use Rattle.logs.specs.LogBytes.{entry_count, entries_in, log_test, reports_to}
 use Rattle.logs.specs.LogLaws.{entries-length}
 use Rattle.history.specs.Report.{report, taken_count, refused_count}

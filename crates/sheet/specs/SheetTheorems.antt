@@ -26,7 +26,7 @@ use Rattle.codec.specs.Table.{edition_in, slack_count, task_set_in, content_in, 
 use Rattle.codec.specs.TaskLaws.{edition_in_lem}
 use Rattle.table.specs.Judged.{judged_as, judged}
 use Rattle.writer.specs.Written.{write_test}
-use Rattle.roundtrip.specs.RoundTrip.{judged-back, write_accepts, left_by, plan-again}
+use Rattle.roundtrip.proofs.RoundTrip.{judged-back, write_accepts, left_by, plan-again}
 use Rattle.wishes.specs.Wish.{Solution, with_offset, with_offsets, largest_offset, at_slack, wished, sheet11, test27, wish_tests, solved}
 use Rattle.wishes.proofs.WishLaws.{wished-past}
 use Rattle.wishes.specs.WishTheorems.{sheet_limits, Best}

@@ -23,14 +23,14 @@ use Rattle.tasks.specs.declared.Answer.TheVariants.{Accepted}
 use Rattle.tasks.specs.TaskSet.{plain_task as loop, hyperperiod, share, weight, surplus, counted, amount, cover, covers, needed, row, raise, found, bound}
 use Rattle.tasks.specs.Content.{Content, no_task, late_of, late}
 use Rattle.tasks.specs.Tests.{lowest, first_met, outside, bad_label, test3, test4, test5, test6, test7, test8, test28, test9, test10, test11, test12, test13, tests}
-use Rattle.tasks.specs.LimitsLaws.{limit_tests}
-use Rattle.tasks.specs.TaskTheorems.{H_is_least}
+use Rattle.tasks.specs.Terms.{limit_tests}
+use Rattle.tasks.proofs.TaskTheorems.{H_is_least}
 use Rattle.numbers.specs.Bytes.{byte, number, digits, entries}
 use Rattle.numbers.specs.ByteLaws.{Bytes}
 use Rattle.codec.specs.Table.{edition_in, core_count, task_count, tasks_at, slack_count, slack_at, task_in, task_set_in, content_in, test1, test2, verdict, task_size, plain_bytes, task_bytes, bytes_of}
 use Rattle.table.specs.Judged.{judged}
 use Rattle.writer.specs.Written.{written_length, written_to}
-use Rattle.roundtrip.specs.RoundTrip.{table-again}
+use Rattle.roundtrip.proofs.RoundTrip.{table-again}
 use Rattle.conversion.specs.Converted.{converted_task, converted, wanted_test, way_test, fit_test, convert_test, converted_length, converted_to}
 use Rattle.conversion.specs.ConvertTheorems.{left_by, table-passed, convert_twins, convert_edition, there_and_back}
 use Rattle.worked.specs.Cases.{p1, concat, table_with, answers_equal, parts, accepts}

@@ -25,7 +25,7 @@ use Rattle.table.specs.Judged.{judged}
 use Rattle.codec.specs.TaskLaws.{size_times}
 use Rattle.table.specs.NamesLaws.{names_are, names-few, names-count, names-first}
 use Rattle.laws.specs.SetsLaws.{sets-whole}
-use Rattle.roundtrip.specs.RoundTrip.{judged-fits, judged-passes}
+use Rattle.roundtrip.proofs.RoundTrip.{judged-fits, judged-passes}
 use Rattle.decimal.specs.Decimal.{words, Stored}
 use Rattle.text.specs.Printed.{refusal_line, counted_line, plan_lines, plan_text, printed}
 use Rattle.text.specs.PrintedLaws.{within, lines_short, counts-short, plan-text, names-short, counted-line}
