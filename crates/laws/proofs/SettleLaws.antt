@@ -1,8 +1,7 @@
 -- Where raising from zeros ends: at the least row that a turn leaves as it is, if a turn never takes off what a smaller row would get, and takes
 -- nothing above a ceiling.
 --     same_true, same_false     whether two lists agree below n, by indices
---     Settled                   what holds there: a turn changes nothing, and every row to which a turn adds nothing is at least this one
---     settled                   it holds
+--     settled                   what holds there, Settled, does
 use Prim.Native.Nat.{ℕ, zero, suc, ◌+◌, ◌*◌, ◌≤◌, ◌<◌}
 use Rattle.std.specs.Prelude.{◌≡◌, List, ◌≢◌, length, get_or, replicate, eqb}
 use Rattle.std.proofs.Math.Path.{refl}

@@ -7,8 +7,6 @@
 --     cut-edition     a row of tasks as an edition has them, cut off, is one
 --     late-edition    late looks at a deadline that the edition has; late-high: it is at most the bound
 --     used-task       a task of a plan that is in use, as its edition has it
---     with_slack       a plan with this slack in place of its own
---     Fits            the content's counts are within a plan's arrays, its rows are zero past the counts, and so are deadlines that its edition doesn't have
 --     row_back        a row that is zero past n, put in a list and read below n; cut-again: a row cut off at n
 --     tasks-back, labels-back, slack-back    the plan of a content whose rows are zero past the counts, with whatever slack, says its tasks and labels
 --     fits-back       the plan of such a content says it; plan-fits: what a plan says fits

@@ -1,19 +1,16 @@
 -- What holds of a table or a plan that meets none of 3 to 10 and 28, the tests that look at no slack.
---     limit_tests         3 to 10, and 28; slack_tests: 11 to 13
---     tests_split        the tests are these two, one after the other
---     Labelled           the labels are below 64 and rise
+--     tests_split        the tests are limit_tests and slack_tests, one after the other
 --     deadlines-passed   none of these is met: in edition 2 every deadline is 1 to 1,600,000
 --     limits-passed      none of these is met: the limits hold, and so does Labelled
 use Prim.Native.Nat.{ℕ, suc, ◌-◌, ◌≤◌, ◌<◌}
 use Rattle.std.specs.Prelude.{◌≡◌, true, false, [], ◌∷◌, ltb}
 use native.Mathlib.Omega.{arith}
 use borrow.Author.Tests.{ltb-false, leb-false, lt-ltb}
-use Rattle.tasks.specs.declared.Answer.{Answer}
 use Rattle.tasks.specs.declared.Answer.TheVariants.{Accepted}
 use Rattle.tasks.specs.Numbers.{deadline_high}
 use Rattle.tasks.specs.Content.{has_deadlines, Content}
 use Rattle.tasks.specs.Limits.{Limits}
-use Rattle.tasks.specs.Tests.{or_next, first_met, bad_label, test3, test4, test5, test6, test7, test8, test28, test9, test10, test11, test12, test13, tests}
+use Rattle.tasks.specs.Tests.{or_next, bad_label, test3, test4, test5, test6, test7, test8, test28, test9, test10, test11, test12, test13, tests}
 use Rattle.tasks.specs.AnswerLaws.{refuse-passed, lowest-passed, first_met-passed, first_met-append, neither, outside-passed}
 use Rattle.tasks.specs.Terms.{limit_tests, slack_tests, Labelled}
 

@@ -1,6 +1,4 @@
 -- The slack on its way from zeros, for the search: each turn raises it, no compliant slack is below it, and it comes nearer to the ceiling.
---     Raised                what a turn makes of a slack
---     Rising                what holds of every slack on the way: the next turn takes nothing off it, and no compliant slack is below it
 --     rising-start          zeros
 --     rising_step           what a turn makes of it
 --     rising-high           it is at most 800,000 at every loop
@@ -12,7 +10,7 @@ use Rattle.std.specs.Prelude.{ℕ, ◌-◌, ◌*◌, ◌≤◌, ◌<◌, ◌≡�
 use Rattle.std.proofs.Common.{le_trans, arith}
 use Rattle.laws.specs.Sum.{sum}
 use Rattle.laws.specs.SumLaws.{sum_less, sum_le_mul}
-use Rattle.tasks.specs.TaskSet.{TaskSet, amount, Compliant, needed, ceiling}
+use Rattle.tasks.specs.TaskSet.{TaskSet, Compliant, ceiling}
 use Rattle.tasks.specs.Limits.{Limits}
 use Rattle.tasks.proofs.AmountLaws.{amount_mono}
 use Rattle.tasks.proofs.SlackLaws.{needed_mono, compliant-needed, needed-compliant}

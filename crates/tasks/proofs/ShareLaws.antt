@@ -1,6 +1,5 @@
 -- Shares, weights and surpluses, with the ceilings that keep the code's sums in 64 bits.
---     Timed                    what 6 and 7 leave: separations and budgets at least 1, no budget above its separation
---     timed                    a task set within the limits is one
+--     timed                    a task set within the limits is Timed
 --     hyperperiod-low          H is at least 1
 --     hyperperiod-divided      every T divides H
 --     hyperperiod-least        no other number that every T divides is smaller, but 0

@@ -1,30 +1,25 @@
 -- What document 01 says of H, and of more loops than cores of the counted loops and of found slack, for every table or plan that passes 3 to 10; what
 -- document 02, §7, says of the others; and of late.
---     Common          a number that is at least 1 and that every separation divides
---     H_is_least      H is one, and none is smaller
---     Candidates          m − 1 loops of the table
---     most-weight     the counted loops are such a choice, and none has a larger sum of weights
---     ByWeight        m − 1 loops by the size of their weights: none left out comes before one of them
---     counted_by_weight    the counted loops are so; by_weight-only: and no others are
+--     H_is_least      H is Common, a number that every separation divides, and none is smaller
+--     most-weight     the counted loops are Candidates, and none has a larger sum of weights
+--     counted_by_weight    the counted loops are ByWeight; by_weight-only: and no others are
 --     names-at-slack  the loops that a judgement names are so by the weights at its slack
---     Least           compliant slack that is no larger at any loop than any other
---     found_exists    found slack is that, with one entry for each loop
+--     found_exists    found slack is Least, with one entry for each loop
 --     found_is_only   and is the only one
 --     slack-none, bound-budget, names-none    where loops are no more than cores, found slack is 0, the bound is C and no loop is named
 --     shares_fit, offered_never, unoffered_exactly    and 10 is never met, 11 whenever slack is offered, and else 11 to 13 exactly if slack isn't 0
 --     late-from-point, late-before    in edition 1 past Y the bound is Y and then late, and up to Y late is 0; late-slack: of more loops than cores x + C
 --     late-none, late-from-deadline    in edition 2 late is 0 up to the deadline, and past it the bound is D and then late
 --     offered_exactly    offered slack passes 11 to 13 exactly if it is compliant and every bound is at most 16 × T
-use Rattle.std.specs.Prelude.{ℕ, ◌+◌, ◌-◌, ◌*◌, ◌%◌, ◌≤◌, ◌<◌, ◌≡◌, refl, true, false, not, ◌↔◌, ◌≢◌, List, [], ◌∷◌, length, ltb, eqb}
+use Rattle.std.specs.Prelude.{ℕ, ◌+◌, ◌*◌, ◌≤◌, ◌<◌, ◌≡◌, refl, true, false, not, ◌↔◌, ◌≢◌, List, [], ◌∷◌, length, ltb, eqb}
 use Rattle.std.proofs.Common.{sym, ap, ◌∙◌, le_of_eq}
 use Rattle.std.proofs.Math.Nat.{mul-le-mul_right}
 use native.Mathlib.Omega.{arith}
 use borrow.Author.Tests.{le-ltb, leb-true, leb-false, eq-eqb, ne_eqb}
 use Rattle.laws.specs.Sum.{sum, sum_over}
 use Rattle.laws.specs.SumLaws.{sum_le_mul, sum_over_members, count_members}
-use Rattle.laws.specs.Member.{member, Distinct}
 use Rattle.tasks.specs.declared.Answer.TheVariants.{Accepted, Refused}
-use Rattle.tasks.specs.TaskSet.{TaskSet, hyperperiod, share, weight, counted, Compliant, covers, core_for_each, found, bound, row}
+use Rattle.tasks.specs.TaskSet.{hyperperiod, share, weight, counted, Compliant, covers, core_for_each, found, bound, row}
 use Rattle.tasks.specs.Content.{has_deadlines, Content, late_of, late, counted_of}
 use Rattle.tasks.specs.Limits.{Bounded}
 use Rattle.tasks.specs.Tests.{first_met, test10, test11, test12, test13, tests}

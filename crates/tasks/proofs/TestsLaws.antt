@@ -1,6 +1,5 @@
 -- What holds of a table or a plan that meets none of 3 to 13 and 28.
---     Passed                                           that, part by part
---     tests-passed                                     it holds
+--     tests-passed                                     that, part by part: Passed
 --     tests-limits, tests-compliant, tests-bounded     three of its parts
 --     slack-high                                       slack is at most 16 × 100,000
 --     plan-passed, plan-accepted                       a plan that meets none has a known edition, and its content meets none; and back
@@ -14,11 +13,11 @@ use Rattle.laws.specs.EveryLaws.{both}
 use Rattle.tasks.specs.declared.Plan.{Plan}
 use Rattle.tasks.specs.declared.Answer.TheVariants.{Accepted}
 use Rattle.tasks.specs.TaskSet.{Compliant, core_for_each, found, row}
-use Rattle.tasks.specs.Content.{has_deadlines, Content, content_of}
+use Rattle.tasks.specs.Content.{Content, content_of}
 use Rattle.tasks.specs.Limits.{Limits, Enough, Bounded}
 use Rattle.tasks.specs.Tests.{refuse, bad_edition, test11, test12, test13, tests, test_plan}
 use Rattle.tasks.specs.AnswerLaws.{or_next-passed, refuse-passed, lowest-passed, first_met-passed}
-use Rattle.tasks.specs.Terms.{limit_tests, slack_tests, Labelled}
+use Rattle.tasks.specs.Terms.{limit_tests, slack_tests}
 use Rattle.tasks.proofs.LimitsLaws.{tests_split, limits-passed, deadlines-passed}
 use Rattle.tasks.proofs.SlackLaws.{covers-compliant, compliant_ext}
 use Rattle.tasks.proofs.FoundLaws.{found_zeros, found-compliant}

@@ -1,11 +1,17 @@
 -- The terms in which the laws of proofs/ speak of a task set, a content and a plan.
---     Timed                     separations are at least 1, and budgets 1 to their separations
---     Raised, Rising            a vector raised once, and one on the way to the least
---     with_slack, Fits          a plan with another slack, and what a plan's content has
---     limit_tests, slack_tests  3 to 10 and 28, and 11 to 13
---     Labelled, Passed          what holds where 4 is not met, and where none of 3 to 13 and 28 is met
---     Common, Candidates, ByWeight, Least    what theorems say of H, of the loops counted, and of the found slack
-use Rattle.std.specs.Prelude.{ℕ, suc, ◌+◌, ◌-◌, ◌*◌, ◌%◌, ◌≤◌, ◌<◌, ◌≡◌, ◌⊎◌, true, false, List, [], ◌∷◌, length}
+--     Timed           what 6 and 7 leave: separations and budgets at least 1, no budget above its separation
+--     Raised          what a turn of the search makes of a slack
+--     Rising          what holds of every slack on the way: the next turn takes nothing off it, and no compliant slack is below it
+--     with_slack      a plan with this slack in place of its own
+--     Fits            the content's counts are within a plan's arrays, its rows are zero past the counts, and so are deadlines that its edition doesn't have
+--     limit_tests     3 to 10, and 28; slack_tests: 11 to 13
+--     Labelled        the labels are below 64 and rise
+--     Passed          what holds where none of 3 to 13 and 28 is met, part by part
+--     Common          a number that is at least 1 and that every separation divides
+--     Candidates      m − 1 loops of the table
+--     ByWeight        m − 1 loops by the size of their weights: none left out comes before one of them
+--     Least           compliant slack that is no larger at any loop than any other
+use Rattle.std.specs.Prelude.{ℕ, suc, ◌-◌, ◌%◌, ◌≤◌, ◌<◌, ◌≡◌, ◌⊎◌, true, false, List, [], ◌∷◌, length}
 use Rattle.laws.specs.Member.{member, Distinct}
 use Rattle.tasks.specs.declared.Plan.{Plan}
 use Rattle.tasks.specs.declared.Answer.{Answer}
