@@ -1,3 +1,3 @@
 pub mod Converted
 pub mod ConvertedLaws
-pub mod ConvertTheorems
+pub mod ConvertTerms

@@ -1,13 +1,11 @@
 -- Document 02, §6, of bytes: what the two sides of a conversion share, there and back, and when 29, 30 and 31 are met.
---     left_by            the bytes that a conversion leaves in a buffer, as many as it answers
---     Twins             an accepted table that says the same cores, T, C, Y and slack, with the same bounds and late
 --     table-passed      a table that is converted is accepted
 --     convert_twins     what a conversion leaves is that of the table; convert_edition: in the wanted edition
 --     there_and_back    converted to the first edition, it is the first bytes
 --     convert_short     a buffer of 332 bytes is never too short
 --     verdict-number    a table is refused by numbers up to 28
---     Meets29, Meets30, Meets31  the cases of 29, 30 and 31; refused_29, refused_30, refused_31: the numbers are met exactly in them
-use Rattle.std.specs.Prelude.{ℕ, ◌≤◌, ◌<◌, ◌≡◌, Bool, ◌||◌, List, [], ◌∷◌, ◌++◌, ◌↔◌, ◌⊎◌, ◌≢◌, length, take, drop, ltb}
+--     refused_29, refused_30, refused_31    29, 30 and 31 are met exactly in their cases
+use Rattle.std.specs.Prelude.{ℕ, ◌≤◌, ◌<◌, ◌≡◌, Bool, ◌||◌, List, [], ◌∷◌, ◌++◌, ◌↔◌, ◌⊎◌, ◌≢◌, length, drop, ltb}
 use Rattle.std.proofs.Common.{arith, sym, ◌∙◌, true≢false, inl, inr, take_at}
 use Rattle.std.proofs.Math.Path.{refl, ap}
 use Rattle.std.proofs.Math.Bool.{true, false, not}
@@ -20,11 +18,11 @@ use Rattle.tasks.specs.declared.Answer.TheVariants.{Accepted, Refused}
 use Rattle.tasks.specs.TaskSet.{core_for_each, bound}
 use Rattle.tasks.specs.Content.{has_deadlines, Content, late, no_task, content_of, plan_of}
 use Rattle.tasks.proofs.ContentLaws.{content_ext}
-use Rattle.tasks.specs.Terms.{Fits}
+use Rattle.tasks.specs.Terms.{Fits, limit_tests}
 use Rattle.tasks.specs.Tests.{refuse, first_met, number_of, index_of, bad_edition, tests, test_plan}
 use Rattle.tasks.specs.AnswerLaws.{refuse-passed, pass_lowest, or_next-passed, neither, first_met-passed}
 use Rattle.tasks.proofs.LimitsLaws.{tests_split, deadlines-passed}
-use Rattle.tasks.specs.NumberLaws.{Lowest, lowest-met, met-lowest, refuse-number, Numbers, ◌also◌, no_more, tests-number, met_next, met-first}
+use Rattle.tasks.specs.NumberLaws.{lowest-met, met-lowest, refuse-number, Numbers, ◌also◌, no_more, tests-number, met_next, met-first}
 use Rattle.numbers.specs.ByteLaws.{Bytes}
 use Rattle.codec.specs.Table.{counted_length, edition_in, content_in, test1, test2, verdict, bytes_of}
 use Rattle.codec.specs.TaskLaws.{size_times}
@@ -32,26 +30,9 @@ use Rattle.sections.specs.WriteLaws.{length-bytes}
 use Rattle.roundtrip.specs.SectionLaws.{verdict-parts, table_fits}
 use Rattle.roundtrip.specs.BackLaws.{back-edition}
 use Rattle.roundtrip.proofs.RoundTrip.{rewritten, plan-back, verdict-back}
-use Rattle.conversion.specs.Converted.{converted_task, converted, converted_bytes, wanted_test, no_offset, other_deadline, way_test, fit_test, convert_test, converted_length, converted_to}
+use Rattle.conversion.specs.Converted.{converted_task, converted, converted_bytes, wanted_test, way_test, fit_test, convert_test, converted_length, converted_to}
+pub use Rattle.conversion.specs.ConvertTerms.{left_by, Twins, unset, differs, each, Meets29, Meets30, Meets31}
 use Rattle.conversion.specs.ConvertedLaws.{way_deadlines, fit_passed, fit-more, fit-each, converted-late, converted-kept, table-says, table-passes, ways, other-edition}
-
-unfoldable pub left_by : ℕ → List ℕ → List ℕ → List ℕ
-left_by e t out = take (converted_length e t (length out)) (converted_to e t out)
-
--- "Both sides have the same slack, bounds and late"
-pub record Twins (t u : List ℕ) : Type 0 where
-  pub accepted : verdict u ≡ Accepted
-  pub cores : (content_in u).tasks.cores ≡ (content_in t).tasks.cores
-  pub labels : (content_in u).label ≡ (content_in t).label
-  pub loops : (content_in u).tasks.count ≡ (content_in t).tasks.count
-  pub separations : (i : ℕ) → ((content_in u).tasks.task i).separation ≡ ((content_in t).tasks.task i).separation
-  pub budgets : (i : ℕ) → ((content_in u).tasks.task i).budget ≡ ((content_in t).tasks.task i).budget
-  pub offsets : (i : ℕ) → ((content_in u).tasks.task i).offset ≡ ((content_in t).tasks.task i).offset
-  -- offered slack stays offered, and slack to be found stays count 0
-  pub offers : (content_in u).offers ≡ (content_in t).offers
-  pub slack : (content_in u).slack ≡ (content_in t).slack
-  pub bounds : (i : ℕ) → bound (content_in u).tasks (content_in u).slack i ≡ bound (content_in t).tasks (content_in t).slack i
-  pub lates : (i : ℕ) → i < (content_in t).tasks.count → late (content_in u) i ≡ late (content_in t) i
 
 -- a table that is not refused before 24
 module _ (e : ℕ) (t : List ℕ) (wanted : bad_edition e || eqb (edition_in t) e ≡ false) (v : verdict t ≡ Accepted)
@@ -138,7 +119,7 @@ module _ (e : ℕ) (t : List ℕ) (wanted : bad_edition e || eqb (edition_in t) 
   -- 28 leaves a deadline of 1 or more, and it is the offset
   offset-low : has_deadlines (edition_in t) ≡ true → (i : ℕ) → i < (content_in t).tasks.count → ((content_in t).tasks.task i).offset ≢ 0
   offset-low d i h z =
-      let limits = (or_next-passed _ _ (sym (tests_split (content_in t)) ∙ passes)).0 in
+      let limits : limit_tests (content_in t) ≡ Accepted = (or_next-passed _ _ (sym (tests_split (content_in t)) ∙ passes)).0 in
       omega (arith, (deadlines-passed (content_in t) limits (rw same-edition at d) i h).0, any-deadline d i, z)
 
   -- neither 29 nor 30 is met on the way back
@@ -270,35 +251,13 @@ module _ (e : ℕ) (t : List ℕ) (room k i : ℕ) (high : 28 < k) where
   to_fit p v w = rw (p, v, w)
 
 module _ (e : ℕ) (t : List ℕ) (room i : ℕ) where
-  abbrev unset : ℕ → Bool
-  unset j = no_offset ((content_in t).tasks.task j)
-
-  abbrev differs : ℕ → Bool
-  differs j = other_deadline ((content_in t).tasks.task j)
-
-  -- whether the table has loops no more than cores
-  abbrev each : Bool
-  each = core_for_each (content_in t).tasks.cores (content_in t).tasks.count
-
-  -- "29 an offset is 0 on the way to edition 2": i is the lowest such loop of a table that is accepted and does not meet 31
-  abbrev pub Meets29 : Type 0
-  Meets29 = (e ≡ 2) × (edition_in t ≡ 1) × (verdict t ≡ Accepted) × (each ≡ false) × Lowest unset (content_in t).tasks.count i
-
-  -- "30 a deadline differs from its offset on the way to edition 1": the same
-  abbrev pub Meets30 : Type 0
-  Meets30 = (e ≡ 1) × (edition_in t ≡ 2) × (verdict t ≡ Accepted) × (each ≡ false) × Lowest differs (content_in t).tasks.count i
-
-  -- "31 the converter is given such a table", on either way
-  abbrev pub Meets31 : Type 0
-  Meets31 = (bad_edition e ≡ false) × (eqb (edition_in t) e ≡ false) × (verdict t ≡ Accepted) × (each ≡ true) × (i ≡ 0)
-
   -- the three cases
   Cases : ℕ → Type 0
-  Cases k = ((k ≡ 29) × Meets29) ⊎ ((k ≡ 30) × Meets30) ⊎ ((k ≡ 31) × Meets31)
+  Cases k = ((k ≡ 29) × Meets29 e t room i) ⊎ ((k ≡ 30) × Meets30 e t room i) ⊎ ((k ≡ 31) × Meets31 e t room i)
 
   cases : (k : ℕ) → 28 < k → convert_test e t room ≡ Refused k i → Cases k
   unfolding way_test Cases
-  cases k high q = go each refl
+  cases k high q = go (each e t room i) refl
     where
       r :
           (bad_edition e || eqb (edition_in t) e ≡ false)
@@ -309,7 +268,7 @@ module _ (e : ℕ) (t : List ℕ) (room i : ℕ) where
       n : (bad_edition e ≡ false) × (eqb (edition_in t) e ≡ false)
       n = neither (bad_edition e) _ r.0
 
-      go : (b : Bool) → each ≡ b → Cases k
+      go : (b : Bool) → each e t room i ≡ b → Cases k
       go true own =
           let w : Refused k i ≡ Refused 31 0 = sym r.2 ∙ fit-each e _ _ _ own in
           inr (inr (ap number_of w, (n.0, n.1, r.1, own, ap index_of w)))
@@ -317,34 +276,34 @@ module _ (e : ℕ) (t : List ℕ) (room i : ℕ) where
           let w = sym (fit-more e _ _ _ more) ∙ r.2 in
           ⊎_elim
           (λ (s : (e ≡ 2) × (edition_in t ≡ 1)).
-          let l = lowest-met 29 unset (content_in t).tasks.count k i (rw s.0 at w) in inl (l.0, (s.0, s.1, r.1, more, l.1)))
+          let l = lowest-met 29 (unset e t room i) (content_in t).tasks.count k i (rw s.0 at w) in inl (l.0, (s.0, s.1, r.1, more, l.1)))
           (λ (s : (e ≡ 1) × (edition_in t ≡ 2)).
-          let l = lowest-met 30 differs (content_in t).tasks.count k i (rw s.0 at w) in inr (inl (l.0, (s.0, s.1, r.1, more, l.1))))
+          let l = lowest-met 30 (differs e t room i) (content_in t).tasks.count k i (rw s.0 at w) in inr (inl (l.0, (s.0, s.1, r.1, more, l.1))))
           (ways e (edition_in t) n.0 (verdict-parts t r.1).edition n.1)
 
-  pub refused_29 : (convert_test e t room ≡ Refused 29 i) ↔ Meets29
+  pub refused_29 : (convert_test e t room ≡ Refused 29 i) ↔ Meets29 e t room i
   unfolding way_test Cases
-  refused_29 = (λ q. this (cases 29 (omega arith) q), λ s. to_fit e t room 29 i (omega arith) (rw (s.0, s.1)) s.2 (fit-more e _ _ _ s.3 ∙ rw s.0 (met-lowest 29 unset (content_in t).tasks.count i s.4)))
+  refused_29 = (λ q. this (cases 29 (omega arith) q), λ s. to_fit e t room 29 i (omega arith) (rw (s.0, s.1)) s.2 (fit-more e _ _ _ s.3 ∙ rw s.0 (met-lowest 29 (unset e t room i) (content_in t).tasks.count i s.4)))
     where
-      this : Cases 29 → Meets29
+      this : Cases 29 → Meets29 e t room i
       this (inl s) = s.1
       this (inr (inl s)) = absurd (omega (arith, s.0))
       this (inr (inr s)) = absurd (omega (arith, s.0))
 
-  pub refused_30 : (convert_test e t room ≡ Refused 30 i) ↔ Meets30
+  pub refused_30 : (convert_test e t room ≡ Refused 30 i) ↔ Meets30 e t room i
   unfolding way_test Cases
-  refused_30 = (λ q. this (cases 30 (omega arith) q), λ s. to_fit e t room 30 i (omega arith) (rw (s.0, s.1)) s.2 (fit-more e _ _ _ s.3 ∙ rw s.0 (met-lowest 30 differs (content_in t).tasks.count i s.4)))
+  refused_30 = (λ q. this (cases 30 (omega arith) q), λ s. to_fit e t room 30 i (omega arith) (rw (s.0, s.1)) s.2 (fit-more e _ _ _ s.3 ∙ rw s.0 (met-lowest 30 (differs e t room i) (content_in t).tasks.count i s.4)))
     where
-      this : Cases 30 → Meets30
+      this : Cases 30 → Meets30 e t room i
       this (inl s) = absurd (omega (arith, s.0))
       this (inr (inl s)) = s.1
       this (inr (inr s)) = absurd (omega (arith, s.0))
 
-  pub refused_31 : (convert_test e t room ≡ Refused 31 i) ↔ Meets31
+  pub refused_31 : (convert_test e t room ≡ Refused 31 i) ↔ Meets31 e t room i
   unfolding Cases
   refused_31 = (λ q. this (cases 31 (omega arith) q), λ s. to_fit e t room 31 i (omega arith) (rw (s.0, s.1)) s.2 (fit-each e _ _ _ s.3 ∙ ap (Refused 31) (sym s.4)))
     where
-      this : Cases 31 → Meets31
+      this : Cases 31 → Meets31 e t room i
       this (inl s) = absurd (omega (arith, s.0))
       this (inr (inl s)) = absurd (omega (arith, s.0))
       this (inr (inr s)) = s.1
