@@ -39,7 +39,7 @@ use Rattle.delivered.specs.Demand3.{run_on, plan-passes, log-early, demand_machi
 use Rattle.replay.specs.declared.run.Ran.{Ran}
 use Rattle.replay.specs.Ran.{run_test, ran_of, run_leaves}
 use Rattle.conversion.specs.Converted.{convert_test}
-use Rattle.conversion.specs.ConvertTheorems.{left_by, Twins, table-passed, convert_twins}
+use Rattle.conversion.proofs.ConvertTheorems.{left_by, Twins, table-passed, convert_twins}
 use Rattle.dahomike_answer.specs.Number.{answer_number}
 use Rattle.dahomike.specs.Answers.{judge_test, judge_number, report_bytes, judge_leaves, run_number}
 use Rattle.outcome.specs.Outcome.{cores_of, loops_of, separation_of, budget_of, offset_of}
