@@ -1,7 +1,7 @@
 -- `sentence::put_place` meets its contract: the tests of the ranges say in which row of numbers this one stands.
 use Prim.Native.Nat.{ℕ, ◌≤◌, ◌<◌}
 use mathlib.Core.Path.{◌≡◌}
-use mathlib.Core.Logic.{◌⊎◌, ⊎_elim, inl, inr}
+use mathlib.Core.Logic.{◌⊎◌, ⊎_elim}
 use native.Mathlib.Omega.{arith}
 use Rattle.laws.specs.First.{first}
 use Rattle.laws.specs.Every.{same_list}
@@ -9,7 +9,6 @@ use Rattle.decimal.specs.Decimal.{words}
 use Rattle.wording.specs.Sentence.{wordings, Known, wording}
 use Rattle.wording.proofs.WordingLaws.{others, places}
 use Rattle.sentence.proofs.place.put_place.Goals as goal
-use Rattle.sentence.proofs.place.put_place.Goals.{then-number-lt18+else-number-lt1+else-number-lt3+else-number-lt5+then-number-lt14, else-number-lt18+then-number-lt20, else-number-lt18+else-number-lt20+else-number-lt24+else-number-lt26+then-number-lt32, then-number-lt18+else-number-lt1+then-number-lt3, else-number-lt18+else-number-lt20+else-number-lt24+then-number-lt26, in_default-via-then-number-lt18+then-number-lt1, in_default-via-else-number-lt18+else-number-lt20+else-number-lt24+else-number-lt26+else-number-lt32}
 
 core : (k : ℕ) → 3 ≤ k → k < 5 → (wording k).place ≡ words " for core "
 unfolding wording wordings words first same_list
@@ -58,30 +57,17 @@ returns-in-20-to-23 c = rw (release c.args.number (omega arith) (omega arith)) c
 pub returns-in-5-to-13 : goal.returns-in-5-to-13
 unfolding words
 returns-in-5-to-13 c =
-    let row : ((5 ≤ c.args.number) × (c.args.number < 14)) ⊎ (((18 ≤ c.args.number) × (c.args.number < 20)) ⊎ ((26 ≤ c.args.number) × (c.args.number < 32))) =
-    elim c.in-5-to-13-1.branch [
-      | then-number-lt18+else-number-lt1+else-number-lt3+else-number-lt5+then-number-lt14 w ↦ inl (omega arith, omega arith)
-      | else-number-lt18+then-number-lt20 w ↦ inr (inl (omega arith, omega arith))
-      | else-number-lt18+else-number-lt20+else-number-lt24+else-number-lt26+then-number-lt32 w ↦ inr (inr (omega arith, omega arith))
-    ] in
+    let row : ((5 ≤ c.args.number) × (c.args.number < 14)) ⊎ (((18 ≤ c.args.number) × (c.args.number < 20)) ⊎ ((26 ≤ c.args.number) × (c.args.number < 32))) = grind arith in
     rw (loop c.args.number row) c.put_words-in-5-to-13.ensures
 
 pub returns-in-1-to-2 : goal.returns-in-1-to-2
 unfolding words
 returns-in-1-to-2 c =
-    let row : ((1 ≤ c.args.number) × (c.args.number < 3)) ⊎ ((24 ≤ c.args.number) × (c.args.number < 26)) =
-    elim c.in-1-to-2-1.branch [
-      | then-number-lt18+else-number-lt1+then-number-lt3 w ↦ inl (omega arith, omega arith)
-      | else-number-lt18+else-number-lt20+else-number-lt24+then-number-lt26 w ↦ inr (omega arith, omega arith)
-    ] in
+    let row : ((1 ≤ c.args.number) × (c.args.number < 3)) ⊎ ((24 ≤ c.args.number) × (c.args.number < 26)) = grind arith in
     rw (byte c.args.number row) c.put_words-in-1-to-2.ensures
 
 pub returns-in_default : goal.returns-in_default
 unfolding words
 returns-in_default c =
-    let unknown : Known c.args.number → ⊥ =
-    λ h. elim c.in_default.branch [
-      | in_default-via-then-number-lt18+then-number-lt1 w ↦ omega arith
-      | in_default-via-else-number-lt18+else-number-lt20+else-number-lt24+else-number-lt26+else-number-lt32 w ↦ omega arith
-    ] in
+    let unknown : Known c.args.number → ⊥ = λ h. grind arith in
     rw (other c.args.number unknown) c.put_words-in_default.ensures

@@ -4,14 +4,9 @@ use Rattle.decimal.specs.Decimal.{words}
 use Rattle.wording.specs.Sentence.{Known, wording}
 use Rattle.wording.proofs.WordingLaws.{others}
 use Rattle.sentence.proofs.rule.put_rule.Goals as goal
-use Rattle.sentence.proofs.rule.put_rule.Goals.{in_default-via-then-number-lt1, in_default-via-else-number-lt1+else-number-lt14+else-number-lt32}
 
 pub returns-in_default : goal.returns-in_default
 unfolding words wording
 returns-in_default c =
-    let unknown : Known c.args.number → ⊥ =
-    λ h. elim c.in_default.branch [
-      | in_default-via-then-number-lt1 w ↦ omega arith
-      | in_default-via-else-number-lt1+else-number-lt14+else-number-lt32 w ↦ omega arith
-    ] in
+    let unknown : Known c.args.number → ⊥ = λ h. grind arith in
     rw (others c.args.number unknown) c.put_words.ensures
