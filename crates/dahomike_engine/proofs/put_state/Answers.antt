@@ -1,0 +1,9 @@
+-- `dahomike_engine::put_state` meets its contract.
+use Rattle.engine_words.proofs.StoredLaws.{state-stored}
+use Rattle.dahomike_engine.proofs.put_state.Goals as goal
+
+pub returns : goal.returns
+returns c =
+    let p = c in
+    let z = p in
+    rw (c.put_rest.ensures, p.put_plan.ensures) (state-stored _ _ z.sized.ensures)
