@@ -77,7 +77,8 @@ class Known:
             spec, code, path = (form.match(span) for form in (SPEC, CODE, PATH))
             names |= self.crates.get(path.group(1) if path else span.removeprefix("rust/"), set())
             if spec:
-                names |= self.files.get(f"crates/{spec.group(1)}/specs/{spec.group(2)}.antt", set())
+                for folder in ("specs", "proofs"):
+                    names |= self.files.get(f"crates/{spec.group(1)}/{folder}/{spec.group(2)}.antt", set())
             names |= self.files.get(f"crates/{code.group(1)}/src/{code.group(2)}" if code else span, set())
         return names
 
