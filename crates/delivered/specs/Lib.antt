@@ -1,4 +1,2 @@
 pub mod Delivered
-pub mod DeliveredLaws
 pub mod Demand3
-pub mod Responses

@@ -18,8 +18,9 @@ use Rattle.logs.specs.LogLaws.{entries-length}
 use Rattle.history.specs.Report.{report, taken_count, refused_count}
 use Rattle.history.proofs.Report.{counts_all}
 use Rattle.history.specs.OnMachine.{machine_engine}
-use Rattle.delivered.specs.DeliveredLaws.{plan-reports, plan-counts}
-use Rattle.delivered.specs.Demand3.{run_on, plan-passes, log-early}
+use Rattle.delivered.proofs.PlanLaws.{plan-reports, plan-counts}
+use Rattle.delivered.specs.Demand3.{run_on}
+use Rattle.delivered.proofs.Demand3.{plan-passes, log-early}
 use Rattle.running.specs.Entered.{Fitting}
 use Rattle.running.specs.RunCode.{taken_to}
 use Rattle.replay.specs.declared.run.Ran.{Ran}

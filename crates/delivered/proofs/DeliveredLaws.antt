@@ -2,17 +2,11 @@
 --     same_answer          the first of 20 to 23 that a release meets, in both forms
 --     Alike                a state is that of a machine that is reached; opens, steps, asks: the calls keep this; stepped: what a step answers
 --     mirrored             the delivered engine mirrors the machine
---     plan-steps           no step below that clock is refused
---     plan_history         the claim of all histories, of the delivered engine
---     plan-demand          demand 3 of a log, of the delivered engine
---     plan_numbers         the numbers of the entries that it refuses
---     plan-ends            a log's run ends below that clock; plan-quiet: and then nothing is pending
---     plan-reports, plan-counts      what is written of the entries, and the two counts, are those of the machine
 use Prim.Native.Nat.{ℕ, suc, ◌≤◌, ◌<◌}
 use Rattle.std.specs.Prelude.{Bool, ◌&&◌, ◌≡◌, ltb}
 use Rattle.std.proofs.Math.Bool.{true, false, not}
 use Rattle.std.proofs.Common.{true≢false, ◌∙◌, arith}
-use Rattle.std.proofs.Math.Path.{refl, sym, ap, fun_ext}
+use Rattle.std.proofs.Math.Path.{refl, sym, ap}
 use mathlib.Core.List.{List, [], ◌∷◌}
 use Rattle.std.proofs.Math.ListN.{length}
 use Rattle.std.proofs.Math.Dec.{eqb}
@@ -37,23 +31,17 @@ use Rattle.state.specs.State.{jobs_in, state_of}
 use Rattle.state.specs.SoundState.{all_of}
 use Rattle.state.specs.Calls.{open_of, release_of, ticked_of, step_of}
 use Rattle.state.specs.Fit.{Fit}
-use Rattle.state.proofs.FitLaws.{plan-limits, plan-compliant, plan-bounded, in_count}
+use Rattle.state.proofs.FitLaws.{plan-limits, in_count}
 use Rattle.state.proofs.TidyLaws.{tidy-accepted}
 use Rattle.state.proofs.KeptLaws.{step-state, release-state, reached-fit, open_state}
 use Rattle.state.proofs.TakenLaws.{named-runs}
 use Rattle.state.proofs.AllLaws.{all-at, of-all}
 use Rattle.state.proofs.ViewLaws.{row-jobs}
-use Rattle.history.specs.Engine.{taken, refused, Call, clock, state, HistoryClaim, outcome_of}
-use Rattle.history.specs.Log.{Entry, tick_at, outcome, whole, Claim}
-use Rattle.history.specs.Report.{met, report, taken_count, refused_count}
+use Rattle.history.specs.Engine.{taken, refused, outcome_of}
 use Rattle.history.specs.OnMachine.{answer_of, handed_of, quiet_of, machine_engine}
 use Rattle.history.proofs.Balance.{answer_allowed}
-use Rattle.history.proofs.Life.{machine_history}
-use Rattle.history.proofs.Drain.{quiet-idle, idle-quiet, whole-quiet}
+use Rattle.history.proofs.Drain.{quiet-idle, idle-quiet}
 use Rattle.history.specs.Mirror.{Mirrors}
-use Rattle.history.proofs.Mirror.{like, same-quiet, mirror_history}
-use Rattle.history.proofs.MirrorLog.{same_whole, same-report, same-counts}
-use Rattle.history.proofs.LogClock.{whole-clock, mirror_demand, mirror_numbers}
 use Rattle.delivered.specs.Delivered.{names_as_running, nothing_pending, engine_of}
 
 pub same_answer : (s : TaskSet) (M : Machine) (i c : ℕ) → outcome_of (admit_tests s M i c) ≡ answer_of s M i c
@@ -99,7 +87,7 @@ module _ (p : Plan) (a : test_plan p ≡ Accepted) where
         ≡ record { answer = admit_tests s M i c; state = unless_refused (admit_tests s M i c) (state_of (tidy p) (admitted i c M)) (state_of (tidy p) M) }
     released i c = rw (A.view, release-state (tidy p) M fits i c early, same-tasks)
 
-    step-taken : (step_of u).answer ≡ Accepted
+    pub step-taken : (step_of u).answer ≡ Accepted
     unfolding ticked_of
     step-taken = ap (λ r. r.answer) stepped
 
@@ -127,10 +115,10 @@ module _ (p : Plan) (a : test_plan p ≡ Accepted) where
             let e : answer_of s M i c ≡ refused k = sym (same_answer s M i c) ∙ ap outcome_of q in
             rw e (record { view = refl; reached = A.reached; clock = A.clock })
 
-    answers : (i c : ℕ) → outcome_of (release_of u i c).answer ≡ answer_of s M i c
+    pub answers : (i c : ℕ) → outcome_of (release_of u i c).answer ≡ answer_of s M i c
     answers i c = rw (released i c) (same_answer s M i c)
 
-    names : (i : ℕ) → names_as_running u i ≡ runs s M i
+    pub names : (i : ℕ) → names_as_running u i ≡ runs s M i
     unfolding names_as_running ticked_of
     names i = rw stepped (go (eqb i idle) refl (runs s M i) refl)
       where
@@ -142,7 +130,7 @@ module _ (p : Plan) (a : test_plan p ≡ Accepted) where
             few : s.cores ≤ 8
             few = (plan-limits p a).cores-high
 
-    quiets : nothing_pending u ≡ quiet_of s M
+    pub quiets : nothing_pending u ≡ quiet_of s M
     unfolding nothing_pending state_of waiting opened
     quiets = rw A.view (go (all_of (λ i. eqb (row (jobs_in M) i) 0) 16) refl (quiet_of s M) refl)
       where
@@ -178,7 +166,7 @@ module _ (p : Plan) (a : test_plan p ≡ Accepted) where
   unfolding opened
   opens = record { view = ap (λ r. r.state) (open_state p a); reached = opening; clock = refl }
 
-  pub mirrored : Mirrors (engine_of p) (machine_engine s) 4000000000
+  unfoldable pub mirrored : Mirrors (engine_of p) (machine_engine s) 4000000000
   mirrored =
       record {
         Like = Alike;
@@ -189,49 +177,3 @@ module _ (p : Plan) (a : test_plan p ≡ Accepted) where
         answers = λ t u M i c low A. answers t u M low A i c;
         quiets = quiets;
       }
-
-  pub plan-steps : (h : List Call) → clock h < 4000000000 → (step_of (state (engine_of p) h)).answer ≡ Accepted
-  unfolding mirrored
-  plan-steps h low =
-      step-taken (clock h) (state (engine_of p) h) (state (machine_engine s) h) low (like (engine_of p) (machine_engine s) 4000000000 mirrored h low)
-
-  pub plan_history : HistoryClaim (engine_of p) s (content_of p).slack 4000000000
-  plan_history =
-      mirror_history (engine_of p) (machine_engine s) 4000000000 mirrored s (content_of p).slack
-      (machine_history s (content_of p).slack (plan-limits p a) (plan-compliant p a) (plan-bounded p a) 4000000000)
-
-  module _ (l : List Entry) (ticks : (e : ℕ) → e < length l → tick_at l e ≤ 1000000000) where
-    pub plan-demand : Claim (engine_of p) s (content_of p).slack l
-    plan-demand =
-        mirror_demand s (content_of p).slack (plan-limits p a) (plan-compliant p a) (plan-bounded p a) l
-        1000000000 ticks (engine_of p) 4000000000 mirrored (omega arith)
-
-    pub plan_numbers : (e : ℕ) → outcome (engine_of p) l e ≡ met (engine_of p) s l e
-    plan_numbers =
-        mirror_numbers s (content_of p).slack (plan-limits p a) (plan-compliant p a) (plan-bounded p a) l
-        1000000000 ticks (engine_of p) 4000000000 mirrored (omega arith)
-
-    run_ends : clock (whole (machine_engine s) l) < 4000000000
-    run_ends =
-        omega (
-          arith,
-          whole-clock s (content_of p).slack (plan-limits p a) (plan-compliant p a) (plan-bounded p a) l 1000000000 ticks,
-        )
-
-    same-calls : whole (engine_of p) l ≡ whole (machine_engine s) l
-    same-calls = same_whole (engine_of p) (machine_engine s) 4000000000 mirrored l run_ends
-
-    pub plan-ends : clock (whole (engine_of p) l) < 4000000000
-    plan-ends = rw same-calls run_ends
-
-    pub plan-quiet : nothing_pending (state (engine_of p) (whole (engine_of p) l)) ≡ true
-    plan-quiet =
-        same-quiet (engine_of p) (machine_engine s) 4000000000 mirrored (whole (engine_of p) l) plan-ends
-        ∙ rw same-calls (whole-quiet s l (omega (arith, (plan-limits p a).cores-low)))
-
-    pub plan-reports : report (engine_of p) l ≡ report (machine_engine s) l
-    plan-reports = fun_ext (same-report (engine_of p) (machine_engine s) 4000000000 mirrored l run_ends)
-
-    pub plan-counts :
-        (taken_count (engine_of p) l ≡ taken_count (machine_engine s) l) × (refused_count (engine_of p) l ≡ refused_count (machine_engine s) l)
-    plan-counts = same-counts (engine_of p) (machine_engine s) 4000000000 mirrored l run_ends

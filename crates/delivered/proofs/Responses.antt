@@ -35,8 +35,10 @@ use Rattle.history.specs.Engine.{outcome_of, Call, step, ask, clock, state, verd
 use Rattle.history.specs.OnMachine.{handed_of}
 use Rattle.history.proofs.ClaimLaws.{history_room}
 use Rattle.delivered.specs.Delivered.{engine_of}
-use Rattle.delivered.specs.DeliveredLaws.{Alike, stepped, steps, asks, opens, plan_history}
-use Rattle.delivered.specs.Demand3.{run_on, plan-passes}
+use Rattle.delivered.proofs.DeliveredLaws.{Alike, stepped, steps, asks, opens}
+use Rattle.delivered.proofs.PlanLaws.{plan_history}
+use Rattle.delivered.specs.Demand3.{run_on}
+use Rattle.delivered.proofs.Demand3.{plan-passes}
 
 -- ---- a state at the clock's end meets 18 or 19, and every call hands it back
 

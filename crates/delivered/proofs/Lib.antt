@@ -1,0 +1,4 @@
+pub mod DeliveredLaws
+pub mod PlanLaws
+pub mod Responses
+pub mod Demand3
