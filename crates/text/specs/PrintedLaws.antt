@@ -130,22 +130,29 @@ module _ (p : Plan) (passed : test_plan p ≡ Accepted) where
 
   -- `own` is what the code has worked out
   module _ (own : Bool) (eo : own ≡ core_for_each p.cores p.tasks) where
+    own-lines :
+        (i : ℕ) → i < p.tasks
+        → length (entries (line_in own p.edition p.task p.slack) i) + length (line_in own p.edition p.task p.slack i) ≤ 49 * suc i
+    unfolding entries
+    own-lines i h =
+        rw eo
+        (omega (
+          arith,
+          lines_short (suc i) h,
+          length-append
+              (entries (line_in (core_for_each p.cores p.tasks) p.edition p.task p.slack) i)
+              (line_in (core_for_each p.cores p.tasks) p.edition p.task p.slack i),
+        ))
+
     pub line-room :
         (i b d at : ℕ) → i < p.tasks → b ≡ bound_by own (task_of p.task i) (row p.slack i)
         → d ≡ late_of p.edition (task_of p.task i) b
         → at ≡ length (counts_line p.cores p.tasks) + length (entries (line_in own p.edition p.task p.slack) i)
         → at + length (task_line i (row p.slack i) b d) ≤ 1024
-    unfolding entries line_in
+    unfolding line_in
     line-room i b d at h e q r =
-        let all = rw (← eo) at (lines_short (suc i) h) in
         rw (q, e)
-        (omega (
-          arith,
-          within,
-          counts-short,
-          all,
-          length-append (entries (line_in own p.edition p.task p.slack) i) (line_in own p.edition p.task p.slack i),
-        ))
+        (omega (arith, within, counts-short, own-lines i h))
 
     pub plan-text : plan_lines (content_of p) ≡ counts_line p.cores p.tasks ++ entries (line_in own p.edition p.task p.slack) p.tasks
     unfolding plan_lines content_of
