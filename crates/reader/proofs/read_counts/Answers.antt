@@ -52,7 +52,7 @@ returns-then-t-table_length c =
     let x = c.count_at-offers.ensures.0 ∙ ap (byte _) c.slack_from-third.ensures in
     counted-length _ _ (known _ _ _ c.is_unknown.ensures c.if-is_unknown.false)
     (other_length _ _ _ _ (edition_read _ _ refl) (core_count_lem _ _ m) (task-count _ _ _ m n) _ (slack-count _ _ _ _ _ (edition_read _ _ refl) m n x)
-    (λ e. c.if-t-table_length.true (e ∙ sym c.table_length.ensures)))
+    (λ e. omega (arith, e, c.table_length.ensures)))
     c.refused-then-t-table_length.ensures
 
 pub returns : goal.returns
@@ -61,5 +61,5 @@ returns c =
     let n = c.count_at-tasks.ensures.0 ∙ ap (byte _) c.tasks_from-second.ensures in
     let x = c.count_at-offers.ensures.0 ∙ ap (byte _) c.slack_from-third.ensures in
     counted_read _ _ _ _ _ _ (known _ _ _ c.is_unknown.ensures c.if-is_unknown.false) (edition_read _ _ refl) (core_count_lem _ _ m) (task-count _ _ _ m n) (slack-count _ _ _ _ _ (edition_read _ _ refl) m n x)
-    (c.if-t-table_length.false ∙ c.table_length.ensures)
+    (omega (arith, c.table_length.ensures))
     refl
