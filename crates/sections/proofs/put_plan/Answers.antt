@@ -1,4 +1,5 @@
 -- `sections::put_plan` meets its contract: the edition byte and the three sections, one behind the other.
+use Prim.Native.Nat.{ℕ}
 use native.Mathlib.Omega.{arith}
 use mathlib.Core.Path.{sym, ◌∙◌}
 use lib.ListN.{length-set}
@@ -12,7 +13,7 @@ bounds-out-0 c = omega (arith, length-plan c.args.plan)
 pub put_labels-requires : goal.put_labels-requires
 put_labels-requires c =
     let a = c.args in
-    omega (arith, length-plan a.plan, length-set a.out.now 0 a.plan.edition)
+    omega (arith, length-plan a.plan, length-set {A = ℕ})
 
 pub put_tasks-requires : goal.put_tasks-requires
 put_tasks-requires c =
@@ -20,7 +21,7 @@ put_tasks-requires c =
     omega (
       arith,
       length-plan a.plan,
-      length-set a.out.now 0 a.plan.edition,
+      length-set {A = ℕ},
       c.put_labels.auto.out,
       c.tasks_from.ensures,
     )
@@ -38,7 +39,7 @@ put_slack-requires c =
       c.slack_count-count.ensures.0,
       c.slack_count-count.ensures.1,
       c.requires,
-      length-set a.out.now 0 a.plan.edition,
+      length-set {A = ℕ},
       c.put_labels.auto.out,
       c.put_tasks.auto.out,
       c.slack_from.ensures,
