@@ -9,9 +9,7 @@ use Rattle.numbers.specs.Bytes.{digits}
 use Rattle.numbers.specs.ByteLaws.{length_digits}
 use Rattle.dahomike.specs.Answers.{entry_size, entry_bytes}
 use native.Mathlib.Omega.{arith}
-use borrow.Author.Rules.{rules}
-use Rattle.dahomike.proofs.put_entry.Statement.{statement}
-use Rattle.dahomike.proofs.put_entry.Tie as tie
+use Rattle.dahomike.proofs.put_entry.Goals as goal
 
 -- an entry of twelve bytes, and of eight
 twelve : (b : Bool) (i n : ℕ) → b ≡ true → entry_size b * i + entry_size b ≤ n → 12 * i + 12 ≤ n
@@ -31,22 +29,6 @@ alone :
     → v ≡ sets l (entry_size w * i) (entry_bytes w a b c)
 alone w l v i a b c t q = rw t q
 
-pub put-entry-spec : {M : Type 1} → statement M
-put-entry-spec =
-    tie.close
-    (tie.spec
-    (λ c. search rules)
-    (λ c κs. omega (arith, twelve _ _ _ c.before.if1.true c.before.before.before.requires.1))
-    (λ c. search rules)
-    (λ c. search rules)
-    (λ c κs. omega (arith, twelve _ _ _ c.before.before.before.before.before.if1.true c.before.before.before.before.before.before.before.requires.1, c.before.before.before.put4.auto.0))
-    (λ c. search rules)
-    (λ c.
-    let a = c.before.before.before.before.before.before.before.before.before.before.args in
-    joined a.wishes a.out.now _ _ a.i a.offset a.slack a.bound c.before.before.before.before.before.before.before.before.if1.true c.before.before.before.before.before.before.put4.ensures c.before.before.put-pair.ensures)
-    (λ c. search rules)
-    (λ c κs. omega (arith, eight _ _ _ c.before.if1.false c.before.before.before.requires.1))
-    (λ c. search rules)
-    (λ c.
-    let a = c.before.before.before.before.before.before.args in
-    alone a.wishes a.out.now _ a.i a.offset a.slack a.bound c.before.before.before.before.if1.false c.before.before.put-pair2.ensures))
+pub returns-then-wishes : goal.returns-then-wishes
+returns-then-wishes c = let a = c.args in
+    joined a.wishes a.out.now _ _ a.i a.offset a.slack a.bound c.if-wishes.true c.put4.ensures c.put_pair.ensures

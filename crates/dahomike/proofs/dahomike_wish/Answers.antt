@@ -1,0 +1,9 @@
+-- `dahomike::dahomike_wish` meets its contract.
+use Rattle.dahomike.specs.AnswerLaws.{wish_plan, wish_answered}
+use Rattle.dahomike.proofs.dahomike_wish.Goals as goal
+
+pub answered-requires : goal.answered-requires
+answered-requires c = λ a. (_, wish_plan _ _ c.wish-wished.ensures a)
+
+pub returns : goal.returns
+returns c = wish_answered _ _ c.wish-wished.ensures c.args.out.now _ _ c.answered.ensures
