@@ -35,7 +35,8 @@ use Rattle.history.specs.Engine.{Engine, verdict as asked, demanded, named_ticks
 use Rattle.history.specs.Log.{Entry, largest as largestTick, back, until, calls, outcome, owed, all_owed, rest, whole}
 use Rattle.history.specs.OnMachine.{answer_of, handed_of, quiet_of, machine_engine}
 use Rattle.history.specs.Report.{Report, finished, refusal, finish_tick, report}
-use Rattle.delivered.specs.Demand3.{run_on, demand_machine}
+use Rattle.delivered.specs.Demand3.{run_on}
+use Rattle.delivered.proofs.Demand3.{demand_machine}
 use Rattle.logs.specs.LogBytes.{entry_count, entry_in, entries_in, test14, test15, log_test}
 use Rattle.laws.specs.Member.{member}
 use Rattle.numbers.specs.Bytes.{byte, number, digits, entries}
