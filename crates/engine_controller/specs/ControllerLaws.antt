@@ -31,8 +31,9 @@ use Rattle.history.specs.Engine.{outcome_of, Call, clock, state, HistoryClaim}
 use Rattle.history.specs.Mirror.{Mirrors}
 use Rattle.history.proofs.Mirror.{like, mirror_history}
 use Rattle.delivered.specs.Delivered.{names_as_running, nothing_pending}
-use Rattle.delivered.specs.Demand3.{run_on, demand_histories}
-use Rattle.delivered.specs.Responses.{demand-responses}
+use Rattle.delivered.specs.Demand3.{run_on}
+use Rattle.delivered.proofs.Demand3.{demand_histories}
+use Rattle.delivered.proofs.Responses.{demand-responses}
 use Rattle.dahomike_answer.specs.Number.{answer_number}
 use Rattle.engine_words.specs.Words.{fields_in}
 use Rattle.engine_words.proofs.PartLaws.{row-part}
