@@ -3,24 +3,14 @@
 --     comes_out, turned_down   one that is not refused, and one that is
 --     conversions            P1 and P5 both ways, to the bytes that come out and to one less; 1, 29, 30 and their order
 --     converts, convert_all   whether the definitions say the same
---     worked-conversions     they do, of every one
-use Rattle.std.specs.Prelude.{ℕ, Bool, true, ◌&&◌, List, [], ◌∷◌, ◌++◌, length, drop, T, eqb}
-use Rattle.laws.specs.First.{first}
+use Rattle.std.specs.Prelude.{ℕ, Bool, true, ◌&&◌, List, [], ◌∷◌, ◌++◌, length, drop, eqb}
 use Rattle.laws.specs.Every.{same_list}
-use Rattle.laws.specs.Sum.{sum, sum_over}
-use Rattle.laws.specs.Settle.{same, settle}
-use Rattle.laws.specs.Tab.{tab, cut}
-use Rattle.laws.specs.Rank.{place, ranked, largest}
-use Rattle.laws.specs.Multiple.{lcm, lcm_below}
+use Rattle.laws.specs.Tab.{tab}
 use Rattle.tasks.specs.declared.Answer.{Answer}
 use Rattle.tasks.specs.declared.Answer.TheVariants.{Accepted, Refused}
-use Rattle.tasks.specs.TaskSet.{plain_task as loop, hyperperiod, share, weight, surplus, counted, amount, cover, covers, needed, row, raise, found, bound}
-use Rattle.tasks.specs.Content.{no_task}
-use Rattle.tasks.specs.Tests.{lowest, first_met, outside, bad_label, test3, test4, test5, test6, test7, test8, test28, test9, test10, test11, test12, test13, tests}
-use Rattle.numbers.specs.Bytes.{byte, number, digits, entries}
-use Rattle.codec.specs.Table.{core_count, task_count, tasks_at, slack_count, slack_at, task_in, task_set_in, content_in, test1, test2, verdict, task_size, plain_bytes, task_bytes, bytes_of}
-use Rattle.conversion.specs.Converted.{converted_task, converted, wanted_test, way_test, fit_test, convert_test, converted_length, converted_to}
-use Rattle.worked.specs.Cases.{p1, p3, concat, table_with, answers_equal}
+use Rattle.tasks.specs.TaskSet.{plain_task as loop}
+use Rattle.conversion.specs.Converted.{convert_test, converted_length, converted_to}
+use Rattle.worked.specs.Cases.{p1, p3, table_with, answers_equal}
 use Rattle.worked.specs.Editions.{due, p1_due}
 
 pub record Conversion : Type 0 where
@@ -50,7 +40,7 @@ dated a b c offered = table_with 2 2 (p1_due a b c) offered
 abbrev p5 : List ℕ
 p5 = 6 ∷ 6 ∷ 1 ∷ []
 
-pub conversions : List Conversion
+unfoldable pub conversions : List Conversion
 conversions =
     comes_out (plain []) 2 54 (dated 10 10 90 [])
     ∷ comes_out (dated 10 10 90 []) 1 42 (plain [])
@@ -95,7 +85,3 @@ converts c =
 unfoldable pub convert_all : List Conversion → Bool
 convert_all [] = true
 convert_all (c ∷ l) = converts c && convert_all l
-
-pub worked-conversions : T (convert_all conversions)
-unfolding conversions converts convert_all concat table_with answers_equal same_list first sum sum_over tab cut place ranked largest lcm lcm_below hyperperiod share weight surplus counted amount cover covers needed row raise same settle found bound no_task lowest first_met outside bad_label test3 test4 test5 test6 test7 test8 test28 test9 test10 test11 test12 test13 tests byte number digits entries core_count task_count tasks_at slack_count slack_at task_in task_set_in content_in test1 test2 verdict task_size plain_bytes task_bytes bytes_of converted_task converted wanted_test way_test fit_test convert_test converted_length converted_to
-worked-conversions = tt

@@ -3,28 +3,14 @@
 --     p1_due            P1's loops with these deadlines
 --     due_texts, worked-due      deadlines below, at and above each bound, at and beside the limits of 28, and 8, 28 and 9 in this order
 --     due_sheets, worked-due-sheets    P1's wish sheet in edition 2, and 26, 28 and 9 in this order
---     due-kept         the plan found for that sheet is of edition 2 and has its deadlines
 use Rattle.std.specs.Prelude.{ℕ, Bool, ◌&&◌, List, [], ◌∷◌, T, eqb}
 use Prim.Native.String.{String}
-use Rattle.laws.specs.First.{first}
 use Rattle.laws.specs.Every.{same_list}
-use Rattle.laws.specs.Sum.{sum, sum_over}
-use Rattle.laws.specs.Settle.{same, settle}
-use Rattle.laws.specs.Tab.{tab, cut}
-use Rattle.laws.specs.Rank.{place, ranked, largest}
-use Rattle.laws.specs.Multiple.{lcm, lcm_below}
+use Rattle.laws.specs.Tab.{tab}
 use Rattle.tasks.specs.declared.Task.{Task}
-use Rattle.tasks.specs.TaskSet.{hyperperiod, share, weight, surplus, counted, amount, cover, covers, needed, row, raise, found, bound}
-use Rattle.tasks.specs.Content.{no_task, task_of, plan_of, zero_plan, counted_of, late_of, late}
-use Rattle.tasks.specs.Tests.{lowest, first_met, outside, bad_label, test3, test4, test5, test6, test7, test8, test28, test9, test10, test11, test12, test13, tests}
-use Rattle.numbers.specs.Bytes.{byte, number, digits, entries}
-use Rattle.decimal.specs.Decimal.{words, digits_in, decimal, said}
-use Rattle.text.specs.Printed.{pair_line, counts_line, task_line, refusal_line, line_of, counted_line, plan_lines, plan_text, printed}
-use Rattle.codec.specs.Table.{core_count, task_count, tasks_at, slack_count, slack_at, task_in, task_set_in, content_in, test1, test2, verdict, task_size, plain_bytes, task_bytes}
-use Rattle.table.specs.Judged.{counted_in}
-use Rattle.wishes.specs.Wish.{with_offsets, largest_offset, at_slack, wished, passes, no_solution, sheet5, test26, sheet11, test27, wish_tests, solved}
-use Rattle.sheet.specs.Wished.{wish_verdict, wish_of}
-use Rattle.worked.specs.Cases.{concat, table_with, answers_equal, Shown, prints, print_all, SheetCase, solved_by, turned_away, meets, meet_all}
+use Rattle.tasks.specs.Content.{task_of}
+use Rattle.sheet.specs.Wished.{wish_of}
+use Rattle.worked.specs.Cases.{table_with, Shown, SheetCase, solved_by, turned_away}
 
 abbrev pub due : ℕ → ℕ → ℕ → ℕ → Task
 due T C Y D = record { separation = T; budget = C; offset = Y; deadline = D }
@@ -36,7 +22,7 @@ abbrev shown : List Task → String → Shown
 shown loops text = record { edition = 2; loops = loops; text = text }
 
 -- P1's bounds are 25, 25 and 110
-pub due_texts : List Shown
+unfoldable pub due_texts : List Shown
 due_texts =
     shown (p1_due 24 25 111)
     "cores 2 loops 3\nloop 0 slack 6 bound 25 late 1\nloop 1 slack 6 bound 25 late 0\nloop 2 slack 0 bound 110 late 0\ncounted 2\n"
@@ -55,14 +41,10 @@ due_texts =
     ∷ shown (due 1000 1 0 1 ∷ due 1001 1 0 1 ∷ due 1 1 1 1 ∷ []) "refused 9 at 0\n"
     ∷ []
 
-pub worked-due : T (print_all due_texts)
-unfolding due_texts concat table_with same_list first sum sum_over tab cut place ranked largest lcm lcm_below hyperperiod share weight surplus counted amount cover covers needed row raise same settle found bound no_task lowest first_met outside bad_label test3 test4 test5 test6 test7 test8 test28 test9 test10 test11 test12 test13 tests byte number digits core_count task_count tasks_at slack_count slack_at task_in task_set_in content_in test1 test2 verdict task_size plain_bytes task_bytes prints print_all late_of late counted_of counted_in printed plan_text plan_lines counted_line counts_line task_line refusal_line pair_line line_of words said decimal digits_in entries
-worked-due = tt
-
-abbrev wishing_due : List Task
+abbrev pub wishing_due : List Task
 wishing_due = due 10 9 29 25 ∷ due 10 9 99 26 ∷ due 100 20 90 1 ∷ []
 
-pub due_sheets : List SheetCase
+unfoldable pub due_sheets : List SheetCase
 due_sheets =
     solved_by 2 wishing_due (10 ∷ 10 ∷ 69 ∷ []) (6 ∷ 6 ∷ 1 ∷ [])
     -- 26 at the third loop, 28 at the first
@@ -72,17 +54,8 @@ due_sheets =
     ∷ turned_away 2 (due 1000 1 1 1 ∷ due 1001 1 1 1600000 ∷ due 1 1 1 1 ∷ []) 9 0
     ∷ []
 
-pub worked-due-sheets : T (meet_all due_sheets)
-unfolding due_sheets meets meet_all concat table_with answers_equal same_list first sum sum_over tab cut place ranked largest lcm lcm_below hyperperiod share weight surplus counted amount cover covers needed row raise same settle no_task task_of plan_of zero_plan lowest first_met outside bad_label test3 test4 sheet5 test6 test7 test28 test9 test10 byte number digits core_count task_count tasks_at slack_count slack_at task_in task_set_in content_in test1 test2 task_size plain_bytes task_bytes with_offsets largest_offset at_slack wished passes no_solution test26 sheet11 test27 wish_tests solved wish_verdict wish_of
-worked-due-sheets = tt
-
 -- the edition, and the deadlines of the first three places, of the plan found for a sheet
-pub kept : List Task → ℕ → List ℕ → Bool
+unfoldable pub kept : List Task → ℕ → List ℕ → Bool
 kept loops e deadlines =
     eqb (wish_of (table_with e 2 loops [])).plan.edition e
     && same_list (tab (λ i. (task_of (wish_of (table_with e 2 loops [])).plan.task i).deadline) 3) deadlines
-
--- "A wish sheet may be of either edition"
-pub due-kept : T (kept wishing_due 2 (25 ∷ 26 ∷ 1 ∷ []) && kept wishing_due 1 (0 ∷ 0 ∷ 0 ∷ []))
-unfolding kept concat table_with answers_equal same_list first sum sum_over tab cut place ranked largest lcm lcm_below hyperperiod share weight surplus counted amount cover covers needed row raise same settle no_task task_of plan_of zero_plan lowest first_met outside bad_label test3 test4 sheet5 test6 test7 test28 test9 test10 byte number digits core_count task_count tasks_at slack_count slack_at task_in task_set_in content_in test1 test2 task_size plain_bytes task_bytes with_offsets largest_offset at_slack wished passes no_solution test26 sheet11 test27 wish_tests solved wish_verdict wish_of
-due-kept = tt

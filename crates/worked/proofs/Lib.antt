@@ -1,0 +1,4 @@
+pub mod Cases
+pub mod OwnCores
+pub mod Editions
+pub mod Converted
