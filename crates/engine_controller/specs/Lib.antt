@@ -1,3 +1,2 @@
 pub mod Controller
 pub mod KeptWords
-pub mod ControllerLaws
