@@ -34,8 +34,9 @@ use Rattle.history.specs.Log.{Entry}
 use Rattle.history.specs.Report.{Report, report, taken_count, refused_count}
 use Rattle.history.specs.OnMachine.{machine_engine}
 use Rattle.history.proofs.PlainEngine.{plain_engine}
-use Rattle.delivered.specs.DeliveredLaws.{plan-counts}
-use Rattle.delivered.specs.Demand3.{run_on, plan-passes, log-early, demand_machine}
+use Rattle.delivered.proofs.PlanLaws.{plan-counts}
+use Rattle.delivered.specs.Demand3.{run_on}
+use Rattle.delivered.proofs.Demand3.{plan-passes, log-early, demand_machine}
 use Rattle.replay.specs.declared.run.Ran.{Ran}
 use Rattle.replay.specs.Ran.{run_test, ran_of, run_leaves}
 use Rattle.conversion.specs.Converted.{convert_test}

@@ -22,7 +22,8 @@ use Rattle.history.specs.ClaimLaws.{promised, Conditions}
 use Rattle.history.proofs.ClaimLaws.{in_time_sum, takes_conditions, history_log}
 use Rattle.history.proofs.Refusals.{met-high}
 use Rattle.history.specs.Report.{Report, finished, refusal, report, taken_count, refused_count}
-use Rattle.delivered.specs.Demand3.{run_on, Reports, log-early, demand_3, demand_histories, demand_numbers, demand-ends, demand-reports}
+use Rattle.delivered.specs.Demand3.{run_on, Reports}
+use Rattle.delivered.proofs.Demand3.{log-early, demand_3, demand_histories, demand_numbers, demand-ends, demand-reports}
 use Rattle.replay.specs.Ran.{run_test, ran_of, run_leaves}
 use Rattle.dahomike_answer.specs.Number.{answer_number}
 use Rattle.dahomike.specs.Answers.{judge_test, judge_number, judge_leaves, run_number}
