@@ -1,5 +1,2 @@
 pub mod Outcome
-pub mod ReadLaws
-pub mod OutcomeLaws
-pub mod Editions
 pub mod Sentences

@@ -33,7 +33,8 @@ use Rattle.writer.specs.Written.{written_length, written_to}
 use Rattle.roundtrip.proofs.RoundTrip.{table-again}
 use Rattle.conversion.specs.Converted.{converted_task, converted, wanted_test, way_test, fit_test, convert_test, converted_length, converted_to}
 use Rattle.conversion.proofs.ConvertTheorems.{left_by, table-passed, convert_twins, convert_edition, there_and_back}
-use Rattle.worked.specs.Cases.{p1, concat, table_with, answers_equal, parts, accepts}
+use Rattle.worked.specs.Cases.{p1, concat, table_with, answers_equal}
+use Rattle.worked.proofs.Cases.{parts, accepts}
 use Rattle.worked.specs.Editions.{p1_due}
 
 pub record Carried : Type 0 where

@@ -28,8 +28,9 @@ use Rattle.dahomike_answer.specs.Number.{answer_number}
 use Rattle.engine_words.specs.Words.{fits, plan_in, fields_in, said}
 use Rattle.engine_lent.specs.Lent.{open_number, release_number, step_number, responses_leave}
 use Rattle.engine_controller.specs.Controller.{outcome_in, controller_of}
-use Rattle.engine_controller.specs.ControllerLaws.{controller_history, controller_responses}
-use Rattle.worked.specs.Cases.{p1, p3, concat, table_with, answers_equal, parts, accepts}
+use Rattle.engine_controller.proofs.ControllerLaws.{controller_history, controller_responses}
+use Rattle.worked.specs.Cases.{p1, p3, concat, table_with, answers_equal}
+use Rattle.worked.proofs.Cases.{parts, accepts}
 use Rattle.test_answers.specs.Numbers.{Answered, gives, answer_all}
 
 abbrev words0 : List ℕ → List ℕ

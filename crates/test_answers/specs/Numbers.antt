@@ -39,8 +39,9 @@ use Rattle.wording.specs.Sentence.{wordings, wording, sentence_of}
 use Rattle.wording.specs.Told.{sentence_test}
 use Rattle.dahomike_answer.specs.Number.{answer_number}
 use Rattle.dahomike.specs.Answers.{judge_test, judge_number, counted_test, counted_number, wish_test, wish_number, run_number, sentence_number, convert_number}
-use Rattle.outcome.specs.Editions.{run-number}
-use Rattle.worked.specs.Cases.{p1, p3, entry, entry_bytes, concat, table_with, answers_equal, parts, accepts}
+use Rattle.outcome.proofs.Editions.{run-number}
+use Rattle.worked.specs.Cases.{p1, p3, entry, entry_bytes, concat, table_with, answers_equal}
+use Rattle.worked.proofs.Cases.{parts, accepts}
 
 pub record Answered : Type 0 where
   pub answer : ℕ

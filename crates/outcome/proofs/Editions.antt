@@ -44,7 +44,7 @@ use Rattle.conversion.proofs.ConvertTheorems.{left_by, Twins, table-passed, conv
 use Rattle.dahomike_answer.specs.Number.{answer_number}
 use Rattle.dahomike.specs.Answers.{judge_test, judge_number, report_bytes, judge_leaves, run_number}
 use Rattle.outcome.specs.Outcome.{cores_of, loops_of, separation_of, budget_of, offset_of}
-use Rattle.outcome.specs.ReadLaws.{same-loops, same-cores, separation-at, budget-at, offset_at}
+use Rattle.outcome.proofs.ReadLaws.{same-loops, same-cores, separation-at, budget-at, offset_at}
 
 pub record Alike (t u : List ℕ) : Type 0 where
   pub cores : cores_of t ≡ cores_of u

@@ -28,7 +28,7 @@ use Rattle.replay.specs.Ran.{run_test, ran_of, run_leaves}
 use Rattle.dahomike_answer.specs.Number.{answer_number}
 use Rattle.dahomike.specs.Answers.{judge_test, judge_number, judge_leaves, run_number}
 use Rattle.outcome.specs.Outcome.{loops_of, separation_of, budget_of, entries_of, tick_of, loop_of, demand_of, kind_of, value_of, slack_left, bound_left, within_of, FourConditions, KeepsTable, Outcome}
-use Rattle.outcome.specs.ReadLaws.{same-loops, same-cores, separation-at, budget-at, offset_at, finish_kind, refusal_kind, finish-number, refusal-number, within-high, slack-at, bound_at}
+use Rattle.outcome.proofs.ReadLaws.{same-loops, same-cores, separation-at, budget-at, offset_at, finish_kind, refusal_kind, finish-number, refusal-number, within-high, slack-at, bound_at}
 
 module _ (t l : List ℕ) (a : verdict t ≡ Accepted) (b : log_test l ≡ Accepted) (out : List ℕ) where
   abbrev E : Engine
