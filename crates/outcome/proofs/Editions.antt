@@ -43,15 +43,9 @@ use Rattle.conversion.specs.Converted.{convert_test}
 use Rattle.conversion.proofs.ConvertTheorems.{left_by, Twins, table-passed, convert_twins}
 use Rattle.dahomike_answer.specs.Number.{answer_number}
 use Rattle.dahomike.specs.Answers.{judge_test, judge_number, report_bytes, judge_leaves, run_number}
-use Rattle.outcome.specs.Outcome.{cores_of, loops_of, separation_of, budget_of, offset_of}
+use Rattle.outcome.specs.Outcome.{loops_of}
 use Rattle.outcome.proofs.ReadLaws.{same-loops, same-cores, separation-at, budget-at, offset_at}
-
-pub record Alike (t u : List ℕ) : Type 0 where
-  pub cores : cores_of t ≡ cores_of u
-  pub loops : loops_of t ≡ loops_of u
-  pub separations : (i : ℕ) → i < loops_of t → separation_of t i ≡ separation_of u i
-  pub budgets : (i : ℕ) → i < loops_of t → budget_of t i ≡ budget_of u i
-  pub offsets : (i : ℕ) → i < loops_of t → offset_of t i ≡ offset_of u i
+use Rattle.outcome.specs.Editions.{Alike}
 
 -- past a table's loops there is no task
 past : (t : List ℕ) (i : ℕ) → loops_of t ≤ i → (content_in t).tasks.task i ≡ no_task
