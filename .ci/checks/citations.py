@@ -4,6 +4,7 @@ A code span of a document is one of:
     `crate/File`, `crate/File: name`         crates/crate/specs/File.antt or proofs/File.antt, and a name that it declares
     `crate/file.rt`, `crate/file.rt: name`   crates/crate/src/file.rt, and a function, type or constant of it
     `crate/label`                            crates/crate/must-fail/label.edit
+    `crates/crate/proofs/F/Answers.antt: name`  a lemma of the proof of one function
     `folder/path`                            a path from the repository's root
 Spans in brackets behind the first two are fields or words of that declaration: `history/Log: Claim` (`takes`). In a table, the spans of a row that
 begins with `crate/File`, and of a column whose heading has it, are names of that file. docs/STATEMENTS.md copies the sources, so that it cites a name
@@ -17,6 +18,7 @@ import re
 SPAN = re.compile(r"`([^`]+)`")
 SPEC = re.compile(r"^([a-z_]\w*)/([A-Z]\w*)(?:: (\S+))?$")
 CODE = re.compile(r"^([a-z_]\w*)/(\w+\.rt)(?:: (\S+))?$")
+ANSWERS = re.compile(r"^(crates/[\w./+]+\.antt): (\S+)$")
 PAIR = re.compile(r"^([a-z_]\w*)/([a-z_]\w*)$")
 PATH = re.compile(r"^[\w.*-]+(?:/[\w.*-]+)+/?$")
 LINK = re.compile(r"\]\(([^)#:]+)(?:#[^)]*)?\)")
@@ -67,20 +69,20 @@ class Citations:
     def _row(self, path, number, line, heading):
         cells = line.strip().strip("|").split("|")
         if not heading:
-            heading = [self._file_of(cell) for cell in cells]
-        of_row = self._file_of(cells[0]) if SPAN.fullmatch(cells[0].strip()) else None
+            heading = [self._files_of(cell) for cell in cells]
+        of_row = self._files_of(cells[0]) if SPAN.fullmatch(cells[0].strip()) else []
         for i, cell in enumerate(cells):
-            of_column = heading[i] if i < len(heading) else None
-            files = [f for f in (of_row if i else None, of_column) if f]
+            of_column = heading[i] if i < len(heading) else []
+            files = (of_row if i else []) + of_column
             self._spans(path, number, cell, files)
         return heading
 
-    def _file_of(self, cell):
+    def _files_of(self, cell):
         for span in SPAN.findall(cell):
             found = SPEC.match(span)
             if found and not found.group(3):
-                return next(iter(self.tree.stated(found.group(1), found.group(2))), None)
-        return None
+                return self.tree.stated(found.group(1), found.group(2))
+        return []
 
     def _spans(self, path, number, text, files):
         block, bracket = None, False
@@ -122,6 +124,13 @@ class Citations:
         if found:
             file = self.tree.code.get(found.groups()[:2])
             return self._declared(path, number, found, [file] if file else [])
+        found = ANSWERS.match(span)
+        if found:
+            files = [f for f in self.tree.antt() if f.path == found.group(1)]
+            if not files or found.group(2) not in files[0].names():
+                self._fault(path, number, f"{found.group(1)} has no name {found.group(2)}")
+            self._cite(path, number, found.group(1), found.group(2))
+            return None, None
         found = PAIR.match(span)
         if found and found.group(1) in self.tree.crates:
             key = (found.group(1), found.group(2))

@@ -252,7 +252,8 @@ class Spec(File):
                     block.parts += [(name, i) for name in part.group(3).split()]
 
     def names(self):
-        return {b.name for b in self.blocks} | {p for b in self.blocks for p, _ in b.parts}
+        passed_on = {item.alias for item in self.imports if item.passed_on}
+        return {b.name for b in self.blocks} | {p for b in self.blocks for p, _ in b.parts} | passed_on
 
 
 class Code(File):

@@ -68,7 +68,7 @@ def declarations(file, uses, citations):
             if (file.path, part) not in citations.names and not part_used(file, block, part, line, uses):
                 yield file.path, line + 1, f"nothing uses {part} of {block.name}"
     for item in file.imports:
-        if item.passed_on and not uses.outside(module, item.alias, citations):
+        if item.passed_on and (file.path, item.alias) not in citations.names and not uses.outside(module, item.alias, citations):
             yield file.path, item.line + 1, f"{item.alias} is passed on, and nothing takes it from here"
 
 

@@ -5,7 +5,7 @@
 --     lent                 a lent buffer that is longer than each of them
 --     ready, ready_all      the test of a row: the table is accepted and can be converted, and has that late
 --     Row                  what the calls do with it: the conversion's other side, the way back, and the plan written
---     p9, p9-multiple      P9's H is 999,000
+--     p9                   P9's H is 999,000
 use Rattle.std.specs.Prelude.{ℕ, Bool, true, ◌&&◌, ◌≡◌, List, [], ◌∷◌, ◌++◌, length, drop, ltb, leb, eqb}
 use Rattle.laws.specs.Every.{every, same_list}
 use Rattle.laws.specs.Tab.{tab}

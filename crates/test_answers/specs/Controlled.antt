@@ -1,6 +1,6 @@
 -- What the engine's C calls answer on worked words and tables.
 --     words0               653 words of 0, the first of them these
---     lent_answers, worked-lent      openings of P1, P4 and no table, and calls on words that do not fit, each number written out
+--     lent_answers                   openings of P1, P4 and no table, and calls on words that do not fit, each number written out
 use Rattle.std.specs.Prelude.{ℕ, ◌-◌, List, [], ◌∷◌, ◌++◌, length, replicate}
 use Rattle.tasks.specs.TaskSet.{bound}
 use Rattle.codec.specs.Table.{content_in}

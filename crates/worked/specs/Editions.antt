@@ -1,8 +1,8 @@
 -- Document 02, §5: P1 in edition 2 as theorems of the definitions, from a table's bytes to what `plan` prints and from a sheet's to its plan.
 --     due              a loop (T, C, Y, D)
 --     p1_due            P1's loops with these deadlines
---     due_texts, worked-due      deadlines below, at and above each bound, at and beside the limits of 28, and 8, 28 and 9 in this order
---     due_sheets, worked-due-sheets    P1's wish sheet in edition 2, and 26, 28 and 9 in this order
+--     due_texts                  deadlines below, at and above each bound, at and beside the limits of 28, and 8, 28 and 9 in this order
+--     due_sheets                       P1's wish sheet in edition 2, and 26, 28 and 9 in this order
 use Rattle.std.specs.Prelude.{ℕ, Bool, ◌&&◌, List, [], ◌∷◌, T, eqb}
 use Prim.Native.String.{String}
 use Rattle.laws.specs.Every.{same_list}
