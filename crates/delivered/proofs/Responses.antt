@@ -2,7 +2,6 @@
 -- refused at the clock's end among them.
 --     plan-responses      each response that a step answers is at most its loop's bound, on the engine opened on a plan
 --     plan-room           no release is answered 23
---     demand-responses, demand-room    the same of an accepted table
 use Rattle.std.specs.Prelude.{ℕ, suc, ◌≤◌, ◌<◌, Bool, ◌≡◌, ◌⊎◌}
 use Rattle.std.proofs.Math.Bool.{true, false}
 use Rattle.std.proofs.Math.Path.{refl, sym, ap, subst}
@@ -16,11 +15,8 @@ use Rattle.tasks.specs.declared.Plan.{Plan}
 use Rattle.tasks.specs.declared.Answer.TheVariants.{Accepted, Refused}
 use Rattle.tasks.specs.Numbers.{clock_end}
 use Rattle.tasks.specs.TaskSet.{bound, row}
-use Rattle.tasks.specs.Content.{Content, content_of}
+use Rattle.tasks.specs.Content.{content_of}
 use Rattle.tasks.specs.Tests.{number_of, first_met, test_plan}
-use Rattle.codec.specs.Table.{content_in, verdict}
-use Rattle.table.specs.Judged.{judged}
-use Rattle.roundtrip.proofs.RoundTrip.{judged-fits}
 use Rattle.machine.specs.Machine.{Machine, opened, responses, runs, tick, advanced}
 use Rattle.machine.specs.Reached.{Reached}
 use Rattle.machine.proofs.Choice.{earliest}
@@ -37,8 +33,6 @@ use Rattle.history.proofs.ClaimLaws.{history_room}
 use Rattle.delivered.specs.Delivered.{engine_of}
 use Rattle.delivered.proofs.DeliveredLaws.{Alike, stepped, steps, asks, opens}
 use Rattle.delivered.proofs.PlanLaws.{plan_history}
-use Rattle.delivered.specs.Demand3.{run_on}
-use Rattle.delivered.proofs.Demand3.{plan-passes}
 
 -- ---- a state at the clock's end meets 18 or 19, and every call hands it back
 
@@ -148,14 +142,3 @@ module _ (p : Plan) (a : test_plan p ≡ Accepted) where
       (λ (q : step_tests (state (engine_of p) h) ≡ Refused 19 0). let z : 23 ≡ 19 = ap number_of (same ∙ q) in omega arith)
       (ended (state (engine_of p) h) (at_end (held h) l)))
       (below_or_not (clock h) 4000000000)
-
--- ---- of an accepted table
-
-module _ (t : List ℕ) (a : verdict t ≡ Accepted) (h : List Call) where
-  pub demand-responses : (i : ℕ) → row (step_of (state (run_on t) h)).responses i ≤ bound (content_in t).tasks (content_in t).slack i
-  demand-responses i =
-      subst (λ (c : Content). row (step_of (state (run_on t) h)).responses i ≤ bound c.tasks c.slack i) (judged-fits t a)
-      (plan-responses (judged t).plan (plan-passes t a) h i)
-
-  pub demand-room : (i c j : ℕ) → (release_of (state (run_on t) h) i c).answer ≡ Refused 23 j → ⊥
-  demand-room = plan-room (judged t).plan (plan-passes t a) h

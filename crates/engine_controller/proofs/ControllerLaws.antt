@@ -33,7 +33,7 @@ use Rattle.history.proofs.Mirror.{like, mirror_history}
 use Rattle.delivered.specs.Delivered.{names_as_running, nothing_pending}
 use Rattle.delivered.specs.Demand3.{run_on}
 use Rattle.delivered.proofs.Demand3.{demand_histories}
-use Rattle.delivered.proofs.Responses.{demand-responses}
+use Rattle.delivered.proofs.DemandResponses.{demand-responses}
 use Rattle.dahomike_answer.specs.Number.{answer_number}
 use Rattle.engine_words.specs.Words.{fields_in}
 use Rattle.engine_words.proofs.PartLaws.{row-part}
