@@ -31,7 +31,8 @@ use Rattle.roundtrip.specs.SectionLaws.{verdict-parts, table_fits}
 use Rattle.roundtrip.specs.BackLaws.{back-edition}
 use Rattle.roundtrip.proofs.RoundTrip.{rewritten, plan-back, verdict-back}
 use Rattle.conversion.specs.Converted.{converted_task, converted, converted_bytes, wanted_test, way_test, fit_test, convert_test, converted_length, converted_to}
-pub use Rattle.conversion.specs.ConvertTerms.{left_by, Twins, unset, differs, each, Meets29, Meets30, Meets31}
+pub use Rattle.conversion.specs.ConvertTerms.{left_by, Twins}
+use Rattle.conversion.specs.ConvertTerms.{unset, differs, each, Meets29, Meets30, Meets31}
 use Rattle.conversion.specs.ConvertedLaws.{way_deadlines, fit_passed, fit-more, fit-each, converted-late, converted-kept, table-says, table-passes, ways, other-edition}
 
 -- a table that is not refused before 24

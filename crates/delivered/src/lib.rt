@@ -1,2 +1,2 @@
-// No code: the delivered engine as its calls show it, and demand 3 proved of it, are in specs/.
+// No code: the delivered engine as its calls show it, and demand 3 proved of it, are in specs/ and proofs/.
 #![tactic(auto)]

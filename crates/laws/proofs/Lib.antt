@@ -1,2 +1,3 @@
 pub mod MultipleLaws
+pub mod TurnLaws
 pub mod SettleLaws

@@ -1,89 +1,23 @@
 -- Where raising from zeros ends: at the least row that a turn leaves as it is, if a turn never takes off what a smaller row would get, and takes
 -- nothing above a ceiling.
---     same_true, same_false     whether two lists agree below n, by indices
---     settled                   what holds there, Settled, does
-use Prim.Native.Nat.{ℕ, zero, suc, ◌+◌, ◌*◌, ◌≤◌, ◌<◌}
-use Rattle.std.specs.Prelude.{◌≡◌, List, ◌≢◌, length, get_or, replicate, eqb}
-use Rattle.std.proofs.Math.Path.{refl}
-use Rattle.std.proofs.Common.{sym, le_trans, arith}
-use Rattle.std.proofs.Math.Bool.{Bool, true, false, not}
+--     settled    what holds there, Settled, does
+use Prim.Native.Nat.{ℕ, suc, ◌*◌, ◌≤◌, ◌<◌}
+use Rattle.std.specs.Prelude.{◌≡◌, get_or, replicate}
+use Rattle.std.proofs.Common.{arith}
 use Rattle.std.proofs.Math.ListN.{length-replicate, get_or-replicate}
-use Rattle.std.proofs.Math.Arith.{lt_of_le-ne}
-use borrow.Author.Tests.{eqb-true, eqb-false, not-true, not-false}
-use Rattle.laws.specs.First.{first}
-use Rattle.laws.specs.FirstLaws.{first_le, first_holds, first-none}
-use Rattle.laws.specs.Sum.{sum}
-use Rattle.laws.specs.SumLaws.{sum_less, sum_le_mul}
 use Rattle.laws.specs.Tab.{tab}
-use Rattle.laws.specs.TabLaws.{get_or-tab, length-tab}
-use Rattle.laws.specs.Settle.{same, unless, settle}
+use Rattle.laws.specs.Settle.{settle}
 use Rattle.laws.specs.Settle.{Settled}
-
--- a list as a row, 0 past its end
-abbrev at : List ℕ → ℕ → ℕ
-at x k = get_or x k 0
-
-module _ (n : ℕ) (x y : List ℕ) where
-  pub same_true : same n x y ≡ true → (k : ℕ) → k < n → get_or x k 0 ≡ get_or y k 0
-  unfolding same
-  same_true e k h = eqb-true _ _ (not-false _ (first-none _ n (eqb-true _ _ e) k h))
-
-  pub same_false : same n x y ≡ false → (k : ℕ) × (k < n) × (get_or x k 0 ≢ get_or y k 0)
-  unfolding same
-  same_false e =
-      let p : ℕ → Bool = λ k. not (eqb (at x k) (at y k)) in
-      let h : first p n < n = lt_of_le-ne (first_le p n) (eqb-false _ _ e) in
-      (first p n, h, eqb-false _ _ (not-true _ (first_holds p n h)))
+use Rattle.laws.proofs.TurnLaws.{at, turn, settles}
 
 module _ (g : (ℕ → ℕ) → ℕ → ℕ) (n c : ℕ)
     (mono : (x y : ℕ → ℕ) → ((k : ℕ) → k < n → x k ≤ y k) → (k : ℕ) → k < n → g x k ≤ g y k)
     (high : (k : ℕ) → k < n → g (λ i. c) k ≤ c)
   where
-    -- on the way: the next turn takes nothing off
-    record Rising (x : List ℕ) : Type 0 where
-      rises : (k : ℕ) → k < n → at x k ≤ g (at x) k
-      least : (v : ℕ → ℕ) → ((k : ℕ) → k < n → g v k ≤ v k) → (k : ℕ) → k < n → at x k ≤ v k
-      long : length x ≡ n
-
-    turn : List ℕ → List ℕ
-    turn x = tab (g (at x)) n
-
-    turned : (x : List ℕ) (k : ℕ) → k < n → at (turn x) k ≡ g (at x) k
-    unfolding turn
-    turned x k h = get_or-tab _ n k 0 h
-
-    rising-turn : (x : List ℕ) → Rising x → Rising (turn x)
-    unfolding turn
-    rising-turn x r =
-        record {
-          rises = λ k h. rw (turned x k h) (mono (at x) (at (turn x)) (λ i l. rw (turned x i l) (r.rises i l)) k h);
-          least = λ v p k h. rw (turned x k h) (le_trans (mono (at x) v (r.least v p) k h) (p k h));
-          long = length-tab _ n;
-        }
-
-    rising-sum : (x : List ℕ) → Rising x → sum (at x) n ≤ n * c
-    rising-sum x r = sum_le_mul (at x) c n (r.least (λ i. c) high)
-
-    -- enough turns are left to reach the ceiling
-    settles : (f : ℕ) (x : List ℕ) → Rising x → n * c < f + sum (at x) n → Settled g n (settle turn n f x)
-    unfolding settle
-    settles zero x r h = absurd (omega (arith, rising-sum x r))
-    settles (suc f) x r h = go (same n x (turn x)) refl (settles f (turn x) (rising-turn x r))
-      where
-        go :
-            (b : Bool) → same n x (turn x) ≡ b
-            → (n * c < f + sum (at (turn x)) n → Settled g n (settle turn n f (turn x)))
-            → Settled g n (unless b (settle turn n f) x (turn x))
-        go true e rest =
-            record { still = λ k h. rw (← turned x k h) (sym (same_true n x (turn x) e k h)); least = r.least; long = r.long }
-        go false e rest =
-            let d = same_false n x (turn x) e in
-            rest (omega (arith, sum_less (at x) (at (turn x)) n (λ k l. rw (turned x k l) (r.rises k l)) d.0 d.1 d.2))
-
     pub settled : Settled g n (settle (λ x. tab (g (λ i. get_or x i 0)) n) n (suc (n * c)) (replicate n 0))
     unfolding turn
     settled =
-        settles (suc (n * c)) (replicate n 0)
+        settles g n c mono high (suc (n * c)) (replicate n 0)
         (record {
           rises = λ k h. omega (arith, zeros k h);
           least = λ v p k h. omega (arith, zeros k h);

@@ -1,2 +1,2 @@
-// No code: the definitions and laws of numbers and lists that the other crates share are in specs/.
+// No code: the definitions and laws of numbers and lists that the other crates share are in specs/ and proofs/.
 #![tactic(auto)]

@@ -17,8 +17,9 @@ use Rattle.table.specs.Judged.{judged_as, counted_in, judged}
 use Rattle.writer.specs.Written.{write_test, written_length, written_to}
 use Rattle.numbers.specs.ByteLaws.{Bytes}
 pub use Rattle.roundtrip.specs.Left.{left_by}
-pub use Rattle.roundtrip.proofs.JudgedBack.{rewritten, judged-fits, judged-passes, judged-rewritten, judged-tidy, plan-again-fits, plan-back, verdict-back, judged-back}
-pub use Rattle.roundtrip.proofs.SameBack.{same_back}
+pub use Rattle.roundtrip.proofs.JudgedBack.{rewritten, judged-fits, judged-passes, judged-tidy, plan-back, verdict-back, judged-back}
+use Rattle.roundtrip.proofs.JudgedBack.{judged-rewritten}
+use Rattle.roundtrip.proofs.SameBack.{same_back}
 
 -- an accepted table's judgement
 judged-accepted : (t : List ℕ) → verdict t ≡ Accepted → judged t ≡ judged_as Accepted (judged t).plan (counted_of (content_in t))

@@ -1,4 +1,4 @@
-// The engine's state as document 01 keeps it, and what the calls on it answer. What document 01 says of them is in specs/.
+// The engine's state as document 01 keeps it, and what the calls on it answer. What document 01 says of them is in specs/ and proofs/.
 #![tactic(auto)]
 
 use tasks::{Answer, Plan};

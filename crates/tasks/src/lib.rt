@@ -1,4 +1,4 @@
-// The records that every layer shares: a task, a plan, and the answer of a test. What document 01 says of them is in specs/.
+// The records that every layer shares: a task, a plan, and the answer of a test. What document 01 says of them is in specs/ and proofs/.
 #![tactic(auto)]
 
 pub mod bound;

@@ -1,4 +1,4 @@
-// What telling a refusal answers. What document 02, §2, says of the sentences is in specs/.
+// What telling a refusal answers. What document 02, §2, says of the sentences is in specs/ and proofs/.
 // How long the sentence is, or the refusal.
 #![tactic(auto)]
 

@@ -1,8 +1,8 @@
 -- `dahomike::put_entry` meets its contract.
-use mathlib.Core.Bool.{Bool, true, false}
+use mathlib.Core.Bool.{Bool, true}
 use mathlib.Core.List.{◌++◌, List}
 use mathlib.Core.Path.{◌≡◌, ◌∙◌}
-use Prim.Native.Nat.{ℕ, ◌+◌, ◌*◌, ◌≤◌}
+use Prim.Native.Nat.{ℕ, ◌+◌, ◌*◌}
 use lib.Seq.{sets}
 use Rattle.laws.specs.SetsLaws.{sets-next}
 use Rattle.numbers.specs.Bytes.{digits}
@@ -11,23 +11,11 @@ use Rattle.dahomike.specs.Answers.{entry_size, entry_bytes}
 use native.Mathlib.Omega.{arith}
 use Rattle.dahomike.proofs.put_entry.Goals as goal
 
--- an entry of twelve bytes, and of eight
-twelve : (b : Bool) (i n : ℕ) → b ≡ true → entry_size b * i + entry_size b ≤ n → 12 * i + 12 ≤ n
-twelve b i n e h = rw e at h
-
-eight : (b : Bool) (i n : ℕ) → b ≡ false → entry_size b * i + entry_size b ≤ n → 8 * i + 8 ≤ n
-eight b i n e h = rw e at h
-
 joined :
     (w : Bool) (l u v : List ℕ) (i a b c : ℕ) → w ≡ true → u ≡ sets l (12 * i) (digits 4 a)
     → v ≡ sets u (12 * i + 4) (digits 4 b ++ digits 4 c) → v ≡ sets l (entry_size w * i) (entry_bytes w a b c)
 joined w l u v i a b c t e q =
     rw t (q ∙ rw e (sets-next l (12 * i) (12 * i + 4) (digits 4 a) (digits 4 b ++ digits 4 c) (omega (arith, length_digits 4 a))))
-
-alone :
-    (w : Bool) (l v : List ℕ) (i a b c : ℕ) → w ≡ false → v ≡ sets l (8 * i) (digits 4 b ++ digits 4 c)
-    → v ≡ sets l (entry_size w * i) (entry_bytes w a b c)
-alone w l v i a b c t q = rw t q
 
 pub returns-then-wishes : goal.returns-then-wishes
 returns-then-wishes c = let a = c.args in

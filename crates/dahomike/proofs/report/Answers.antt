@@ -6,17 +6,8 @@ use Rattle.numbers.specs.StoreLaws.{sets-entry}
 use Rattle.dahomike.specs.Answers.{entry_size, entry_bytes, entry_of, bound_in}
 use Rattle.dahomike.specs.ReportLaws.{entry-long}
 use native.Mathlib.Omega.{arith}
-use native.Mathlib.Nat.{mul-le-mul_left}
-use mathlib.Core.Bool.{Bool}
-use Prim.Native.Nat.{ℕ, suc, ◌≤◌, ◌<◌, ◌+◌, ◌*◌}
 use mathlib.Core.Path.{◌≡◌, refl, ap, ◌∙◌}
 use Rattle.dahomike.proofs.report.Goals as goal
-
--- the entry of task i lies within the entries of n tasks
-inside : (b : Bool) (i n room : ℕ) → i < n → entry_size b * n ≤ room → entry_size b * i + entry_size b ≤ room
-inside b i n room l h =
-    let m : suc i ≤ n = omega arith in
-    omega (arith, mul-le-mul_left (entry_size b) m)
 
 pub loop-i-init : goal.loop-i-init
 unfolding entries

@@ -3,7 +3,6 @@ use lib.Dec.{eqb}
 use lib.ListN.{replicate}
 use mathlib.Core.Bool.{true, false, not}
 use borrow.Author.Tests.{leb-false, eqb-true, ne_eqb, not-false}
-use Rattle.tasks.specs.declared.Answer.{Answer}
 use Rattle.tasks.specs.TaskSet.{core_for_each}
 use Rattle.tasks.specs.Tests.{refuse, or_next}
 use Rattle.tasks.specs.AnswerLaws.{refuse-passed}
@@ -16,7 +15,7 @@ use Rattle.analysis.specs.SlackTest.{Offered, Unoffered, RatesTested, slack_test
 use Rattle.tasks.specs.declared.Answer.TheVariants.{Accepted, Refused}
 use Rattle.fields.specs.Columns.{set_from}
 use Rattle.slack.specs.StageLaws.{arrays-of}
-use Rattle.analysis.specs.SlackTestLaws.{limits-from, stopped, passed_on, slack-none, slack-own, had-own, slack-count, slack-offered}
+use Rattle.analysis.specs.SlackTestLaws.{limits-from, passed_on, slack-none, slack-own, had-own, slack-count, slack-offered}
 use Rattle.fields.specs.StageLaws.{not_both}
 use Prim.Native.Nat.{ℕ}
 use mathlib.Core.Path.{◌≡◌, sym, ◌∙◌}
@@ -28,13 +27,6 @@ module _ (m n : ℕ) (separation budget offset slack : List ℕ) (k : ℕ) (f : 
     tied : r.answer ≡ Accepted → core_for_each m n ≡ false → ArraysOf (set_from m n separation budget offset) r.share budget offset r.multiple r.surplus m n
     tied a more =
         arrays-of m n separation budget offset r f.tasks-high (limits-from m n separation budget offset f g (sym e.answer ∙ a)) (leb-false _ _ more) (e.figures a)
-
-    refused : (a : Answer) (t : Tested) (j i : ℕ) → a ≡ r.answer → a ≡ Refused j i → t.answer ≡ a → RatesTested (set_from m n separation budget offset) slack k t
-    refused a t j i o v u =
-        record {
-          answer = u ∙ o ∙ e.answer ∙ sym (stopped (rates_test (set_from m n separation budget offset)) _ j i (sym e.answer ∙ sym o ∙ v));
-          had = λ w. absurd (not_both _ j i (u ∙ v) w);
-        }
 
     passed : r.answer ≡ Accepted → or_next (rates_test (set_from m n separation budget offset)) (slack_test (set_from m n separation budget offset) slack k) ≡ slack_test (set_from m n separation budget offset) slack k
     passed a = passed_on (rates_test (set_from m n separation budget offset)) _ (sym e.answer ∙ a)

@@ -1,24 +1,18 @@
 use borrow.Author.Count.{below_none, below_more}
 use native.Mathlib.Nat.{mul-le-mul}
-use Rattle.laws.specs.Tab.{tab, cut}
 use Rattle.laws.specs.TabLaws.{filled_none}
 use Rattle.tasks.specs.TaskSet.{row}
 use Rattle.fields.specs.StageLaws.{column-more}
-use Rattle.slack.specs.Weights.{weight_row, Weighed}
+use Rattle.slack.specs.Weights.{weight_row}
 use native.Mathlib.Omega.{arith}
-use Prim.Native.Nat.{ℕ, ◌≤◌, ◌<◌, ◌+◌, ◌*◌}
+use Prim.Native.Nat.{ℕ, ◌≤◌, ◌+◌, ◌*◌}
 use mathlib.Core.Path.{◌≡◌}
-use mathlib.Core.List.{List}
 use lib.ListN.{get_or}
 use Rattle.slack.proofs.amount.weigh.Goals as goal
 
 -- a weight's limit
 high : (share v : ℕ) → share ≤ 1000000 → v ≤ 8589934592 → share * v ≤ 8589934592000000
 high share v h k = mul-le-mul {n₂ = 1000000} {m₂ = 8589934592} h k
-
--- the array where the loop is left, by either way
-whole : {w : ℕ → ℕ} {weight : List ℕ} {i tasks : ℕ} → i ≡ tasks → weight ≡ tab (cut i w 0) 16 → ((j : ℕ) → j < i → w j ≤ 8589934592000000) → Weighed w tasks weight
-whole e places limit = record { places = rw e at places; limit = rw e at limit }
 
 pub loop-i-init : goal.loop-i-init
 loop-i-init c = (omega arith, filled_none _ 0 16, below_none _)

@@ -1,21 +1,11 @@
-use native.Mathlib.Nat.{le_of_lt}
 use borrow.Author.Tests.{lt-ltb, le-ltb}
-use native.Mathlib.Nat.{mul-le-mul}
 use Rattle.laws.specs.First.{first}
 use Rattle.laws.specs.FirstLaws.{none_more, found_at}
 use Rattle.tasks.specs.TaskSet.{row}
 use Rattle.slack.specs.Arrays.{uncovered}
 use native.Mathlib.Omega.{arith}
-use Prim.Native.Nat.{ℕ, ◌≤◌, ◌<◌, ◌*◌}
 use mathlib.Core.Path.{refl, sym}
 use Rattle.slack.proofs.vector.first_uncovered.Goals as goal
-
--- the two products, each within 2^56
-by-cores : (cores multiple x : ℕ) → cores ≤ 8 → multiple ≤ 1000000 → x < 4294967296 → cores * multiple * x ≤ 34359738368000000
-by-cores cores multiple x h k l = mul-le-mul {n₂ = 8000000} {m₂ = 4294967296} (mul-le-mul {n₂ = 8} {m₂ = 1000000} h k) (le_of_lt l)
-
-by-budget : (multiple x : ℕ) → multiple ≤ 1000000 → x < 4294967296 → multiple * x ≤ 4294967296000000
-by-budget multiple x k l = mul-le-mul {n₂ = 1000000} {m₂ = 4294967296} k (le_of_lt l)
 
 pub loop-i-init : goal.loop-i-init
 unfolding first
