@@ -5,7 +5,7 @@ use native.Mathlib.Nat.{mul-le-mul}
 use mathlib.Core.Bool.{Bool, true, false}
 use Prim.Native.Nat.{◌≤◌}
 use Rattle.dahomike.specs.Answers.{entry_size}
-use Rattle.dahomike.specs.ReportLaws.{tasks-few, reportable, answer-refused, answer-short, answer_done}
+use Rattle.dahomike.proofs.ReportLaws.{tasks-few, reportable, answer-refused, answer-short, answer_done}
 use Rattle.dahomike.proofs.answered.Goals as goal
 
 size-high : (b : Bool) → entry_size b ≤ 12

@@ -1,6 +1,6 @@
 -- `dahomike::dahomike_convert` meets its contract: the answer by the cases of what came back, and the buffer as `convert` leaves it.
 use mathlib.Core.Path.{◌∙◌}
-use Rattle.dahomike.specs.AnswerLaws.{written_length_lem, written_refused}
+use Rattle.dahomike.proofs.AnswerLaws.{written_length_lem, written_refused}
 use Rattle.dahomike.proofs.dahomike_convert.Goals as goal
 
 pub returns-in-Length : goal.returns-in-Length

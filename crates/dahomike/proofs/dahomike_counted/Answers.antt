@@ -10,7 +10,7 @@ use Rattle.table.specs.declared.Judgement.{Judgement}
 use Rattle.table.specs.Judged.{judged}
 use Rattle.table.specs.NamesLaws.{names-count, names-few}
 use Rattle.dahomike_answer.specs.Number.{answer_number}
-use Rattle.dahomike.specs.AnswerLaws.{counted-refused, counted-short, counted_done}
+use Rattle.dahomike.proofs.AnswerLaws.{counted-refused, counted-short, counted_done}
 use borrow.Author.Rules.{rules}
 use Rattle.dahomike.proofs.dahomike_counted.Goals as goal
 

@@ -1,5 +1,5 @@
 -- `dahomike::dahomike_judge` meets its contract.
-use Rattle.dahomike.specs.AnswerLaws.{judge_plan, judge_answered}
+use Rattle.dahomike.proofs.AnswerLaws.{judge_plan, judge_answered}
 use Rattle.dahomike.proofs.dahomike_judge.Goals as goal
 
 pub answered-requires : goal.answered-requires

@@ -1,7 +1,7 @@
 -- `dahomike::dahomike_run_log` meets its contract.
 use Rattle.tasks.specs.declared.Answer.{Answer}
 use Rattle.dahomike_answer.specs.Number.{answer_number}
-use Rattle.dahomike.specs.AnswerLaws.{run-refused, run_done}
+use Rattle.dahomike.proofs.AnswerLaws.{run-refused, run_done}
 use mathlib.Core.Path.{ap, ◌∙◌}
 use Rattle.dahomike.proofs.dahomike_run_log.Goals as goal
 

@@ -1,6 +1,6 @@
 -- `dahomike::dahomike_sentence` meets its contract: the answer by the cases of what came back, and the buffer as `sentence` leaves it.
 use mathlib.Core.Path.{◌∙◌}
-use Rattle.dahomike.specs.AnswerLaws.{told_length, told_refused}
+use Rattle.dahomike.proofs.AnswerLaws.{told_length, told_refused}
 use Rattle.dahomike.proofs.dahomike_sentence.Goals as goal
 
 pub returns-in-Length : goal.returns-in-Length

@@ -1,5 +1,5 @@
 -- `dahomike::dahomike_wish` meets its contract.
-use Rattle.dahomike.specs.AnswerLaws.{wish_plan, wish_answered}
+use Rattle.dahomike.proofs.AnswerLaws.{wish_plan, wish_answered}
 use Rattle.dahomike.proofs.dahomike_wish.Goals as goal
 
 pub answered-requires : goal.answered-requires

@@ -4,7 +4,7 @@ use Rattle.tasks.specs.Content.{task_of, no_task}
 use Rattle.numbers.specs.Bytes.{entries}
 use Rattle.numbers.specs.StoreLaws.{sets-entry}
 use Rattle.dahomike.specs.Answers.{entry_size, entry_bytes, entry_of, bound_in}
-use Rattle.dahomike.specs.ReportLaws.{entry-long}
+use Rattle.dahomike.proofs.ReportLaws.{entry-long}
 use native.Mathlib.Omega.{arith}
 use mathlib.Core.Path.{◌≡◌, refl, ap, ◌∙◌}
 use Rattle.dahomike.proofs.report.Goals as goal

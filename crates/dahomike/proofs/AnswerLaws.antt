@@ -37,7 +37,8 @@ use Rattle.replay.specs.declared.run.Ran.{Ran}
 use Rattle.replay.specs.Ran.{run_test, ran_of}
 use Rattle.dahomike_answer.specs.Number.{answer_number}
 use Rattle.dahomike.specs.Answers.{judge_test, judge_number, judge_leaves, wish_test, wish_number, wish_leaves, counted_test, counted_number, counted_leaves, run_number, sentence_number, convert_number, room_test, entry_of}
-use Rattle.dahomike.specs.ReportLaws.{Reported, answered_is}
+use Rattle.dahomike.specs.ReportLaws.{Reported}
+use Rattle.dahomike.proofs.ReportLaws.{answered_is}
 
 -- ---- the judgement
 
