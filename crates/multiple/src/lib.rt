@@ -50,13 +50,11 @@ pub fn common_multiple(separation: &[u32; 16], tasks: usize) -> u64
     ensures { result ≡ min (lcm_below (λ i. get_or separation.now i 0) tasks) 1000001 }
 {
     let mut h: u64 = 1;
-    let mut i: usize = 0;
-    while i < tasks {
-        h = joined(h, wide(separation[i]));
+    for t in &separation[..tasks] {
+        h = joined(h, u64::from(*t));
         if MULTIPLE_HIGH < h {
             return MULTIPLE_HIGH + 1;
         }
-        i += 1;
     }
     h
 }
