@@ -1,29 +1,30 @@
 // One entry of a log: up to its tick, and its release handed over.
 #![tactic(auto)]
 
-ghost use Rattle.std.specs.Prelude.{◌≡◌, List, ℕ, length};
+ghost use Rattle.std.specs.Prelude.{◌≡◌, List, ℕ};
+ghost use Rattle.std.specs.Int.{from_bool};
 ghost use Rattle.tasks.specs.declared.Plan.{Plan};
 ghost use Rattle.tasks.specs.Tests.{number_of};
 ghost use Rattle.history.specs.Log.{Entry};
-ghost use Rattle.running.specs.Running.{arrays};
 ghost use Rattle.running.specs.HandLaws.{Handing, Handed};
 ghost use Rattle.running.specs.EnterCode.{Entering, Enters};
-ghost use Rattle.entry.specs.declared.Place.{Place};
+ghost use Rattle.onward.specs.Arrays.{arrays_of};
+ghost use Rattle.entry.specs.Start.{at_start};
 
 use admission::admission_test;
 use choice::head_key;
-use heads::insert;
-use logs::read::release_at;
+use heads::Heads;
+use logs::read::{Release, release_at};
 use logs::report::put_refused;
-use onward::advance;
+use onward::{Pending, Setup};
 use tasks::{Answer, refusal};
 
-// The clock after an entry, how many tasks have a job that may run, and 1 where the entry was taken.
-#[derive(Clone, Copy)]
-pub struct Place {
-    pub clock: u32,
-    pub heads: usize,
-    pub taken: usize,
+// A log run: its clock and pending jobs, and whether each task has had a release taken, and when the last one was.
+#[derive(Drop)]
+pub struct Run {
+    pub pending: Pending,
+    pub released: [bool; 16],
+    pub last: [u32; 16],
 }
 
 fn number(answer: Answer) -> u8
@@ -35,138 +36,91 @@ fn number(answer: Answer) -> u8
     }
 }
 
-fn stay(clock: u32, heads: usize, taken: usize) -> Place
-    ensures { ◌≡◌ {A = Place} result (record { clock = clock; heads = heads; taken = taken }) }
-{
-    Place {
-        clock,
-        heads,
-        taken,
+impl Run {
+    // Before the first entry.
+    pub fn new() -> Run
+        ensures { result ≡ at_start }
+    {
+        Run {
+            pending: Pending {
+                clock: 0,
+                jobs: [0; 16],
+                owners: [0; 256],
+                heads: Heads {
+                    key: [0; 16],
+                    left: [0; 16],
+                    count: 0,
+                },
+            },
+            released: [false; 16],
+            last: [0; 16],
+        }
     }
-}
 
-// Hands over entry `e`'s release at its tick. "There 17, 20, 21, 22 and 23, in this order, refuse one entry, which gets its 8 bytes with
-// kind 2, and the run goes on".
-fn hand(
-    e: usize,
-    tick: u32,
-    task: usize,
-    demand: u32,
-    tasks: usize,
-    separations: &[u32; 16],
-    budgets: &[u32; 16],
-    offsets: &[u32; 16],
-    jobs: &mut [usize; 16],
-    released: &mut [bool; 16],
-    last: &mut [u32; 16],
-    owners: &mut [u32; 256],
-    key: &mut [u64; 16],
-    left: &mut [u32; 16],
-    heads: usize,
-    out: &mut [u8],
-) -> Place
-    requires { (length key.old ≡ 16) × (length left.old ≡ 16)
-        × ((p : Plan) × ((l : List Entry) × ((out₀ : List ℕ)
-        × Handing p l out₀ e tick task demand tasks separations.now budgets.now offsets.now
-        (arrays jobs.old owners.old key.old left.old heads out.old) released.old last.old))) }
-    ensures { (length key.new ≡ 16) × (length left.new ≡ 16) × (result.clock ≡ tick)
-        × Handed e tick task demand tasks separations.now budgets.now offsets.now
-        (arrays jobs.old owners.old key.old left.old heads out.old)
-        released.old last.old result.taken
-        (arrays jobs.new owners.new key.new left.new result.heads out.new)
-        released.new last.new }
-{
-    if tasks <= task {
-        put_refused(out, e, refusal::TASK_NOT_IN_TABLE);
-        return stay(tick, heads, 0);
+    // Hands over entry `e`'s release at its tick, and answers whether it is taken. "There 17, 20, 21, 22 and 23, in this order, refuse one
+    // entry, which gets its 8 bytes with kind 2, and the run goes on".
+    fn hand(&mut self, e: usize, release: &Release, on: &Setup, out: &mut [u8]) -> bool
+        requires { (p : Plan) × ((l : List Entry) × ((out₀ : List ℕ)
+            × Handing p l out₀ e release.now.tick release.now.task release.now.demand
+            on.now.tasks on.now.columns.separation on.now.columns.budget on.now.columns.offset
+            (arrays_of self.old.pending out.old) self.old.released self.old.last)) }
+        ensures { (self.new.pending.clock ≡ self.old.pending.clock)
+            × Handed e release.now.tick release.now.task release.now.demand
+            on.now.tasks on.now.columns.separation on.now.columns.budget on.now.columns.offset
+            (arrays_of self.old.pending out.old) self.old.released self.old.last (from_bool result)
+            (arrays_of self.new.pending out.new) self.new.released self.new.last }
+    {
+        let task = release.task;
+        if on.tasks <= task {
+            put_refused(out, e, refusal::TASK_NOT_IN_TABLE);
+            return false;
+        }
+        let held = self.pending.jobs[task];
+        let answer = admission_test(
+            on.columns.separation[task],
+            on.columns.budget[task],
+            release.tick,
+            release.demand,
+            held,
+            self.released[task],
+            self.last[task],
+        );
+        let Answer::Accepted = answer else {
+            put_refused(out, e, number(answer));
+            return false;
+        };
+        self.pending.owners[16 * task + held] = e as u32;
+        self.pending.jobs[task] = held + 1;
+        self.released[task] = true;
+        self.last[task] = release.tick;
+        if held == 0 {
+            self.pending.heads.insert(
+                head_key(release.tick, on.columns.offset[task], task),
+                release.demand,
+            );
+        }
+        true
     }
-    let held = jobs[task];
-    let answer = admission_test(
-        separations[task],
-        budgets[task],
-        tick,
-        demand,
-        held,
-        released[task],
-        last[task],
-    );
-    let Answer::Accepted = answer else {
-        put_refused(out, e, number(answer));
-        return stay(tick, heads, 0);
-    };
-    owners[16 * task + held] = e as u32;
-    jobs[task] = held + 1;
-    released[task] = true;
-    last[task] = tick;
-    if held != 0 {
-        return stay(tick, heads, 1);
-    }
-    insert(
-        key,
-        left,
-        heads,
-        head_key(tick, offsets[task], task),
-        demand,
-    );
-    stay(tick, heads + 1, 1)
-}
 
-// Enters entry `e`: one that goes back is refused 17 and handed to no call; for any other the run goes on to its tick, and hands over its
-// release.
-pub fn enter(
-    log: &[u8],
-    e: usize,
-    clock: u32,
-    cores: usize,
-    tasks: usize,
-    separations: &[u32; 16],
-    budgets: &[u32; 16],
-    offsets: &[u32; 16],
-    jobs: &mut [usize; 16],
-    released: &mut [bool; 16],
-    last: &mut [u32; 16],
-    owners: &mut [u32; 256],
-    key: &mut [u64; 16],
-    left: &mut [u32; 16],
-    heads: usize,
-    out: &mut [u8],
-) -> Place
-    requires { (length key.old ≡ 16) × (length left.old ≡ 16)
-        × ((p : Plan) × ((out₀ : List ℕ)
-        × Entering p out₀ log.now e clock cores tasks separations.now budgets.now offsets.now
-        (arrays jobs.old owners.old key.old left.old heads out.old) released.old last.old)) }
-    ensures { (length key.new ≡ 16) × (length left.new ≡ 16)
-        × Enters log.now e clock cores tasks separations.now budgets.now offsets.now
-        (arrays jobs.old owners.old key.old left.old heads out.old)
-        released.old last.old result.clock result.taken
-        (arrays jobs.new owners.new key.new left.new result.heads out.new)
-        released.new last.new }
-{
-    let entry = release_at(log, e);
-    let tick = entry.tick;
-    if tick < clock {
-        put_refused(out, e, refusal::TICK_GOES_BACK);
-        return stay(clock, heads, 0);
+    // Enters entry `e`, and answers whether it is taken: one that goes back is refused 17 and handed to no call; for any other the run goes on to
+    // its tick, and hands over its release.
+    pub fn enter(&mut self, e: usize, on: &Setup, out: &mut [u8]) -> bool
+        requires { (p : Plan) × ((out₀ : List ℕ)
+            × Entering p out₀ on.now.log.now e self.old.pending.clock on.now.cores
+            on.now.tasks on.now.columns.separation on.now.columns.budget on.now.columns.offset
+            (arrays_of self.old.pending out.old) self.old.released self.old.last) }
+        ensures { Enters on.now.log.now e self.old.pending.clock on.now.cores
+            on.now.tasks on.now.columns.separation on.now.columns.budget on.now.columns.offset
+            (arrays_of self.old.pending out.old) self.old.released self.old.last self.new.pending.clock (from_bool result)
+            (arrays_of self.new.pending out.new) self.new.released self.new.last }
+    {
+        let release = release_at(on.log, e);
+        if release.tick < self.pending.clock {
+            put_refused(out, e, refusal::TICK_GOES_BACK);
+            false
+        } else {
+            self.pending.advance(release.tick, on, out);
+            self.hand(e, &release, on, out)
+        }
     }
-    let heads = advance(
-        clock, tick, cores, log, offsets, jobs, owners, key, left, heads, out,
-    );
-    hand(
-        e,
-        tick,
-        entry.task,
-        entry.demand,
-        tasks,
-        separations,
-        budgets,
-        offsets,
-        jobs,
-        released,
-        last,
-        owners,
-        key,
-        left,
-        heads,
-        out,
-    )
 }

@@ -1,20 +1,19 @@
 // The run of a log's bytes on a table's.
-ghost use Rattle.std.specs.Prelude.{◌≡◌, List, ℕ, ◌+◌, ◌*◌, ◌<◌, length};
+ghost use Rattle.std.specs.Prelude.{◌≡◌, ◌+◌, ◌*◌, ◌<◌, length};
 ghost use Rattle.tasks.specs.Content.{content_of};
 ghost use Rattle.history.specs.Report.{report};
 ghost use Rattle.history.specs.OnMachine.{machine_engine};
 ghost use Rattle.logs.specs.LogBytes.{entries_in, reports_to};
 ghost use Rattle.logs.specs.LogStages.{answer_of_entries};
-ghost use Rattle.running.specs.Running.{arrays};
 ghost use Rattle.running.specs.Entered.{Fitting};
-ghost use Rattle.running.specs.RunCode.{taken_to, Begun, EntersTo, Started, Runs};
+ghost use Rattle.running.specs.RunCode.{taken_to, Started, Runs};
 ghost use Rattle.replay.specs.declared.run.Ran.{Ran};
 ghost use Rattle.replay.specs.Ran.{ran_of, run_leaves};
 
-use entry::{Place, enter};
+use entry::Run;
 use fields::columns::split;
 use logs::read::{Entries, read_entries};
-use onward::advance;
+use onward::Setup;
 use table::judge;
 use tasks::{Answer, Plan, limits, refusal};
 
@@ -26,121 +25,22 @@ pub struct Ran {
     pub refused: usize,
 }
 
-// Enters all entries of a log, one after the other. Answers the clock after them, and how many were taken.
-fn enter_all(
-    log: &[u8],
-    count: usize,
-    cores: usize,
-    tasks: usize,
-    separations: &[u32; 16],
-    budgets: &[u32; 16],
-    offsets: &[u32; 16],
-    jobs: &mut [usize; 16],
-    released: &mut [bool; 16],
-    last: &mut [u32; 16],
-    owners: &mut [u32; 256],
-    key: &mut [u64; 16],
-    left: &mut [u32; 16],
-    out: &mut [u8],
-) -> Place
-    requires { (length key.old ≡ 16) × (length left.old ≡ 16)
-        × ((p : Plan) × ((out₀ : List ℕ)
-        × Begun p out₀ log.now count cores tasks separations.now budgets.now offsets.now
-        (arrays jobs.old owners.old key.old left.old 0 out.old) released.old last.old)) }
-    ensures { (length key.new ≡ 16) × (length left.new ≡ 16)
-        × EntersTo log.now count cores tasks separations.now budgets.now offsets.now
-        (arrays jobs.old owners.old key.old left.old 0 out.old)
-        released.old last.old count result.clock result.taken
-        (arrays jobs.new owners.new key.new left.new result.heads out.new)
-        released.new last.new }
+// All entries of a log, one after the other, and then so many ticks that nothing is pending. Answers how many entries were taken.
+fn run_all(count: usize, on: &Setup, out: &mut [u8]) -> usize
+    requires { (p : Plan) × Started p out.old on.now.log.now count on.now.cores
+        on.now.tasks on.now.columns.separation on.now.columns.budget on.now.columns.offset }
+    ensures { Runs on.now.log.now count on.now.cores
+        on.now.tasks on.now.columns.separation on.now.columns.budget on.now.columns.offset out.old result out.new }
 {
-    let mut clock = 0u32;
-    let mut heads = 0;
+    let mut run = Run::new();
     let mut taken = 0;
     for e in 0..count {
-        let place = enter(
-            log,
-            e,
-            clock,
-            cores,
-            tasks,
-            separations,
-            budgets,
-            offsets,
-            jobs,
-            released,
-            last,
-            owners,
-            key,
-            left,
-            heads,
-            out,
-        );
-        clock = place.clock;
-        heads = place.heads;
-        taken += place.taken;
+        taken += usize::from(run.enter(e, on, out));
     }
-    Place {
-        clock,
-        heads,
-        taken,
-    }
-}
-
-// All entries of a log, and then so many ticks that nothing is pending. Answers how many entries were taken.
-fn run_all(
-    log: &[u8],
-    count: usize,
-    cores: usize,
-    tasks: usize,
-    separations: &[u32; 16],
-    budgets: &[u32; 16],
-    offsets: &[u32; 16],
-    out: &mut [u8],
-) -> usize
-    requires { (p : Plan) × Started p out.old log.now count cores tasks separations.now budgets.now offsets.now }
-    ensures { Runs log.now count cores tasks separations.now budgets.now offsets.now out.old result
-        out.new }
-{
-    let mut jobs = [0usize; 16];
-    let mut released = [false; 16];
-    let mut last = [0u32; 16];
-    let mut owners = [0u32; 256];
-    let mut key = [0u64; 16];
-    let mut left = [0u32; 16];
-    let place = enter_all(
-        log,
-        count,
-        cores,
-        tasks,
-        separations,
-        budgets,
-        offsets,
-        &mut jobs,
-        &mut released,
-        &mut last,
-        &mut owners,
-        &mut key,
-        &mut left,
-        out,
-    );
-    let clock = place.clock;
     // No job is pending so many ticks after the last release.
-    let to = clock + limits::BOUND_HIGH;
-    advance(
-        clock,
-        to,
-        cores,
-        log,
-        offsets,
-        &mut jobs,
-        &mut owners,
-        &mut key,
-        &mut left,
-        place.heads,
-        out,
-    );
-    place.taken
+    let to = run.pending.clock + limits::BOUND_HIGH;
+    run.pending.advance(to, on, out);
+    taken
 }
 
 // Runs a log, which fits the lent answer, on an accepted plan. Answers how many entries were taken.
@@ -152,22 +52,13 @@ fn replay(plan: Plan, log: &[u8], count: usize, out: &mut [u8]) -> usize
         ≡ reports_to (report (machine_engine (content_of plan).tasks) (entries_in log.now)) (length (entries_in log.now))
         out.old) }
 {
-    let tasks = plan.tasks;
-    let task = plan.task;
-    let columns = split(task, tasks);
-    let separations = columns.separation;
-    let budgets = columns.budget;
-    let offsets = columns.offset;
-    run_all(
+    let on = Setup {
         log,
-        count,
-        plan.cores,
-        tasks,
-        &separations,
-        &budgets,
-        &offsets,
-        out,
-    )
+        cores: plan.cores,
+        tasks: plan.tasks,
+        columns: split(plan.task, plan.tasks),
+    };
+    run_all(count, &on, out)
 }
 
 fn refused(answer: Answer) -> Ran

@@ -5,14 +5,14 @@ use Rattle.running.specs.RunCode.{plan-few, run_begun}
 use mathlib.Core.Path.{ap}
 use Rattle.replay.proofs.run.replay.Goals as goal
 
-pub split-columns-requires : goal.split-columns-requires
-split-columns-requires c = let b = c in plan-few b.args.plan b.requires.0.accepted
+pub split-requires : goal.split-requires
+split-requires c = let b = c in plan-few b.args.plan b.requires.0.accepted
 
 pub run_all-requires : goal.run_all-requires
 unfolding columns_of
 run_all-requires c =
     let b = c in
-    let s = c.split-columns.ensures in (
+    let s = c.split.ensures in (
       b.args.plan,
       run_begun b.requires.0 b.requires.1 b.requires.2
           (ap (λ (x : Columns). x.separation) s) (ap (λ (x : Columns). x.budget) s) (ap (λ (x : Columns). x.offset) s),
@@ -22,7 +22,7 @@ pub returns : goal.returns
 unfolding columns_of
 returns c =
     let b = c in
-    let s = c.split-columns.ensures in
+    let s = c.split.ensures in
     c.run_all.ensures b.args.plan
     (run_begun b.requires.0 b.requires.1 b.requires.2
     (ap (λ (x : Columns). x.separation) s) (ap (λ (x : Columns). x.budget) s) (ap (λ (x : Columns). x.offset) s))
