@@ -22,12 +22,12 @@ use tidy::tidy_slack;
 // that slack first.
 #[derive(Clone, Copy)]
 pub struct Tested {
-    pub answer: Answer,
+    pub answer: Result<(), Refusal>,
     pub slack: [u32; 16],
     pub names: [u8; 16],
 }
 
-fn untested(answer: Answer) -> Tested
+fn untested(answer: Result<(), Refusal>) -> Tested
     ensures { result.answer ≡ answer }
 {
     Tested {
@@ -56,13 +56,10 @@ fn offered(
     let whole = amount(share, offset, &used, &mut names, surplus, cores - 1, tasks);
     let bad = first_uncovered(&used, budget, whole, multiple, cores as u64, tasks);
     if bad < tasks {
-        return untested(Answer::Refused {
-            number: refusal::SLACK_NOT_COMPLIANT,
-            index: bad as u16,
-        });
+        return untested(Err(Rule::SlackNotCompliant.at(bad as u16)));
     }
     Tested {
-        answer: Answer::Accepted,
+        answer: Ok(()),
         slack: used,
         names,
     }
@@ -86,7 +83,7 @@ fn unoffered(
         share, budget, offset, &mut names, multiple, surplus, cores, tasks,
     );
     Tested {
-        answer: Answer::Accepted,
+        answer: Ok(()),
         slack,
         names,
     }
@@ -98,16 +95,13 @@ fn own_cores(offers: usize) -> Tested
 {
     if offers == 0 {
         return Tested {
-            answer: Answer::Accepted,
+            answer: Ok(()),
             slack: [0; 16],
             names: [0; 16],
         };
     }
     Tested {
-        answer: Answer::Refused {
-            number: refusal::SLACK_COUNT_WRONG,
-            index: 0,
-        },
+        answer: Err(Rule::SlackCountWrong.at(0)),
         slack: [0; 16],
         names: [0; 16],
     }
@@ -128,7 +122,7 @@ fn test_rated(
 {
     let rates = rate(separation, budget, offset, cores, tasks);
     let rated = rates.answer;
-    let Answer::Accepted = rated else {
+    let Ok(()) = rated else {
         return untested(rated);
     };
     if core_for_each(cores, tasks) {
@@ -147,10 +141,7 @@ fn test_rated(
         );
     }
     if offers != tasks {
-        return untested(Answer::Refused {
-            number: refusal::SLACK_COUNT_WRONG,
-            index: 0,
-        });
+        return untested(Err(Rule::SlackCountWrong.at(0)));
     }
     offered(
         &share,
@@ -172,7 +163,7 @@ fn test_tasks(plan: Plan, offers: usize) -> Tested
     let tasks = plan.tasks;
     let task = plan.task;
     let fielded = task_ranges(task, tasks, plan.edition);
-    let Answer::Accepted = fielded else {
+    let Ok(()) = fielded else {
         return untested(fielded);
     };
     let columns = split(task, tasks);
@@ -197,7 +188,7 @@ pub fn test_slack(plan: Plan, offers: usize) -> Tested
 {
     let labels = plan.labels;
     let framed = frame(plan.cores, &labels, plan.tasks, false);
-    let Answer::Accepted = framed else {
+    let Ok(()) = framed else {
         return untested(framed);
     };
     test_tasks(plan, offers)

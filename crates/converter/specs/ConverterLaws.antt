@@ -19,7 +19,7 @@ use Rattle.laws.specs.Tab.{tab}
 use Rattle.laws.specs.TabLaws.{tab_ext, get_or-tab}
 use Rattle.tasks.specs.declared.Task.{Task}
 use Rattle.tasks.specs.declared.Plan.{Plan}
-use Rattle.tasks.specs.declared.Answer.TheVariants.{Accepted, Refused}
+use Rattle.tasks.specs.Answer.{Accepted, Refused}
 use Rattle.tasks.specs.TaskSet.{core_for_each}
 use Rattle.tasks.specs.Content.{has_deadlines, Content, no_task, task_of, content_of, plan_of}
 use Rattle.tasks.proofs.ContentLaws.{plan_ext, by_edition}

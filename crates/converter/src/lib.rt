@@ -61,37 +61,28 @@ fn first_unfit(task: [Task; 16], tasks: usize, edition: u8) -> usize
 }
 
 // 29 or 30, at the lowest task that meets it.
-fn test_way(task: [Task; 16], tasks: usize, edition: u8) -> Answer
+fn test_way(task: [Task; 16], tasks: usize, edition: u8) -> Result<(), Refusal>
     requires { tasks ≤ 16 }
     ensures { result ≡ way_test edition (task_of task) tasks }
 {
     let at = first_unfit(task, tasks, edition);
     if at == tasks {
-        return Answer::Accepted;
+        return Ok(());
     }
     let index = at as u16;
     if has_deadlines(edition) {
-        return Answer::Refused {
-            number: refusal::OFFSET_ZERO,
-            index,
-        };
+        return Err(Rule::OffsetZero.at(index));
     }
-    Answer::Refused {
-        number: refusal::DEADLINE_NOT_OFFSET,
-        index,
-    }
+    Err(Rule::DeadlineNotOffset.at(index))
 }
 
 // 31, "tested before 29 and 30".
-fn test_fit(cores: usize, task: [Task; 16], tasks: usize, edition: u8) -> Answer
+fn test_fit(cores: usize, task: [Task; 16], tasks: usize, edition: u8) -> Result<(), Refusal>
     requires { tasks ≤ 16 }
     ensures { result ≡ fit_test edition cores (task_of task) tasks }
 {
     if core_for_each(cores, tasks) {
-        return Answer::Refused {
-            number: refusal::TASKS_TOO_FEW,
-            index: 0,
-        };
+        return Err(Rule::TasksTooFew.at(0));
     }
     test_way(task, tasks, edition)
 }
@@ -142,14 +133,14 @@ pub fn convert(table: &[u8], edition: u32, out: &mut [u8]) -> Written
     }
     let judgement = judge(table);
     let answer = judgement.answer;
-    let Answer::Accepted = answer else {
+    let Ok(()) = answer else {
         return unwritten(answer);
     };
     let plan = judgement.plan;
     let wanted = edition as u8;
     let task = plan.task;
     let tested = test_fit(plan.cores, task, plan.tasks, wanted);
-    let Answer::Accepted = tested else {
+    let Ok(()) = tested else {
         return unwritten(tested);
     };
     write_accepted(convert_plan(plan, wanted), out)

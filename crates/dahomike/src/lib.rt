@@ -77,20 +77,17 @@ fn entry_size(wishes: bool) -> usize
 }
 
 // A plan's answer: its number of tasks, and each task's entry in `out`; or the refusal, 24 last.
-fn answered(answer: Answer, plan: Plan, out: &mut [u8], wishes: bool) -> u64
+fn answered(answer: Result<(), Refusal>, plan: Plan, out: &mut [u8], wishes: bool) -> u64
     requires { answer ≡ Answer.Accepted → (c : Content) × Reported c plan }
     ensures { (result ≡ answer_number (room_test wishes answer plan.tasks (length out.old)) plan.tasks)
         × (out.new ≡ unless_refused (room_test wishes answer plan.tasks (length out.old)) (sets out.old 0 (entries (entry_of wishes plan) plan.tasks)) out.old) }
 {
-    let Answer::Accepted = answer else {
+    let Ok(()) = answer else {
         return refused(answer);
     };
     let tasks = plan.tasks;
     if out.len() < entry_size(wishes) * tasks {
-        return refused(Answer::Refused {
-            number: refusal::BUFFER_TOO_SHORT,
-            index: 0,
-        });
+        return refused(Err(Rule::BufferTooShort.at(0)));
     }
     report(plan, out, wishes);
     tasks as u64
@@ -122,15 +119,12 @@ pub fn dahomike_counted(table: &[u8], out: &mut [u8]) -> u64
 {
     let judgement = judge(table);
     let answer = judgement.answer;
-    let Answer::Accepted = answer else {
+    let Ok(()) = answer else {
         return refused(answer);
     };
     let count = judgement.count;
     if out.len() < count {
-        return refused(Answer::Refused {
-            number: refusal::BUFFER_TOO_SHORT,
-            index: 0,
-        });
+        return refused(Err(Rule::BufferTooShort.at(0)));
     }
     let counted = judgement.counted;
     put_words(out, 0, &counted[..count]);
@@ -144,7 +138,7 @@ pub fn dahomike_run_log(table: &[u8], log: &[u8], out: &mut [u8]) -> u64
 {
     let ran = run_log(table, log, out);
     let answer = ran.answer;
-    let Answer::Accepted = answer else {
+    let Ok(()) = answer else {
         return refused(answer);
     };
     (ran.taken as u64) + 65536 * (ran.refused as u64)

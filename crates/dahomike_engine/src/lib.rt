@@ -20,10 +20,7 @@ use tasks::{Answer, refusal};
 fn misfit() -> u64
     ensures { result ≡ answer_number (Answer.Refused 18 0) 0 }
 {
-    refused(Answer::Refused {
-        number: refusal::STATE_NOT_SOUND,
-        index: 0,
-    })
+    refused(Err(Rule::StateNotSound.at(0)))
 }
 
 // The words behind the plan's: a release and a step leave the plan as it is.
@@ -64,7 +61,7 @@ pub extern "C" fn dahomike_engine_open(table: &[u8], state: &mut [u32; 653]) -> 
 {
     let judgement = judge(table);
     let answer = judgement.answer;
-    let Answer::Accepted = answer else {
+    let Ok(()) = answer else {
         return refused(answer);
     };
     let plan = judgement.plan;
@@ -85,7 +82,7 @@ pub extern "C" fn dahomike_engine_release(state: &mut [u32; 653], task: u32, dem
     }
     let done = release(read(state), task as usize, demand);
     let answer = done.answer;
-    let Answer::Accepted = answer else {
+    let Ok(()) = answer else {
         return refused(answer);
     };
     let after = done.state;
@@ -130,7 +127,7 @@ pub extern "C" fn dahomike_engine_step(
     let answer = done.answer;
     let ran = done.runs;
     let finished = done.responses;
-    let Answer::Accepted = answer else {
+    let Ok(()) = answer else {
         return refused(answer);
     };
     put_machine(

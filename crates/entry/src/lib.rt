@@ -26,11 +26,11 @@ pub struct Place {
     pub taken: usize,
 }
 
-fn number(answer: Answer) -> u8
+fn number(answer: Result<(), Refusal>) -> u8
     ensures { result ≡ number_of answer }
 {
     match answer {
-        Answer::Accepted => 0,
+        Ok(()) => 0,
         Answer::Refused { number, index: _ } => number,
     }
 }
@@ -90,7 +90,7 @@ fn hand(
         released[task],
         last[task],
     );
-    let Answer::Accepted = answer else {
+    let Ok(()) = answer else {
         put_refused(out, e, number(answer));
         return stay(tick, heads, 0);
     };

@@ -21,7 +21,7 @@ use tasks::{Answer, Plan, limits, refusal};
 // A log run: Accepted, with how many entries were taken and how many refused, or refused, with zeros.
 #[derive(Clone, Copy)]
 pub struct Ran {
-    pub answer: Answer,
+    pub answer: Result<(), Refusal>,
     pub taken: usize,
     pub refused: usize,
 }
@@ -172,7 +172,7 @@ fn replay(plan: Plan, log: &[u8], count: usize, out: &mut [u8]) -> usize
     )
 }
 
-fn refused(answer: Answer) -> Ran
+fn refused(answer: Result<(), Refusal>) -> Ran
     ensures { ◌≡◌ {A = Ran} result (record { answer = answer; taken = 0; refused = 0 }) }
 {
     Ran {
@@ -183,11 +183,11 @@ fn refused(answer: Answer) -> Ran
 }
 
 // The refusal of the log's reader.
-fn unread(entries: Entries) -> Answer
+fn unread(entries: Entries) -> Result<(), Refusal>
     ensures { result ≡ answer_of_entries entries }
 {
     match entries {
-        Entries::Read { count: _ } => Answer::Accepted,
+        Entries::Read { count: _ } => Ok(()),
         Entries::Refused { number, index } => Answer::Refused { number, index },
     }
 }
@@ -200,7 +200,7 @@ pub fn run_log(table: &[u8], log: &[u8], out: &mut [u8]) -> Ran
 {
     let judgement = judge(table);
     let answer = judgement.answer;
-    let Answer::Accepted = answer else {
+    let Ok(()) = answer else {
         return refused(answer);
     };
     let entries = read_entries(log);
@@ -208,14 +208,11 @@ pub fn run_log(table: &[u8], log: &[u8], out: &mut [u8]) -> Ran
         return refused(unread(entries));
     };
     if out.len() < 8 * count {
-        return refused(Answer::Refused {
-            number: refusal::ANSWER_TOO_SHORT,
-            index: 0,
-        });
+        return refused(Err(Rule::AnswerTooShort.at(0)));
     }
     let taken = replay(judgement.plan, log, count, out);
     Ran {
-        answer: Answer::Accepted,
+        answer: Ok(()),
         taken,
         refused: count - taken,
     }

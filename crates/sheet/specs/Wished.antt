@@ -2,7 +2,7 @@
 --     wish_verdict    the first refusal that the bytes meet
 --     wish_of         that answer, and the plan found
 use Rattle.std.specs.Prelude.{ℕ, List, [], ◌∷◌}
-use Rattle.tasks.specs.declared.Answer.{Answer}
+use Rattle.tasks.specs.Answer.{Answer}
 use Rattle.tasks.specs.Content.{plan_of, zero_plan}
 use Rattle.tasks.specs.Tests.{first_met, unless_refused}
 use Rattle.codec.specs.Table.{content_in, test1, test2}

@@ -5,7 +5,7 @@
 --     verdict-past   past 1 and 2 the verdict is that of the tests
 --     sheet-refused  a sheet that meets 1 or 2
 --     sheet-from     one that meets neither
-use Rattle.std.specs.Prelude.{ℕ, ◌+◌, ◌-◌, ◌≤◌, ◌<◌, min, ◌≡◌, false, List, [], ◌∷◌}
+use Rattle.std.specs.Prelude.{Ok, Err, ℕ, ◌+◌, ◌-◌, ◌≤◌, ◌<◌, min, ◌≡◌, false, List, [], ◌∷◌}
 use Rattle.std.proofs.Math.Path.{refl, sym}
 use Rattle.std.proofs.Common.{ap, ap₂, ◌∙◌, ⊎_elim, arith}
 use Rattle.laws.specs.EveryLaws.{below_or_not}
@@ -13,8 +13,8 @@ use Rattle.laws.specs.Tab.{tab, cut}
 use Rattle.laws.specs.TabLaws.{tab_ext, get_or-tab, cut_below, cut-above}
 use Rattle.tasks.specs.declared.Task.{Task}
 use Rattle.tasks.specs.declared.Plan.{Plan}
-use Rattle.tasks.specs.declared.Answer.{Answer}
-use Rattle.tasks.specs.declared.Answer.TheVariants.{Accepted, Refused}
+use Rattle.tasks.specs.Answer.{Answer}
+use Rattle.tasks.specs.Answer.{Accepted, Refused}
 use Rattle.tasks.specs.TaskSet.{TaskSet, row}
 use Rattle.tasks.specs.Content.{in_edition, Content, no_task, task_of, content_of, plan_of, zero_plan}
 use Rattle.tasks.proofs.ContentLaws.{used-task, plan_ext}
@@ -193,7 +193,7 @@ module _ (t : List ℕ) where
           (a : Answer) → r.answer ≡ a
           → unless_refused r.answer (plan_with (loaded t) (slack_count t)) zero_plan
           ≡ unless_refused (wish_verdict t) (plan_of (solved (content_in t))) zero_plan
-      plan-same Accepted e =
+      plan-same (Ok tt) e =
           let v : wish_verdict t ≡ Accepted = sym same ∙ e in
           rw (e, v) (with_in (few_in (sym (verdict-past c) ∙ v)))
-      plan-same (Refused k i) e = let v : wish_verdict t ≡ Refused k i = sym same ∙ e in rw (e, v)
+      plan-same (Err r) e = let v : wish_verdict t ≡ Err r = sym same ∙ e in rw (e, v)

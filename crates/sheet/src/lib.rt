@@ -19,11 +19,11 @@ use wish_search::solve::solve_plan;
 // The plan that is found for a sheet, marked as found; of zeros where the sheet is refused.
 #[derive(Clone, Copy)]
 pub struct Wished {
-    pub answer: Answer,
+    pub answer: Result<(), Refusal>,
     pub plan: Plan,
 }
 
-fn refused(answer: Answer) -> Wished
+fn refused(answer: Result<(), Refusal>) -> Wished
     ensures { (result.answer ≡ answer) × (result.plan ≡ zero_plan) }
 {
     let plan = no_plan();
@@ -57,7 +57,7 @@ fn wish_plan(plan: Plan, offers: usize) -> Wished
 {
     let solved = solve_plan(plan, offers);
     let answer = solved.answer;
-    let Answer::Accepted = answer else {
+    let Ok(()) = answer else {
         return refused(answer);
     };
     let wishing = plan.task;
@@ -69,7 +69,7 @@ fn wish_plan(plan: Plan, offers: usize) -> Wished
     found.task = task;
     found.slack = slack;
     Wished {
-        answer: Answer::Accepted,
+        answer: Ok(()),
         plan: found,
     }
 }

@@ -7,12 +7,11 @@ ghost use Rattle.fields.specs.Columns.{set_from};
 ghost use Rattle.slack.specs.Rates.{Ranges, Rated};
 
 use multiple::{MULTIPLE_HIGH, common_multiple, wide};
-use tasks::{Answer, refusal};
+use tasks::{Refusal, Rule};
 
-// The rates of a task set that meets none of 6 to 10; zeros where the answer is a refusal.
+// The rates of a task set that meets none of 6 to 10.
 #[derive(Clone, Copy)]
 pub struct Rates {
-    pub answer: Answer,
     pub multiple: u64,
     pub surplus: u64,
     pub share: [u64; 16],
@@ -62,41 +61,29 @@ pub fn surplus_of(
     all
 }
 
-fn refused(number: u8) -> Rates
-    ensures { result.answer ≡ Answer.Refused number 0 }
-{
-    Rates {
-        answer: Answer::Refused { number, index: 0 },
-        multiple: 0,
-        surplus: 0,
-        share: [0; 16],
-    }
-}
-
 pub fn rate(
     separation: &[u32; 16],
     budget: &[u32; 16],
     offset: &[u32; 16],
     cores: usize,
     tasks: usize,
-) -> Rates
+) -> Result<Rates, Refusal>
     requires { Ranges (set_from cores tasks separation.now budget.now offset.now) }
     ensures { Rated (set_from cores tasks separation.now budget.now offset.now) result }
 {
     let multiple = common_multiple(separation, tasks);
     if MULTIPLE_HIGH < multiple {
-        return refused(refusal::HYPERPERIOD_TOO_LARGE);
+        return Err(Rule::HyperperiodTooLarge.at(0));
     }
     let share = shares(separation, budget, multiple, tasks);
     let all = total(&share, tasks);
     if (cores as u64) * multiple < all {
-        return refused(refusal::SHARES_TOO_LARGE);
+        return Err(Rule::SharesTooLarge.at(0));
     }
     let surplus = surplus_of(&share, separation, offset, tasks);
-    Rates {
-        answer: Answer::Accepted,
+    Ok(Rates {
         multiple,
         surplus,
         share,
-    }
+    })
 }

@@ -27,7 +27,7 @@ pub fn sound(
     let task = plan.task;
     let slack = plan.slack;
     let answer = test(plan);
-    let Answer::Accepted = answer else {
+    let Ok(()) = answer else {
         return false;
     };
     if !labels_zero(&labels, cores) {

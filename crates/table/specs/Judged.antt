@@ -7,7 +7,7 @@
 --     slack_place       where they lie, from where the table lies
 use Rattle.std.specs.Prelude.{ℕ, ◌+◌, List, [], length, drop}
 use Rattle.laws.specs.Tab.{tab}
-use Rattle.tasks.specs.declared.Answer.{Answer}
+use Rattle.tasks.specs.Answer.{Answer}
 use Rattle.tasks.specs.declared.Plan.{Plan}
 use Rattle.tasks.specs.TaskSet.{row}
 use Rattle.tasks.specs.Content.{counted_of, plan_of, zero_plan}

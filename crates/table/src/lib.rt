@@ -10,7 +10,7 @@ pub use verdict::{judge, load, slack_part, uncounted};
 // A judgement's plan, of zeros where the table is refused, and beside it how many tasks were counted, and which, largest weight first.
 #[derive(Clone, Copy)]
 pub struct Judgement {
-    pub answer: Answer,
+    pub answer: Result<(), Refusal>,
     pub plan: Plan,
     pub count: usize,
     pub counted: [u8; 8],

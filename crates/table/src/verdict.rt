@@ -1,7 +1,7 @@
 // The judgement of a table's bytes, and the part of them that is its slack section.
 ghost use Rattle.std.specs.Prelude.{◌≡◌, cond, ◌-◌, ◌≤◌, ◌<◌};
 ghost use Rattle.tasks.specs.TaskSet.{core_for_each};
-ghost use Rattle.tasks.specs.declared.Answer.TheVariants.{Accepted};
+ghost use Rattle.tasks.specs.Answer.{Accepted};
 ghost use Rattle.codec.specs.Table.{slack_count, verdict};
 ghost use Rattle.table.specs.Judged.{judged, refused_with, slack_part, slack_place};
 ghost use Rattle.reader.specs.Counted.{answer_of_counts};
@@ -19,7 +19,7 @@ use tasks::{Answer, Plan};
 use tidy::{no_plan, tidy_bytes};
 
 // "A refused judgement … hands back a plan … of zeros", and "a refused one names none".
-fn refused(answer: Answer) -> Judgement
+fn refused(answer: Result<(), Refusal>) -> Judgement
     ensures { result ≡ refused_with answer }
 {
     let plan = no_plan();
@@ -67,12 +67,12 @@ fn judge_plan(plan: Plan, offers: usize) -> Judgement
 {
     let tested = test_slack(plan, offers);
     let answer = tested.answer;
-    let Answer::Accepted = answer else {
+    let Ok(()) = answer else {
         return refused(answer);
     };
     let slack = tested.slack;
     let bounded = plan_bounds(plan, slack);
-    let Answer::Accepted = bounded else {
+    let Ok(()) = bounded else {
         return refused(bounded);
     };
     let names = tested.names;
@@ -81,7 +81,7 @@ fn judge_plan(plan: Plan, offers: usize) -> Judgement
     let mut accepted = plan;
     accepted.slack = slack;
     Judgement {
-        answer: Answer::Accepted,
+        answer: Ok(()),
         plan: accepted,
         count,
         counted,
@@ -107,7 +107,7 @@ pub fn judge(table: &[u8]) -> Judgement
 }
 
 // The refusal of the reader's stage.
-pub fn uncounted(counts: Counts) -> Answer
+pub fn uncounted(counts: Counts) -> Result<(), Refusal>
     ensures { result ≡ answer_of_counts counts }
 {
     match counts {
@@ -116,7 +116,7 @@ pub fn uncounted(counts: Counts) -> Answer
             cores: _,
             tasks: _,
             offers: _,
-        } => Answer::Accepted,
+        } => Ok(()),
         Counts::Refused { number, index } => Answer::Refused { number, index },
     }
 }
@@ -128,7 +128,7 @@ pub fn slack_part(table: &[u8]) -> &[u8]
 {
     let judgement = judge(table);
     let answer = judgement.answer;
-    let Answer::Accepted = answer else {
+    let Ok(()) = answer else {
         return &table[..0];
     };
     let at = slack_from(

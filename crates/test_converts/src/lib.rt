@@ -44,8 +44,8 @@ fn say_tasks(from: Plan, to: Plan) {
     }
 }
 
-fn is_accepted(answer: Answer) -> bool {
-    let Answer::Accepted = answer else {
+fn is_accepted(answer: Result<(), Refusal>) -> bool {
+    let Ok(()) = answer else {
         return false;
     };
     true

@@ -43,9 +43,9 @@ pub fn same_state(a: State, b: State) -> bool {
 }
 
 // An answer as one number: 0 where nothing was refused.
-fn code(answer: Answer) -> u64 {
+fn code(answer: Result<(), Refusal>) -> u64 {
     match answer {
-        Answer::Accepted => 0,
+        Ok(()) => 0,
         Answer::Refused { number, index } => 65536 * number as u64 + index as u64,
     }
 }

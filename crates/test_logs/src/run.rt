@@ -57,7 +57,7 @@ fn say_run(ran: Ran, buffer: &[u8; 400])
 {
     let answer = ran.answer;
     match answer {
-        Answer::Accepted => {
+        Ok(()) => {
             say_counts(ran.taken, ran.refused);
             let count = ran.taken + ran.refused;
             say_entries(buffer, count);

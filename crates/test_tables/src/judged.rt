@@ -48,7 +48,7 @@ pub fn bytes(name: &[u8], table: &[u8]) {
     let plan = judgement.plan;
     let answer = judgement.answer;
     match answer {
-        Answer::Accepted => {
+        Ok(()) => {
             say_plan(plan);
             written::outcome(plan, 400, table);
         }

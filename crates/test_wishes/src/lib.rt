@@ -69,7 +69,7 @@ pub fn wished(name: &[u8], bytes: &[u8]) {
     let plan = found.plan;
     let answer = found.answer;
     match answer {
-        Answer::Accepted => say_plan(plan),
+        Ok(()) => say_plan(plan),
         Answer::Refused { number, index } => {
             say::refusal(b"wish", number, index);
             say::fact(b"the plan is of zeros", all_zero(plan));

@@ -3,7 +3,7 @@
 
 ghost use Rattle.std.specs.Prelude.{◌≡◌, ◌++◌, ℕ, ◌+◌, ◌-◌, ◌≤◌, ◌<◌, length, take, drop};
 ghost use Rattle.decimal.specs.Decimal.{Stored};
-ghost use Rattle.tasks.specs.declared.Answer.TheVariants.{Accepted};
+ghost use Rattle.tasks.specs.Answer.{Accepted};
 ghost use Rattle.tasks.specs.TaskSet.{row};
 ghost use Rattle.tasks.specs.Content.{late_of, content_of};
 ghost use Rattle.tasks.specs.Tests.{test_plan};

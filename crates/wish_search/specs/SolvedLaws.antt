@@ -13,7 +13,7 @@ use Rattle.laws.specs.FirstLaws.{first_le, first_holds, first-none}
 use Rattle.laws.specs.EveryLaws.{below_or_not}
 use Rattle.laws.specs.Tab.{tab, cut}
 use Rattle.laws.specs.TabLaws.{get_or-tab, tab_ext, cut_below, cut-above}
-use Rattle.tasks.specs.declared.Answer.TheVariants.{Accepted, Refused}
+use Rattle.tasks.specs.Answer.{Accepted, Refused}
 use Rattle.tasks.specs.TaskSet.{TaskSet, hyperperiod, share, row}
 use Rattle.tasks.specs.Limits.{Limits}
 use Rattle.tasks.specs.Tests.{or_next, first_met}

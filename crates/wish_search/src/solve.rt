@@ -16,12 +16,12 @@ use wish_offsets::{first_past, offsets, rooms};
 // The answer, and where it is no refusal the offsets and the slack, with zeros in unused places.
 #[derive(Clone, Copy)]
 pub struct Solved {
-    pub answer: Answer,
+    pub answer: Result<(), Refusal>,
     pub offset: [u32; 16],
     pub slack: [u32; 16],
 }
 
-fn unsolved(answer: Answer) -> Solved
+fn unsolved(answer: Result<(), Refusal>) -> Solved
     ensures { result.answer ≡ answer }
 {
     Solved {
@@ -48,14 +48,11 @@ fn solve(
     let widest = offsets(separation, &room, &none, tasks);
     let rates = rate(separation, budget, &widest, cores, tasks);
     let rated = rates.answer;
-    let Answer::Accepted = rated else {
+    let Ok(()) = rated else {
         return unsolved(rated);
     };
     if offers != 0 {
-        return unsolved(Answer::Refused {
-            number: refusal::SLACK_COUNT_WRONG,
-            index: 0,
-        });
+        return unsolved(Err(Rule::SlackCountWrong.at(0)));
     }
     let share = rates.share;
     let mut names = first_names();
@@ -70,14 +67,11 @@ fn solve(
         tasks,
     );
     if first_past(&slack, &room, tasks) < tasks {
-        return unsolved(Answer::Refused {
-            number: refusal::NO_SOLUTION,
-            index: 0,
-        });
+        return unsolved(Err(Rule::NoSolution.at(0)));
     }
     let offset = offsets(separation, &room, &slack, tasks);
     Solved {
-        answer: Answer::Accepted,
+        answer: Ok(()),
         offset,
         slack,
     }
@@ -91,7 +85,7 @@ fn solve_tasks(plan: Plan, offers: usize) -> Solved
     let tasks = plan.tasks;
     let task = plan.task;
     let fielded = wish_ranges(task, tasks, plan.edition);
-    let Answer::Accepted = fielded else {
+    let Ok(()) = fielded else {
         return unsolved(fielded);
     };
     let columns = split(task, tasks);
@@ -107,7 +101,7 @@ pub fn solve_plan(plan: Plan, offers: usize) -> Solved
 {
     let labels = plan.labels;
     let framed = frame(plan.cores, &labels, plan.tasks, true);
-    let Answer::Accepted = framed else {
+    let Ok(()) = framed else {
         return unsolved(framed);
     };
     solve_tasks(plan, offers)

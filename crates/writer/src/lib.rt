@@ -19,11 +19,11 @@ pub enum Written {
 }
 
 // The answer of a refused test, passed on.
-pub fn unwritten(answer: Answer) -> Written
+pub fn unwritten(answer: Result<(), Refusal>) -> Written
     ensures { (answer_of_written result ≡ answer) × (length_of_written result ≡ 0) }
 {
     match answer {
-        Answer::Accepted => Written::Length(0),
+        Ok(()) => Written::Length(0),
         Answer::Refused { number, index } => Written::Refused { number, index },
     }
 }
@@ -50,7 +50,7 @@ pub fn write(plan: Plan, out: &mut [u8]) -> Written
         × (out.new ≡ written_to plan out.old) }
 {
     let tested = test(plan);
-    let Answer::Accepted = tested else {
+    let Ok(()) = tested else {
         return unwritten(tested);
     };
     write_accepted(plan, out)

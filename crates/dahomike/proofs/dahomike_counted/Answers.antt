@@ -5,7 +5,7 @@ use mathlib.Core.List.{List}
 use native.Mathlib.Omega.{arith}
 use lib.ListN.{length}
 use lib.Seq.{length-take-le}
-use Rattle.tasks.specs.declared.Answer.{Answer}
+use Rattle.tasks.specs.Answer.{Answer}
 use Rattle.table.specs.declared.Judgement.{Judgement}
 use Rattle.table.specs.Judged.{judged}
 use Rattle.table.specs.NamesLaws.{names-count, names-few}

@@ -1,5 +1,5 @@
 -- `dahomike::dahomike_run_log` meets its contract.
-use Rattle.tasks.specs.declared.Answer.{Answer}
+use Rattle.tasks.specs.Answer.{Answer}
 use Rattle.dahomike_answer.specs.Number.{answer_number}
 use Rattle.dahomike.proofs.AnswerLaws.{run-refused, run_done}
 use mathlib.Core.Path.{ap, ◌∙◌}

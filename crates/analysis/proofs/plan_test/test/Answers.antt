@@ -2,8 +2,8 @@
 use mathlib.Core.Bool.{true, false}
 use mathlib.Core.Path.{◌≡◌, sym, ◌∙◌}
 use Rattle.tasks.specs.declared.Plan.{Plan}
-use Rattle.tasks.specs.declared.Answer.{Answer}
-use Rattle.tasks.specs.declared.Answer.TheVariants.{Refused}
+use Rattle.tasks.specs.Answer.{Answer}
+use Rattle.tasks.specs.Answer.{Refused}
 use Rattle.tasks.specs.Content.{content_of}
 use Rattle.tasks.specs.Tests.{bad_edition, tests, test_plan}
 use Rattle.analysis.proofs.plan_test.test.Goals as goal

@@ -6,8 +6,8 @@ use lib.Dec.{eqb}
 use Rattle.laws.specs.Tab.{tab}
 use Rattle.laws.specs.TabLaws.{cut_below}
 use Rattle.tasks.specs.declared.Plan.{Plan}
-use Rattle.tasks.specs.declared.Answer.{Answer}
-use Rattle.tasks.specs.declared.Answer.TheVariants.{Accepted, Refused}
+use Rattle.tasks.specs.Answer.{Answer}
+use Rattle.tasks.specs.Answer.{Accepted, Refused}
 use Rattle.tasks.specs.TaskSet.{row}
 use Rattle.tasks.specs.Content.{Content, content_of}
 use Rattle.tasks.specs.Tests.{or_next, first_met, test11, tests}

@@ -12,7 +12,7 @@ use Rattle.slack.specs.Rates.{Ranges, Rated, rates_test}
 use Rattle.slack.specs.Arrays.{ArraysOf}
 use Rattle.slack.specs.StageLaws.{Framed}
 use Rattle.analysis.specs.SlackTest.{Offered, Unoffered, RatesTested, slack_test}
-use Rattle.tasks.specs.declared.Answer.TheVariants.{Accepted, Refused}
+use Rattle.tasks.specs.Answer.{Accepted, Refused}
 use Rattle.fields.specs.Columns.{set_from}
 use Rattle.slack.specs.StageLaws.{arrays-of}
 use Rattle.analysis.specs.SlackTestLaws.{limits-from, passed_on, slack-none, slack-own, had-own, slack-count, slack-offered}
