@@ -13,8 +13,7 @@ use Rattle.std.proofs.lemmas.Bool.{not-false}
 use Rattle.laws.specs.Tab.{tab}
 use Rattle.laws.specs.TabLaws.{get_or-tab}
 use Rattle.tasks.specs.declared.Plan.{Plan}
-use Rattle.tasks.specs.Answer.{Answer}
-use Rattle.tasks.specs.Answer.{Accepted, Refused}
+use Rattle.tasks.specs.Answer.{Answer, Accepted, Refused}
 use Rattle.tasks.specs.TaskSet.{found, bound, row}
 use Rattle.tasks.specs.Content.{Content, content_of}
 use Rattle.tasks.specs.Tests.{first_met, or_next, found_test, bounds_test, test11, test12, test13, tests}

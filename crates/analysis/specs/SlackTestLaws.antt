@@ -17,8 +17,7 @@ use Rattle.laws.specs.Tab.{tab, cut}
 use Rattle.laws.specs.TabLaws.{tab_ext, tab_replicate, get_or-cut, cut_below, cut-map}
 use Rattle.tasks.specs.declared.Task.{Task}
 use Rattle.tasks.specs.declared.Plan.{Plan}
-use Rattle.tasks.specs.Answer.{Answer}
-use Rattle.tasks.specs.Answer.{Accepted, Refused}
+use Rattle.tasks.specs.Answer.{Answer, Accepted, Refused}
 use Rattle.tasks.specs.TaskSet.{TaskSet, plain_task, plain, counted, core_for_each, found, row}
 use Rattle.tasks.specs.PlainLaws.{plain-multiple, plain_shares, plain-counted, plain-compliant, plain-found}
 use Rattle.tasks.proofs.AmountLaws.{counted_ext}

@@ -9,7 +9,7 @@ ghost use Rattle.analysis.specs.PlanTest.{bounds_of, found_tests};
 use crate::slack_test::test_slack;
 use fields::bounds::bounds;
 use tasks::edition::is_unknown;
-use tasks::{Answer, Plan, refusal};
+use tasks::{Plan, Refusal, Rule};
 
 // The lowest task at which the two slacks differ, or `tasks` where there is none.
 fn first_other(slack: &[u32; 16], found: &[u32; 16], tasks: usize) -> usize
@@ -63,12 +63,7 @@ fn test_entries(plan: Plan) -> Result<(), Refusal>
     ensures { result ≡ tests (content_of plan) }
 {
     let offers = slack_count(plan.offered, plan.tasks);
-    let tested = test_slack(plan, offers);
-    let answer = tested.answer;
-    let Ok(()) = answer else {
-        return answer;
-    };
-    let had = tested.slack;
+    let had = test_slack(plan, offers)?.slack;
     if offers == 0 {
         return found_test(plan, had);
     }

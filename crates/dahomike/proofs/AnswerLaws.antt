@@ -12,8 +12,7 @@ use Rattle.std.proofs.Math.Bool.{true, false}
 use Rattle.std.proofs.Math.ListN.{length}
 use Rattle.std.proofs.lemmas.List.Edits.{sets}
 use borrow.Author.Tests.{lt-ltb, le-ltb}
-use Rattle.tasks.specs.Answer.{Answer}
-use Rattle.tasks.specs.Answer.{Accepted, Refused}
+use Rattle.tasks.specs.Answer.{Answer, Accepted, Refused}
 use Rattle.tasks.specs.Tests.{first_met, unless_refused, tests}
 use Rattle.tasks.specs.AnswerLaws.{first_met-passed}
 use Rattle.table.specs.declared.Judgement.{Judgement}

@@ -17,8 +17,7 @@ use borrow.Author.Tests.{lt-ltb, le-ltb, ltb-false}
 use Rattle.laws.specs.SetsLaws.{sets-whole}
 use Rattle.laws.specs.TabLaws.{get_or-tab}
 use Rattle.tasks.specs.declared.Plan.{Plan}
-use Rattle.tasks.specs.Answer.{Answer}
-use Rattle.tasks.specs.Answer.{Accepted, Refused}
+use Rattle.tasks.specs.Answer.{Answer, Accepted, Refused}
 use Rattle.tasks.specs.TaskSet.{bound, row}
 use Rattle.tasks.specs.Limits.{Bounded}
 use Rattle.tasks.specs.Content.{Content, plan_of, task_of}

@@ -11,8 +11,7 @@ use Rattle.laws.specs.Tab.{cut}
 use Rattle.laws.specs.TabLaws.{get_or-tab, cut-above}
 use Rattle.laws.specs.EveryLaws.{below_or_not}
 use Rattle.tasks.specs.declared.Plan.{Plan}
-use Rattle.tasks.specs.Answer.{Answer}
-use Rattle.tasks.specs.Answer.{Accepted, Refused}
+use Rattle.tasks.specs.Answer.{Answer, Accepted, Refused}
 use Rattle.tasks.specs.TaskSet.{row}
 use Rattle.tasks.specs.Content.{content_of, plan_of, tidy}
 use Rattle.tasks.specs.Tests.{bad_edition, test_plan, unless_refused}

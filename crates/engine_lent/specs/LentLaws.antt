@@ -14,8 +14,7 @@ use Rattle.std.proofs.lemmas.List.Edits.{sets}
 use Rattle.laws.specs.Tab.{tab}
 use Rattle.laws.specs.EveryLaws.{both}
 use Rattle.tasks.specs.declared.Plan.{Plan}
-use Rattle.tasks.specs.Answer.{Answer}
-use Rattle.tasks.specs.Answer.{Accepted, Refused}
+use Rattle.tasks.specs.Answer.{Answer, Accepted, Refused}
 use Rattle.tasks.specs.TaskSet.{row}
 use Rattle.tasks.specs.Tests.{first_met, test_plan}
 use Rattle.tasks.specs.AnswerLaws.{first_met-passed}

@@ -12,8 +12,7 @@ use native.Mathlib.Omega.{arith}
 use borrow.Author.Tests.{lt-ltb, le-ltb, ne_eqb, eqb-true}
 use Rattle.laws.specs.First.{first}
 use Rattle.laws.specs.FirstLaws.{first_or_none, none_more, found_at, found_stays}
-use Rattle.tasks.specs.Answer.{Answer}
-use Rattle.tasks.specs.Answer.{Accepted, Refused}
+use Rattle.tasks.specs.Answer.{Answer, Accepted, Refused}
 use Rattle.tasks.specs.Tests.{refuse_at, lowest, or_next, first_met, number_of, index_of}
 use Rattle.tasks.specs.declared.Task.{Task}
 use Rattle.tasks.specs.NumberLaws.{lowest-met}

@@ -16,8 +16,7 @@ use borrow.Author.Tests.{ltb-false, eqb-true, eq-eqb, ne_eqb, not-false}
 use Rattle.laws.specs.First.{first}
 use Rattle.laws.specs.FirstLaws.{first_le}
 use Rattle.laws.specs.TabLaws.{length-tab, get_or-tab}
-use Rattle.tasks.specs.Answer.{Answer}
-use Rattle.tasks.specs.Answer.{Accepted, Refused}
+use Rattle.tasks.specs.Answer.{Answer, Accepted, Refused}
 use Rattle.tasks.specs.Tests.{first_met, unless_refused}
 use Rattle.tasks.specs.AnswerLaws.{refuse-passed, lowest-passed, lowest-none, lowest-found, first_met-passed, first_met_pass, first_met-stop}
 use Rattle.history.specs.Log.{Entry, no_entry, tick_at, loop_at, demand_at}

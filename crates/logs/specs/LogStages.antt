@@ -4,8 +4,7 @@
 --     EntriesRead        the reader's answer to a log, by these
 --     Releases           a release handed over says what the log's entry e says
 use Rattle.std.specs.Prelude.{ℕ, ◌<◌, ◌≡◌, List}
-use Rattle.tasks.specs.Answer.{Answer}
-use Rattle.tasks.specs.Answer.{Accepted, Refused}
+use Rattle.tasks.specs.Answer.{Answer, Accepted, Refused}
 use Rattle.tasks.specs.Tests.{unless_refused}
 use Rattle.logs.specs.declared.read.Entries.{Entries}
 use Rattle.logs.specs.declared.read.Entries.TheVariants.{Read, Refused as NotRead}

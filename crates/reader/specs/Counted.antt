@@ -4,8 +4,7 @@
 --     edition_of_counts, cores_of_counts, tasks_of_counts, offers_of_counts    the edition and the counts that it answers, 0 where it is a refusal
 --     Counted           the stage's answer to a table, by these
 use Rattle.std.specs.Prelude.{ℕ, ◌≡◌, List, [], ◌∷◌}
-use Rattle.tasks.specs.Answer.{Answer}
-use Rattle.tasks.specs.Answer.{Accepted, Refused}
+use Rattle.tasks.specs.Answer.{Answer, Accepted, Refused}
 use Rattle.tasks.specs.Tests.{first_met, unless_refused}
 use Rattle.reader.specs.declared.Counts.{Counts}
 use Rattle.reader.specs.declared.Counts.TheVariants.{Read, Refused as NotRead}

@@ -15,8 +15,7 @@ use Rattle.std.proofs.Math.Dec.{leb}
 use borrow.Author.Tests.{leb-true, leb-false, le-leb, lt-leb, eqb-false, not-false}
 use Rattle.laws.specs.TabLaws.{length-tab, tab_replicate}
 use Rattle.tasks.specs.declared.Plan.{Plan}
-use Rattle.tasks.specs.Answer.{Answer}
-use Rattle.tasks.specs.Answer.{Accepted, Refused}
+use Rattle.tasks.specs.Answer.{Answer, Accepted, Refused}
 use Rattle.tasks.specs.TaskSet.{row}
 use Rattle.tasks.specs.Content.{task_of, tidy, zero_plan}
 use Rattle.tasks.specs.Tests.{or_next, first_met, test_plan}

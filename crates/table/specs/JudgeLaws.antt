@@ -14,8 +14,7 @@ use Rattle.laws.specs.Tab.{tab}
 use Rattle.laws.specs.TabLaws.{tab_ext}
 use Rattle.laws.specs.EveryLaws.{both}
 use Rattle.tasks.specs.declared.Plan.{Plan}
-use Rattle.tasks.specs.Answer.{Answer}
-use Rattle.tasks.specs.Answer.{Accepted, Refused}
+use Rattle.tasks.specs.Answer.{Answer, Accepted, Refused}
 use Rattle.tasks.specs.TaskSet.{TaskSet, counted, core_for_each, found, row}
 use Rattle.tasks.proofs.AmountLaws.{counted_ext}
 use Rattle.tasks.specs.Content.{Content, counted_of, content_of, plan_of, zero_plan}

@@ -14,8 +14,7 @@ use Rattle.std.proofs.Math.ListN.{length, get_or}
 use Rattle.laws.specs.TabLaws.{get_or-tab, take-tab}
 use Rattle.laws.specs.Member.{member}
 use Rattle.laws.specs.MemberLaws.{member-at}
-use Rattle.tasks.specs.Answer.{Answer}
-use Rattle.tasks.specs.Answer.{Accepted, Refused}
+use Rattle.tasks.specs.Answer.{Answer, Accepted, Refused}
 use Rattle.tasks.specs.TaskSet.{counted, core_for_each, row}
 use Rattle.tasks.specs.Content.{counted_of}
 use Rattle.tasks.specs.Tests.{tests}

@@ -15,8 +15,7 @@ use Rattle.std.proofs.Common.{◌∙◌, true≢false, ⊎_elim, arith}
 use borrow.Author.Tests.{ltb-false, lt-ltb, le-ltb}
 use Rattle.laws.specs.First.{first}
 use Rattle.laws.specs.FirstLaws.{first_or_none, first-none, none_first, first_ext}
-use Rattle.tasks.specs.Answer.{Answer}
-use Rattle.tasks.specs.Answer.{Accepted, Refused}
+use Rattle.tasks.specs.Answer.{Answer, Accepted, Refused}
 use Rattle.tasks.specs.Tests.{refuse, lowest, or_next, first_met, outside}
 
 pub refuse-passed : (k : ℕ) (b : Bool) → refuse k b ≡ Accepted → b ≡ false

@@ -12,8 +12,7 @@ use Rattle.std.proofs.Common.{sym, ap, ◌∙◌, true≢false, ⊎_elim}
 use Rattle.std.proofs.Math.Bool.{true, false}
 use Rattle.laws.specs.First.{first}
 use Rattle.laws.specs.FirstLaws.{first_or_none, first_holds, first-before, first_unique}
-use Rattle.tasks.specs.Answer.{Answer}
-use Rattle.tasks.specs.Answer.{Accepted, Refused}
+use Rattle.tasks.specs.Answer.{Answer, Accepted, Refused}
 use Rattle.tasks.specs.Content.{Content}
 use Rattle.tasks.specs.Tests.{refuse, refuse_at, lowest, first_met, number_of, index_of, bad_cores, bad_count, bad_multiple, bad_shares, bad_offers, test3, test4, test5, test6, test7, test8, test28, test9, test10, test11, test12, test13, tests}
 use Rattle.tasks.specs.AnswerLaws.{lowest-none, lowest-found}

@@ -12,8 +12,7 @@ use Rattle.laws.specs.First.{first}
 use Rattle.laws.specs.Sum.{sum}
 use Rattle.tasks.specs.declared.Task.{Task}
 use Rattle.tasks.specs.declared.Plan.{Plan}
-use Rattle.tasks.specs.Answer.{Answer}
-use Rattle.tasks.specs.Answer.{Accepted, Refused}
+use Rattle.tasks.specs.Answer.{Answer, Accepted, Refused}
 use Rattle.tasks.specs.Numbers.{separation_high, deadline_high, multiple_high}
 use Rattle.tasks.specs.TaskSet.{TaskSet, hyperperiod, share, covers, core_for_each, found, bound, row}
 use Rattle.tasks.specs.Content.{has_deadlines, Content, content_of}

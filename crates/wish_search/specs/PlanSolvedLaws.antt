@@ -7,8 +7,7 @@ use Rattle.std.proofs.Math.Bool.{true}
 use Rattle.std.proofs.Math.Path.{refl, sym, subst, ap, ap₂}
 use Rattle.std.proofs.Common.{◌∙◌}
 use Rattle.tasks.specs.declared.Plan.{Plan}
-use Rattle.tasks.specs.Answer.{Answer}
-use Rattle.tasks.specs.Answer.{Accepted, Refused}
+use Rattle.tasks.specs.Answer.{Answer, Accepted, Refused}
 use Rattle.tasks.specs.TaskSet.{TaskSet, plain, row}
 use Rattle.tasks.specs.Content.{Content, task_of, content_of}
 use Rattle.tasks.specs.Tests.{first_met, or_next, test3, test4, test6, test7, test28, test9, test10}

@@ -3,8 +3,7 @@
 --     answer_of_composed, length_of_composed    document 01's number and index, and the length, for each case of the answer
 --     sentence_length      the length that comes back, sentence_leaves the bytes that are left behind
 use Rattle.std.specs.Prelude.{ℕ, List, ◌++◌, length, drop, ltb}
-use Rattle.tasks.specs.Answer.{Answer}
-use Rattle.tasks.specs.Answer.{Accepted, Refused}
+use Rattle.tasks.specs.Answer.{Answer, Accepted, Refused}
 use Rattle.tasks.specs.Tests.{refuse, unless_refused}
 use Rattle.wording.specs.Sentence.{sentence_of}
 use Rattle.wording.specs.declared.Composed.{Composed}

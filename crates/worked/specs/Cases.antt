@@ -13,8 +13,7 @@ use Prim.Native.String.{String}
 use Rattle.laws.specs.Every.{same_list}
 use Rattle.laws.specs.Tab.{tab}
 use Rattle.tasks.specs.declared.Task.{Task}
-use Rattle.tasks.specs.Answer.{Answer}
-use Rattle.tasks.specs.Answer.{Accepted, Refused}
+use Rattle.tasks.specs.Answer.{Answer, Accepted, Refused}
 use Rattle.tasks.specs.TaskSet.{plain_task as loop, row, bound}
 use Rattle.tasks.specs.Content.{task_of}
 use Rattle.tasks.specs.Tests.{unless_refused}

@@ -4,8 +4,7 @@
 --     written_length    the writer's length, written_to the bytes that it leaves behind
 use Rattle.std.specs.Prelude.{ℕ, List, [], ◌∷◌, ◌++◌, length, drop, ltb}
 use Rattle.tasks.specs.declared.Plan.{Plan}
-use Rattle.tasks.specs.Answer.{Answer}
-use Rattle.tasks.specs.Answer.{Accepted, Refused}
+use Rattle.tasks.specs.Answer.{Answer, Accepted, Refused}
 use Rattle.tasks.specs.Content.{content_of}
 use Rattle.tasks.specs.Tests.{refuse, first_met, unless_refused, test_plan}
 use Rattle.writer.specs.declared.Written.{Written}

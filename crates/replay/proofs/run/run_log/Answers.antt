@@ -1,6 +1,5 @@
 -- `replay::run::run_log` meets its contract.
-use Rattle.tasks.specs.Answer.{Answer}
-use Rattle.tasks.specs.Answer.{Accepted}
+use Rattle.tasks.specs.Answer.{Answer, Accepted}
 use Rattle.tasks.specs.declared.Plan.{Plan}
 use Rattle.codec.specs.Table.{verdict}
 use Rattle.table.specs.declared.Judgement.{Judgement}

@@ -12,8 +12,7 @@ use Rattle.tasks.specs.TaskSet.{counted, core_for_each, row}
 use Rattle.tasks.specs.Limits.{Limits}
 use Rattle.tasks.proofs.AmountLaws.{counted-length}
 use Rattle.tasks.specs.declared.Plan.{Plan}
-use Rattle.tasks.specs.Answer.{Answer}
-use Rattle.tasks.specs.Answer.{Accepted, Refused}
+use Rattle.tasks.specs.Answer.{Answer, Accepted, Refused}
 use Rattle.tasks.specs.Content.{content_of}
 use Rattle.analysis.specs.declared.slack_test.Tested.{Tested}
 use Rattle.analysis.specs.SlackTest.{PlanTested, offering, had_slack}
