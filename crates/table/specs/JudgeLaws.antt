@@ -123,7 +123,7 @@ module _ (t : List ℕ) where
       counts : (a : Answer) → test11 (content_in t) ≡ a → limit_tests (content_in t) ≡ Accepted → judging said ≡ judging (content_in t)
       counts (Err r) f e =
           let w = within e in
-          judging-count said (content_in t) said-edition (said-tasks w.1) (said-labels w.0) said-offers j i said-limits e f
+          judging-count said (content_in t) said-edition (said-tasks w.1) (said-labels w.0) said-offers r.number r.index said-limits e f
       counts (Ok tt) f e = offered (eqb (slack_count t) 0) refl e f
 
       limits : (a : Answer) → limit_tests (content_in t) ≡ a → judging said ≡ judging (content_in t)

@@ -1,11 +1,11 @@
 // From a show table's bytes to a plan.
 #![tactic(auto)]
 
-use tasks::{Answer, Plan};
+use tasks::{Plan, Refusal};
 
 mod verdict;
 
-pub use verdict::{judge, load, slack_part, uncounted};
+pub use verdict::{judge, load, slack_part};
 
 // A judgement's plan, of zeros where the table is refused, and beside it how many tasks were counted, and which, largest weight first.
 #[derive(Clone, Copy)]

@@ -21,23 +21,23 @@ returns-in_default c =
 pub overflow_mul-entry_size : goal.overflow_mul-entry_size
 overflow_mul-entry_size c =
     let s = c in
-    let few = tasks-few s.args.wishes (s.requires c.in-Accepted.is).1 in
+    let few = tasks-few s.args.wishes (s.requires c.in-Ok.is).1 in
     let size : c.entry_size.result ≤ 12 = rw c.entry_size.ensures (size-high s.args.wishes) in
     omega (arith, mul-le-mul {n₂ = 12} {m₂ = 16} size few)
 
 pub returns-then-out-entry_size : goal.returns-then-out-entry_size
 returns-then-out-entry_size c =
     let a = c.args in
-    let r = answer-short a.wishes _ a.plan a.out.now c.in-Accepted.is (rw c.entry_size.ensures at c.if-out-entry_size.true) in
+    let r = answer-short a.wishes _ a.plan a.out.now c.in-Ok.is (rw c.entry_size.ensures at c.if-out-entry_size.true) in
     (c.refused-then-out-entry_size.ensures ∙ r.0, r.1)
 
 pub report-requires : goal.report-requires
 report-requires c =
     let s = c in
-    reportable s.args.wishes (s.requires c.in-Accepted.is).1 _ (rw c.entry_size.ensures at c.if-out-entry_size.false)
+    reportable s.args.wishes (s.requires c.in-Ok.is).1 _ (rw c.entry_size.ensures at c.if-out-entry_size.false)
 
 pub returns : goal.returns
 returns c =
     let a = c.args in
-    let r = answer_done a.wishes _ a.plan a.out.now c.in-Accepted.is (rw c.entry_size.ensures at c.if-out-entry_size.false) in
+    let r = answer_done a.wishes _ a.plan a.out.now c.in-Ok.is (rw c.entry_size.ensures at c.if-out-entry_size.false) in
     (r.0, c.report.ensures ∙ r.1)

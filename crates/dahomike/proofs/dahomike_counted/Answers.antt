@@ -28,7 +28,7 @@ returns-in_default c =
 pub returns-then-out-count : goal.returns-then-out-count
 returns-then-out-count c =
     let s = c in
-    let r = counted-short s.args.table.now s.args.out.now _ c.judge-judgement.ensures c.in-Accepted.is c.if-out-count.true in
+    let r = counted-short s.args.table.now s.args.out.now _ c.judge-judgement.ensures c.in-Ok.is c.if-out-count.true in
     (c.refused-then-out-count.ensures ∙ r.0, r.1)
 
 pub slice_bounds-counted-end : goal.slice_bounds-counted-end
@@ -41,5 +41,5 @@ slice_bounds-put_words-end c =
 pub returns : goal.returns
 returns c =
     let s = c in
-    let r = counted_done s.args.table.now s.args.out.now _ c.judge-judgement.ensures c.in-Accepted.is c.if-out-count.false in
+    let r = counted_done s.args.table.now s.args.out.now _ c.judge-judgement.ensures c.in-Ok.is c.if-out-count.false in
     (r.0, c.put_words.ensures.left ∙ r.1)

@@ -20,4 +20,4 @@ pub returns : goal.returns
 returns c =
     let a = c.args in
     let r = c.run_log-ran.ensures in
-    (run_done a.table.now a.log.now _ _ r.0 c.in-Accepted.is, r.1)
+    (run_done a.table.now a.log.now _ _ r.0 c.in-Ok.is, r.1)

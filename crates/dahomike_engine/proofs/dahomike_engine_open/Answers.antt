@@ -9,11 +9,11 @@ returns-in_default c =
 
 pub put_state-requires : goal.put_state-requires
 put_state-requires c = (
-  open_cores _ _ c.judge-judgement.ensures [] c.in-Accepted.is _ c.open-opened.ensures,
-  open_tasks _ _ c.judge-judgement.ensures [] c.in-Accepted.is _ c.open-opened.ensures,
-  open_jobs _ _ c.judge-judgement.ensures [] c.in-Accepted.is _ c.open-opened.ensures,
+  open_cores _ _ c.judge-judgement.ensures [] c.in-Ok.is _ c.open-opened.ensures,
+  open_tasks _ _ c.judge-judgement.ensures [] c.in-Ok.is _ c.open-opened.ensures,
+  open_jobs _ _ c.judge-judgement.ensures [] c.in-Ok.is _ c.open-opened.ensures,
 )
 
 pub returns : goal.returns
 returns c =
-    open_done _ _ c.judge-judgement.ensures _ c.in-Accepted.is _ c.open-opened.ensures _ c.put_state.ensures
+    open_done _ _ c.judge-judgement.ensures _ c.in-Ok.is _ c.open-opened.ensures _ c.put_state.ensures

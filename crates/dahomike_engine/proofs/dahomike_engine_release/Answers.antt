@@ -11,8 +11,8 @@ returns-in_default c =
     release-refused _ _ _ (sym c.fit.ensures ∙ c.if-not-fit.false) _ c.read.ensures _ c.release-done.ensures _ _ _ c.in_default.is c.refused.ensures
 
 pub put_rest-requires : goal.put_rest-requires
-put_rest-requires c = release-kept _ _ _ (sym c.fit.ensures ∙ c.if-not-fit.false) _ c.read.ensures _ c.release-done.ensures c.in-Accepted.is
+put_rest-requires c = release-kept _ _ _ (sym c.fit.ensures ∙ c.if-not-fit.false) _ c.read.ensures _ c.release-done.ensures c.in-Ok.is
 
 pub returns : goal.returns
 returns c =
-    release_done _ _ _ (sym c.fit.ensures ∙ c.if-not-fit.false) _ c.read.ensures _ c.release-done.ensures c.in-Accepted.is c.sized.ensures _ c.put_rest.ensures
+    release_done _ _ _ (sym c.fit.ensures ∙ c.if-not-fit.false) _ c.read.ensures _ c.release-done.ensures c.in-Ok.is c.sized.ensures _ c.put_rest.ensures

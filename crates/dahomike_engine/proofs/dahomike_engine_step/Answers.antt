@@ -22,17 +22,17 @@ pub overflow_add-clock : goal.overflow_add-clock
 unfolding row
 overflow_add-clock c =
     let same = fields_from _ c.plan-plan.ensures c.jobs-jobs.ensures c.flags-released.ensures c.numbers-last.ensures c.places.ensures c.places-2.ensures in
-    omega (arith, step-early _ [] [] (sym c.fit.ensures ∙ c.if-not-fit.false) _ same _ c.step_fields-done.ensures.0 c.in-Accepted.is)
+    omega (arith, step-early _ [] [] (sym c.fit.ensures ∙ c.if-not-fit.false) _ same _ c.step_fields-done.ensures.0 c.in-Ok.is)
 
 pub put_machine-requires : goal.put_machine-requires
 unfolding row
 put_machine-requires c =
     let same = fields_from _ c.plan-plan.ensures c.jobs-jobs.ensures c.flags-released.ensures c.numbers-last.ensures c.places.ensures c.places-2.ensures in
-    step_kept _ [] [] (sym c.fit.ensures ∙ c.if-not-fit.false) _ same _ c.step_fields-done.ensures.0 c.in-Accepted.is _ (c.step_fields-done.ensures.2 c.in-Accepted.is)
+    step_kept _ [] [] (sym c.fit.ensures ∙ c.if-not-fit.false) _ same _ c.step_fields-done.ensures.0 c.in-Ok.is _ (c.step_fields-done.ensures.2 c.in-Ok.is)
 
 pub returns : goal.returns
 unfolding row machine_words flag_at
 returns c =
     let same = fields_from _ c.plan-plan.ensures c.jobs-jobs.ensures c.flags-released.ensures c.numbers-last.ensures c.places.ensures c.places-2.ensures in
-    step_done _ _ _ (sym c.fit.ensures ∙ c.if-not-fit.false) _ same _ c.step_fields-done.ensures.0 c.in-Accepted.is _ (c.step_fields-done.ensures.2 c.in-Accepted.is)
+    step_done _ _ _ (sym c.fit.ensures ∙ c.if-not-fit.false) _ same _ c.step_fields-done.ensures.0 c.in-Ok.is _ (c.step_fields-done.ensures.2 c.in-Ok.is)
     c.sized.ensures _ c.put_machine.ensures

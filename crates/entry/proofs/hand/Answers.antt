@@ -72,27 +72,27 @@ returns-in_default c =
 
 pub overflow_mul-owners : goal.overflow_mul-owners
 overflow_mul-owners c =
-    let r = admission-room _ _ _ _ _ _ _ (sym c.admission_test-answer.ensures ∙ c.in-Accepted.is) in
+    let r = admission-room _ _ _ _ _ _ _ (sym c.admission_test-answer.ensures ∙ c.in-Ok.is) in
     omega (arith, hand_low c.requires.2.1.1.1 c.if-tasks-task.false, r)
 
 pub overflow_add-owners : goal.overflow_add-owners
 overflow_add-owners c =
-    let r = admission-room _ _ _ _ _ _ _ (sym c.admission_test-answer.ensures ∙ c.in-Accepted.is) in
+    let r = admission-room _ _ _ _ _ _ _ (sym c.admission_test-answer.ensures ∙ c.in-Ok.is) in
     omega (arith, hand_low c.requires.2.1.1.1 c.if-tasks-task.false, r)
 
 pub offset_bounds-owners-task : goal.offset_bounds-owners-task
 offset_bounds-owners-task c =
-    let r = admission-room _ _ _ _ _ _ _ (sym c.admission_test-answer.ensures ∙ c.in-Accepted.is) in
+    let r = admission-room _ _ _ _ _ _ _ (sym c.admission_test-answer.ensures ∙ c.in-Ok.is) in
     omega (arith, hand_low c.requires.2.1.1.1 c.if-tasks-task.false, r)
 
 pub bounds-owners-task : goal.bounds-owners-task
 bounds-owners-task c =
-    let r = admission-room _ _ _ _ _ _ _ (sym c.admission_test-answer.ensures ∙ c.in-Accepted.is) in
+    let r = admission-room _ _ _ _ _ _ _ (sym c.admission_test-answer.ensures ∙ c.in-Ok.is) in
     omega (arith, hand_low c.requires.2.1.1.1 c.if-tasks-task.false, r)
 
 pub overflow_add-jobs : goal.overflow_add-jobs
 overflow_add-jobs c =
-    let r = admission-room _ _ _ _ _ _ _ (sym c.admission_test-answer.ensures ∙ c.in-Accepted.is) in
+    let r = admission-room _ _ _ _ _ _ _ (sym c.admission_test-answer.ensures ∙ c.in-Ok.is) in
     omega (arith, hand_low c.requires.2.1.1.1 c.if-tasks-task.false, r)
 
 pub offset_bounds-jobs-task-2 : goal.offset_bounds-jobs-task-2
@@ -120,7 +120,7 @@ returns-then-held-ne0 c =
       refl,
       λ p l out₀ X.
           hand_behind X
-          (sym (hand_answer X c.if-tasks-task.false c.admission_test-answer.ensures) ∙ ap outcome_of c.in-Accepted.is)
+          (sym (hand_answer X c.if-tasks-task.false c.admission_test-answer.ensures) ∙ ap outcome_of c.in-Ok.is)
           c.if-held-ne0.true,
     )
 
@@ -138,7 +138,7 @@ unfolding row
 insert-requires c =
     let P = c.requires.2 in
     let X = P.1.1.1 in
-    let t = (sym (hand_answer X c.if-tasks-task.false c.admission_test-answer.ensures) ∙ ap outcome_of c.in-Accepted.is) in (
+    let t = (sym (hand_answer X c.if-tasks-task.false c.admission_test-answer.ensures) ∙ ap outcome_of c.in-Ok.is) in (
       hand_place X t c.if-held-ne0.false,
       hand_rises X t c.if-held-ne0.false,
       c.requires.0,
@@ -150,7 +150,7 @@ unfolding row
 overflow_add-heads c =
     let P = c.requires.2 in
     let X = P.1.1.1 in
-    let t = (sym (hand_answer X c.if-tasks-task.false c.admission_test-answer.ensures) ∙ ap outcome_of c.in-Accepted.is) in
+    let t = (sym (hand_answer X c.if-tasks-task.false c.admission_test-answer.ensures) ∙ ap outcome_of c.in-Ok.is) in
     omega (
       arith,
       hand_place X t c.if-held-ne0.false,
@@ -166,6 +166,6 @@ returns c =
       refl,
       λ p l out₀ X.
           hand_first X
-          (sym (hand_answer X c.if-tasks-task.false c.admission_test-answer.ensures) ∙ ap outcome_of c.in-Accepted.is)
+          (sym (hand_answer X c.if-tasks-task.false c.admission_test-answer.ensures) ∙ ap outcome_of c.in-Ok.is)
           c.if-held-ne0.false c.if-tasks-task.false (rw c.head_key.ensures at I.0),
     )

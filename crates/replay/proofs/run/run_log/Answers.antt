@@ -45,7 +45,7 @@ returns-in_default-entries c =
     let a = c.args in
     let e = c.read_entries-entries.ensures in
     let q = c.in_default-entries.is in
-    let f = run-refused-log a.table.now a.log.now a.out.now (accepts a.table.now _ c.judge-judgement.ensures c.in-Accepted.is) _ _ (read_refused a.log.now _ e _ _ q) in (
+    let f = run-refused-log a.table.now a.log.now a.out.now (accepts a.table.now _ c.judge-judgement.ensures c.in-Ok.is) _ _ (read_refused a.log.now _ e _ _ q) in (
       c.refused-in_default-entries.ensures
           ∙ ap (λ (b : Answer). record { answer = b; taken = 0; refused = 0 }) (c.unread.ensures ∙ ap answer_of_entries q)
           ∙ f.ran,
@@ -63,7 +63,7 @@ returns-then-out-count c =
     let a = c.args in
     let r = c.read_entries-entries.ensures in
     let g = c.in-Read.is in
-    let t = accepts a.table.now _ c.judge-judgement.ensures c.in-Accepted.is in
+    let t = accepts a.table.now _ c.judge-judgement.ensures c.in-Ok.is in
     let l = read_accepted a.log.now _ r _ g in
     let f = run_short a.table.now a.log.now a.out.now t l.1 (omega (arith, l.0, c.if-out-count.true)) in
     (c.refused-then-out-count.ensures ∙ f.ran, f.leaves, few-none _ _ c.refused-then-out-count.ensures)
@@ -74,7 +74,7 @@ replay-taken-requires c =
     let a = c.args in
     let r = c.read_entries-entries.ensures in
     let g = c.in-Read.is in
-    let t = accepts a.table.now _ c.judge-judgement.ensures c.in-Accepted.is in
+    let t = accepts a.table.now _ c.judge-judgement.ensures c.in-Ok.is in
     let l = read_accepted a.log.now _ r _ g in
     let small = l.2 in (
       subst (λ (p : Plan). Fitting p (entries_in a.log.now) a.out.now) (sym (ap (λ (j : Judgement). j.plan) c.judge-judgement.ensures))
@@ -88,7 +88,7 @@ overflow_sub-result c =
     let a = c.args in
     let r = c.read_entries-entries.ensures in
     let g = c.in-Read.is in
-    let t = accepts a.table.now _ c.judge-judgement.ensures c.in-Accepted.is in
+    let t = accepts a.table.now _ c.judge-judgement.ensures c.in-Ok.is in
     let l = read_accepted a.log.now _ r _ g in
     omega (arith, c.replay-taken.ensures.0, taken-few c.judge-judgement.result.plan (entries_in a.log.now) (length (entries_in a.log.now)), entries-length a.log.now, l.0)
 
@@ -97,7 +97,7 @@ returns c =
     let a = c.args in
     let r = c.read_entries-entries.ensures in
     let g = c.in-Read.is in
-    let t = accepts a.table.now _ c.judge-judgement.ensures c.in-Accepted.is in
+    let t = accepts a.table.now _ c.judge-judgement.ensures c.in-Ok.is in
     let l = read_accepted a.log.now _ r _ g in
     let p = ap (λ (j : Judgement). j.plan) c.judge-judgement.ensures in
     let e = rw p at c.replay-taken.ensures in
