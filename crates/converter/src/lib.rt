@@ -14,9 +14,9 @@ ghost use Rattle.converter.specs.ConverterLaws.{converted_plan};
 use table::judge;
 use tasks::bound::core_for_each;
 use tasks::edition::{deadline_in, has_deadlines, is_unknown};
-use tasks::{Answer, Plan, Task, refusal};
+use tasks::{Plan, Refusal, Rule, Task};
 use tidy::no_task;
-use writer::{Written, unwritten, write_accepted};
+use writer::write_accepted;
 
 // "A table already in the wanted edition, or a wanted edition other than 1 and 2". A table without an edition byte is in none.
 fn is_unwanted(table: &[u8], edition: u32) -> bool
@@ -120,28 +120,19 @@ fn convert_plan(plan: Plan, edition: u8) -> Plan
 }
 
 // "Convert to edition 2 by giving each loop its offset as deadline, and back where every deadline equals its offset."
-pub fn convert(table: &[u8], edition: u32, out: &mut [u8]) -> Written
+pub fn convert(table: &[u8], edition: u32, out: &mut [u8]) -> Result<usize, Refusal>
     ensures { (answer_of_written result ≡ convert_test edition table.now (length out.old))
         × (length_of_written result ≡ converted_length edition table.now (length out.old))
         × (out.new ≡ converted_to edition table.now out.old) }
 {
     if is_unwanted(table, edition) {
-        return Written::Refused {
-            number: refusal::EDITION_UNKNOWN,
-            index: 0,
-        };
+        return Err(Rule::EditionUnknown.at(0));
     }
     let judgement = judge(table);
-    let answer = judgement.answer;
-    let Ok(()) = answer else {
-        return unwritten(answer);
-    };
+    judgement.answer?;
     let plan = judgement.plan;
     let wanted = edition as u8;
     let task = plan.task;
-    let tested = test_fit(plan.cores, task, plan.tasks, wanted);
-    let Ok(()) = tested else {
-        return unwritten(tested);
-    };
+    test_fit(plan.cores, task, plan.tasks, wanted)?;
     write_accepted(convert_plan(plan, wanted), out)
 }

@@ -4,15 +4,15 @@
 ghost use Rattle.std.specs.Prelude.{◌≡◌, ◌≤◌};
 ghost use Rattle.laws.specs.Tab.{tab, cut};
 ghost use Rattle.tasks.specs.TaskSet.{row};
-ghost use Rattle.tasks.specs.Content.{in_edition, no_task, task_of, zero_plan};
+ghost use Rattle.tasks.specs.Content.{in_edition, no_task, task_of};
 ghost use Rattle.wishes.specs.Wish.{with_offset};
-ghost use Rattle.sheet.specs.Wished.{wish_of};
+ghost use Rattle.sheet.specs.Wished.{wish_of, handed};
 ghost use Rattle.sheet.specs.WishedLaws.{Wishes};
 
-use reader::{Counts, read_counts};
-use table::{load, uncounted};
+use reader::read_counts;
+use table::load;
 use tasks::edition::deadline_in;
-use tasks::{Answer, Plan, Task};
+use tasks::{Plan, Refusal, Task};
 use tidy::{no_plan, no_task};
 use wish_search::solve::solve_plan;
 
@@ -21,13 +21,6 @@ use wish_search::solve::solve_plan;
 pub struct Wished {
     pub answer: Result<(), Refusal>,
     pub plan: Plan,
-}
-
-fn refused(answer: Result<(), Refusal>) -> Wished
-    ensures { (result.answer ≡ answer) × (result.plan ≡ zero_plan) }
-{
-    let plan = no_plan();
-    Wished { answer, plan }
 }
 
 // The first tasks with these offsets in their wishes' place, tasks of zeros after them.
@@ -52,14 +45,10 @@ fn with_offsets(edition: u8, task: [Task; 16], offset: &[u32; 16], tasks: usize)
 }
 
 // The tests of a sheet that meets neither 1 nor 2, and its plan.
-fn wish_plan(plan: Plan, offers: usize) -> Wished
-    ensures { Wishes plan offers result }
+fn wish_plan(plan: Plan, offers: usize) -> Result<Plan, Refusal>
+    ensures { Wishes plan offers (handed result) }
 {
-    let solved = solve_plan(plan, offers);
-    let answer = solved.answer;
-    let Ok(()) = answer else {
-        return refused(answer);
-    };
+    let solved = solve_plan(plan, offers)?;
     let wishing = plan.task;
     let offset = solved.offset;
     let task = with_offsets(plan.edition, wishing, &offset, plan.tasks);
@@ -68,26 +57,29 @@ fn wish_plan(plan: Plan, offers: usize) -> Wished
     found.offered = false;
     found.task = task;
     found.slack = slack;
-    Wished {
-        answer: Ok(()),
-        plan: found,
-    }
+    Ok(found)
+}
+
+// The tests of a sheet, and its plan.
+fn wish_sheet(sheet: &[u8]) -> Result<Plan, Refusal>
+    ensures { handed result ≡ wish_of sheet.now }
+{
+    let counts = read_counts(sheet)?;
+    wish_plan(load(sheet, counts), counts.offers)
 }
 
 // "Find whole offsets 0 to T and compliant whole slack with Y + x + C at most W for every loop."
 pub fn wish(sheet: &[u8]) -> Wished
     ensures { result ≡ wish_of sheet.now }
 {
-    let counts = read_counts(sheet);
-    let Counts::Read {
-        edition,
-        cores,
-        tasks,
-        offers,
-    } = counts
-    else {
-        return refused(uncounted(counts));
-    };
-    let plan = load(sheet, edition, cores, tasks, offers);
-    wish_plan(plan, offers)
+    match wish_sheet(sheet) {
+        Ok(plan) => Wished {
+            answer: Ok(()),
+            plan,
+        },
+        Err(refusal) => Wished {
+            answer: Err(refusal),
+            plan: no_plan(),
+        },
+    }
 }
