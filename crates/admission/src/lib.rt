@@ -6,7 +6,7 @@ ghost use Rattle.machine.specs.Machine.{within};
 ghost use Rattle.state.specs.State.{last_of};
 ghost use Rattle.state.specs.CallLaws.{admission};
 
-use tasks::{Answer, limits, refusal};
+use tasks::{Refusal, Rule, limits};
 
 // "The loop's last taken release is less than T ticks ago."
 fn too_soon(separation: u32, clock: u32, flag: bool, last: u32) -> bool

@@ -13,7 +13,7 @@ use advance::{admit, tick};
 use analysis::test;
 use soundness::sound;
 use state::{Opened, Released, State, Stepped};
-use tasks::{Answer, Plan, limits, refusal};
+use tasks::{Plan, Refusal, Rule, limits};
 use tidy::tidied;
 
 // 18 and 19 of the state that has these fields.

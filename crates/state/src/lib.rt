@@ -1,7 +1,7 @@
 // The engine's state as document 01 keeps it, and what the calls on it answer. What document 01 says of them is in specs/ and proofs/.
 #![tactic(auto)]
 
-use tasks::{Answer, Plan};
+use tasks::{Plan, Refusal};
 
 // The plan, the clock, and for each of sixteen tasks its number of unfinished jobs, whether a release of it was taken, the last taken
 // one's tick, and sixteen job places, oldest job first: "the state keeps all 256 job places in one flat record".
