@@ -111,7 +111,7 @@ module _ (p : Plan) (a : test_plan p ≡ Accepted) where
             rw e
             (record { view = refl; reached = release i c (answer_allowed s M i c e).0 A.reached; clock = A.clock })
         go (Err r) q =
-            let e : answer_of s M i c ≡ refused k = sym (same_answer s M i c) ∙ ap outcome_of q in
+            let e : answer_of s M i c ≡ refused r.number = sym (same_answer s M i c) ∙ ap outcome_of q in
             rw e (record { view = refl; reached = A.reached; clock = A.clock })
 
     pub answers : (i c : ℕ) → outcome_of (release_of u i c).answer ≡ answer_of s M i c

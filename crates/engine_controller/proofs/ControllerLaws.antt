@@ -82,10 +82,10 @@ release-plain s i c =
 number-back : (a : Answer) → Plain a → outcome_in (answer_number a 0) ≡ outcome_of a
 unfolding outcome_in answer_number
 number-back (Ok tt) p = refl
-number-back (Err r) p =
-    let some : 4294967296 * k + j ≡ 0 → ⊥ = λ e. omega (arith, p.0) in
-    let same : (4294967296 * k + j) / 4294967296 ≡ k = omega (arith, p.1) in
-    rw (ne_eqb (4294967296 * k + j) 0 some, same)
+number-back (Err o) p =
+    let some : 4294967296 * o.number + o.index ≡ 0 → ⊥ = λ e. omega (arith, p.0) in
+    let same : (4294967296 * o.number + o.index) / 4294967296 ≡ o.number = omega (arith, p.1) in
+    rw (ne_eqb (4294967296 * o.number + o.index) 0 some, same)
 
 -- ---- the calls give the engine's answers
 
@@ -116,11 +116,11 @@ module _ (l : List ℕ) (s : State) (S : Says l s) where
           → eqb (answer_number (step_of s).answer 0) 0 && (not (eqb i idle) && member i (unless_refused (step_of s).answer (step_of s).runs []))
           ≡ not (eqb i idle) && member i (step_of s).runs
       go (Ok tt) q = rw q
-      go (Err r) q =
-          let r : step_tests s ≡ Refused k j = sym (step-answer s) ∙ q in
-          let p : Plain (Refused k j) = subst Plain r (step-plain s) in
-          let some : 4294967296 * k + j ≡ 0 → ⊥ = λ e. omega (arith, p.0) in
-          rw (q, refused-runs s k j r, ne_eqb (4294967296 * k + j) 0 some) (sym (none_runs i))
+      go (Err o) q =
+          let r : step_tests s ≡ Err o = sym (step-answer s) ∙ q in
+          let p : Plain (Err o) = subst Plain r (step-plain s) in
+          let some : 4294967296 * o.number + o.index ≡ 0 → ⊥ = λ e. omega (arith, p.0) in
+          rw (q, refused-runs s o.number o.index r, ne_eqb (4294967296 * o.number + o.index) 0 some) (sym (none_runs i))
 
   answers_alike : (i c : ℕ) → outcome_in (release_number l i c) ≡ outcome_of (release_of s i c).answer
   unfolding release_number release_of
@@ -172,7 +172,7 @@ module _ (t ws : List ℕ) (a : verdict t ≡ Accepted) where
           (b : Answer) → (step_of u).answer ≡ b → answer_number (step_of u).answer 0 ≡ 0
           → row (unless_refused (step_of u).answer (step_of u).responses lent) i ≤ bound (content_in t).tasks (content_in t).slack i
       go (Ok tt) q z = rw q (demand-responses t a h i)
-      go (Err r) q z =
-          let p : Plain (Refused k j) = subst Plain (sym (step-answer u) ∙ q) (step-plain u) in
-          let none : 4294967296 * k + j ≡ 0 = ap (λ (b : Answer). answer_number b 0) (sym q) ∙ z in
+      go (Err o) q z =
+          let p : Plain (Err o) = subst Plain (sym (step-answer u) ∙ q) (step-plain u) in
+          let none : 4294967296 * o.number + o.index ≡ 0 = ap (λ (b : Answer). answer_number b 0) (sym q) ∙ z in
           absurd (omega (arith, p.0))

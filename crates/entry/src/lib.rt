@@ -3,7 +3,6 @@
 
 ghost use Rattle.std.specs.Prelude.{◌≡◌, List, ℕ, length};
 ghost use Rattle.tasks.specs.declared.Plan.{Plan};
-ghost use Rattle.tasks.specs.Tests.{number_of};
 ghost use Rattle.history.specs.Log.{Entry};
 ghost use Rattle.running.specs.Running.{arrays};
 ghost use Rattle.running.specs.HandLaws.{Handing, Handed};
@@ -16,7 +15,7 @@ use heads::insert;
 use logs::read::release_at;
 use logs::report::put_refused;
 use onward::advance;
-use tasks::{Answer, refusal};
+use tasks::Rule;
 
 // The clock after an entry, how many tasks have a job that may run, and 1 where the entry was taken.
 #[derive(Clone, Copy)]
@@ -24,15 +23,6 @@ pub struct Place {
     pub clock: u32,
     pub heads: usize,
     pub taken: usize,
-}
-
-fn number(answer: Result<(), Refusal>) -> u8
-    ensures { result ≡ number_of answer }
-{
-    match answer {
-        Ok(()) => 0,
-        Answer::Refused { number, index: _ } => number,
-    }
 }
 
 fn stay(clock: u32, heads: usize, taken: usize) -> Place
@@ -77,11 +67,11 @@ fn hand(
         released.new last.new }
 {
     if tasks <= task {
-        put_refused(out, e, refusal::TASK_NOT_IN_TABLE);
+        put_refused(out, e, Rule::TaskNotInTable.number());
         return stay(tick, heads, 0);
     }
     let held = jobs[task];
-    let answer = admission_test(
+    let test = admission_test(
         separations[task],
         budgets[task],
         tick,
@@ -90,10 +80,10 @@ fn hand(
         released[task],
         last[task],
     );
-    let Ok(()) = answer else {
-        put_refused(out, e, number(answer));
+    if let Err(refusal) = test {
+        put_refused(out, e, refusal.number);
         return stay(tick, heads, 0);
-    };
+    }
     owners[16 * task + held] = e as u32;
     jobs[task] = held + 1;
     released[task] = true;
@@ -145,7 +135,7 @@ pub fn enter(
     let entry = release_at(log, e);
     let tick = entry.tick;
     if tick < clock {
-        put_refused(out, e, refusal::TICK_GOES_BACK);
+        put_refused(out, e, Rule::TickGoesBack.number());
         return stay(clock, heads, 0);
     }
     let heads = advance(

@@ -4,19 +4,17 @@ ghost use Rattle.tasks.specs.Content.{content_of};
 ghost use Rattle.history.specs.Report.{report};
 ghost use Rattle.history.specs.OnMachine.{machine_engine};
 ghost use Rattle.logs.specs.LogBytes.{entries_in, reports_to};
-ghost use Rattle.logs.specs.LogStages.{answer_of_entries};
 ghost use Rattle.running.specs.Running.{arrays};
 ghost use Rattle.running.specs.Entered.{Fitting};
 ghost use Rattle.running.specs.RunCode.{taken_to, Begun, EntersTo, Started, Runs};
-ghost use Rattle.replay.specs.declared.run.Ran.{Ran};
-ghost use Rattle.replay.specs.Ran.{ran_of, run_leaves};
+ghost use Rattle.replay.specs.Ran.{ran_of, run_leaves, handed};
 
 use entry::{Place, enter};
 use fields::columns::split;
-use logs::read::{Entries, read_entries};
+use logs::read::read_entries;
 use onward::advance;
 use table::judge;
-use tasks::{Answer, Plan, limits, refusal};
+use tasks::{Plan, Refusal, Rule, limits};
 
 // A log run: Accepted, with how many entries were taken and how many refused, or refused, with zeros.
 #[derive(Clone, Copy)]
@@ -172,24 +170,24 @@ fn replay(plan: Plan, log: &[u8], count: usize, out: &mut [u8]) -> usize
     )
 }
 
-fn refused(answer: Result<(), Refusal>) -> Ran
-    ensures { ◌≡◌ {A = Ran} result (record { answer = answer; taken = 0; refused = 0 }) }
+// 1 to 16, the table's first, and the run of the log.
+fn run(table: &[u8], log: &[u8], out: &mut [u8]) -> Result<Ran, Refusal>
+    ensures { (handed result ≡ ran_of table.now log.now (length out.old))
+        × (out.new ≡ run_leaves table.now log.now out.old)
+        × ((handed result).taken + (handed result).refused < 65536) }
 {
-    Ran {
-        answer,
-        taken: 0,
-        refused: 0,
+    let judgement = judge(table);
+    judgement.answer?;
+    let count = read_entries(log)?;
+    if out.len() < 8 * count {
+        return Err(Rule::AnswerTooShort.at(0));
     }
-}
-
-// The refusal of the log's reader.
-fn unread(entries: Entries) -> Result<(), Refusal>
-    ensures { result ≡ answer_of_entries entries }
-{
-    match entries {
-        Entries::Read { count: _ } => Ok(()),
-        Entries::Refused { number, index } => Answer::Refused { number, index },
-    }
+    let taken = replay(judgement.plan, log, count, out);
+    Ok(Ran {
+        answer: Ok(()),
+        taken,
+        refused: count - taken,
+    })
 }
 
 // Runs a log on a table, and writes 8 bytes for each entry.
@@ -198,22 +196,12 @@ pub fn run_log(table: &[u8], log: &[u8], out: &mut [u8]) -> Ran
         × (out.new ≡ run_leaves table.now log.now out.old)
         × (result.taken + result.refused < 65536) }
 {
-    let judgement = judge(table);
-    let answer = judgement.answer;
-    let Ok(()) = answer else {
-        return refused(answer);
-    };
-    let entries = read_entries(log);
-    let Entries::Read { count } = entries else {
-        return refused(unread(entries));
-    };
-    if out.len() < 8 * count {
-        return refused(Err(Rule::AnswerTooShort.at(0)));
-    }
-    let taken = replay(judgement.plan, log, count, out);
-    Ran {
-        answer: Ok(()),
-        taken,
-        refused: count - taken,
+    match run(table, log, out) {
+        Ok(ran) => ran,
+        Err(refusal) => Ran {
+            answer: Err(refusal),
+            taken: 0,
+            refused: 0,
+        },
     }
 }

@@ -11,7 +11,7 @@ returns-then-tick-clock c =
       P.1,
       λ p out₀ X.
           enter_back X c.release_at-entry.ensures
-          c.if-tick-clock.true c.put_refused.ensures,
+          c.if-tick-clock.true (rw c.number.ensures at c.put_refused.ensures),
     )
 
 pub advance-heads-requires : goal.advance-heads-requires

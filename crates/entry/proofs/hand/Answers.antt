@@ -3,13 +3,8 @@ use Rattle.running.proofs.HandLaws.{hand_low, answer_20, hand_answer, hand_refus
 use Rattle.history.specs.Engine.{outcome_of}
 use Rattle.state.proofs.CallLaws.{admission-room}
 use Rattle.tasks.specs.TaskSet.{row}
-use Rattle.tasks.specs.Tests.{number_of}
-use Rattle.history.specs.Report.{refusal}
-use Rattle.logs.specs.LogBytes.{report_bytes}
 use native.Mathlib.Omega.{arith}
-use Prim.Native.Nat.{ℕ, ◌*◌}
 use mathlib.Core.Path.{refl, sym, ap, ◌∙◌}
-use lib.Seq.{sets}
 use Rattle.entry.proofs.hand.Goals as goal
 
 pub returns-then-tasks-task : goal.returns-then-tasks-task
@@ -23,7 +18,7 @@ returns-then-tasks-task c =
       λ p l out₀ X.
           hand_refused X
           (answer_20 X c.if-tasks-task.true)
-          c.put_refused.ensures,
+          (rw c.number.ensures at c.put_refused.ensures),
     )
 
 pub offset_bounds-jobs-task : goal.offset_bounds-jobs-task
@@ -53,46 +48,45 @@ offset_bounds-last-task c = omega (arith, hand_low c.requires.2.1.1.1 c.if-tasks
 pub bounds-last-task : goal.bounds-last-task
 bounds-last-task c = omega (arith, hand_low c.requires.2.1.1.1 c.if-tasks-task.false)
 
-pub returns-in_default : goal.returns-in_default
+pub returns-in-Err : goal.returns-in-Err
 unfolding row
-returns-in_default c =
+returns-in-Err c =
     let a = c.args in
     let P = c.requires in
-    let told = c.in_default.is in
-    rw c.stay-in_default.ensures (
+    let told = c.in-Err.is in
+    rw c.stay-in-Err.ensures (
       P.0,
       P.1,
       refl,
       λ p l out₀ X.
           hand_refused X
-          (sym (hand_answer X c.if-tasks-task.false c.admission_test-answer.ensures) ∙ ap outcome_of told)
-          (c.put_refused-in_default.ensures
-          ∙ ap (λ (n : ℕ). sets a.out.now (8 * a.e) (report_bytes (refusal n))) (c.number.ensures ∙ ap number_of told)),
+          (sym (hand_answer X c.if-tasks-task.false c.admission_test-test.ensures) ∙ ap outcome_of told)
+          c.put_refused-in-Err.ensures,
     )
 
 pub overflow_mul-owners : goal.overflow_mul-owners
 overflow_mul-owners c =
-    let r = admission-room _ _ _ _ _ _ _ (sym c.admission_test-answer.ensures ∙ c.in-Ok.is) in
+    let r = admission-room _ _ _ _ _ _ _ (sym c.admission_test-test.ensures ∙ c.in_default.is) in
     omega (arith, hand_low c.requires.2.1.1.1 c.if-tasks-task.false, r)
 
 pub overflow_add-owners : goal.overflow_add-owners
 overflow_add-owners c =
-    let r = admission-room _ _ _ _ _ _ _ (sym c.admission_test-answer.ensures ∙ c.in-Ok.is) in
+    let r = admission-room _ _ _ _ _ _ _ (sym c.admission_test-test.ensures ∙ c.in_default.is) in
     omega (arith, hand_low c.requires.2.1.1.1 c.if-tasks-task.false, r)
 
 pub offset_bounds-owners-task : goal.offset_bounds-owners-task
 offset_bounds-owners-task c =
-    let r = admission-room _ _ _ _ _ _ _ (sym c.admission_test-answer.ensures ∙ c.in-Ok.is) in
+    let r = admission-room _ _ _ _ _ _ _ (sym c.admission_test-test.ensures ∙ c.in_default.is) in
     omega (arith, hand_low c.requires.2.1.1.1 c.if-tasks-task.false, r)
 
 pub bounds-owners-task : goal.bounds-owners-task
 bounds-owners-task c =
-    let r = admission-room _ _ _ _ _ _ _ (sym c.admission_test-answer.ensures ∙ c.in-Ok.is) in
+    let r = admission-room _ _ _ _ _ _ _ (sym c.admission_test-test.ensures ∙ c.in_default.is) in
     omega (arith, hand_low c.requires.2.1.1.1 c.if-tasks-task.false, r)
 
 pub overflow_add-jobs : goal.overflow_add-jobs
 overflow_add-jobs c =
-    let r = admission-room _ _ _ _ _ _ _ (sym c.admission_test-answer.ensures ∙ c.in-Ok.is) in
+    let r = admission-room _ _ _ _ _ _ _ (sym c.admission_test-test.ensures ∙ c.in_default.is) in
     omega (arith, hand_low c.requires.2.1.1.1 c.if-tasks-task.false, r)
 
 pub offset_bounds-jobs-task-2 : goal.offset_bounds-jobs-task-2
@@ -120,7 +114,7 @@ returns-then-held-ne0 c =
       refl,
       λ p l out₀ X.
           hand_behind X
-          (sym (hand_answer X c.if-tasks-task.false c.admission_test-answer.ensures) ∙ ap outcome_of c.in-Ok.is)
+          (sym (hand_answer X c.if-tasks-task.false c.admission_test-test.ensures) ∙ ap outcome_of c.in_default.is)
           c.if-held-ne0.true,
     )
 
@@ -138,7 +132,7 @@ unfolding row
 insert-requires c =
     let P = c.requires.2 in
     let X = P.1.1.1 in
-    let t = (sym (hand_answer X c.if-tasks-task.false c.admission_test-answer.ensures) ∙ ap outcome_of c.in-Ok.is) in (
+    let t = (sym (hand_answer X c.if-tasks-task.false c.admission_test-test.ensures) ∙ ap outcome_of c.in_default.is) in (
       hand_place X t c.if-held-ne0.false,
       hand_rises X t c.if-held-ne0.false,
       c.requires.0,
@@ -150,7 +144,7 @@ unfolding row
 overflow_add-heads c =
     let P = c.requires.2 in
     let X = P.1.1.1 in
-    let t = (sym (hand_answer X c.if-tasks-task.false c.admission_test-answer.ensures) ∙ ap outcome_of c.in-Ok.is) in
+    let t = (sym (hand_answer X c.if-tasks-task.false c.admission_test-test.ensures) ∙ ap outcome_of c.in_default.is) in
     omega (
       arith,
       hand_place X t c.if-held-ne0.false,
@@ -166,6 +160,6 @@ returns c =
       refl,
       λ p l out₀ X.
           hand_first X
-          (sym (hand_answer X c.if-tasks-task.false c.admission_test-answer.ensures) ∙ ap outcome_of c.in-Ok.is)
+          (sym (hand_answer X c.if-tasks-task.false c.admission_test-test.ensures) ∙ ap outcome_of c.in_default.is)
           c.if-held-ne0.false c.if-tasks-task.false (rw c.head_key.ensures at I.0),
     )
