@@ -13,7 +13,7 @@ use decimal::{put_said, put_words};
 use table::judge;
 use tasks::bound::{bound, core_for_each};
 use tasks::edition::has_deadlines;
-use tasks::{Answer, Plan, Task};
+use tasks::{Plan, Task};
 
 // The length of the buffer that `text` is lent. No text is longer: the longest has a first line of at most 17 bytes, sixteen of at most 49
 // and a last one of at most 32.
@@ -111,11 +111,11 @@ pub fn text(table: &[u8], out: &mut [u8; LONGEST]) -> usize
         × (out.new ≡ printed table.now ++ drop (length (printed table.now)) out.old) }
 {
     let judgement = judge(table);
-    let answer = judgement.answer;
-    let Answer::Refused { number, index } = answer else {
-        let counted = judgement.counted;
-        let lines = put_plan(out, judgement.plan);
-        return put_counted(out, lines, counted, judgement.count);
-    };
-    put_refusal(out, number, index)
+    match judgement.answer {
+        Ok(()) => {
+            let lines = put_plan(out, judgement.plan);
+            put_counted(out, lines, judgement.counted, judgement.count)
+        }
+        Err(refusal) => put_refusal(out, refusal.number, refusal.index),
+    }
 }
