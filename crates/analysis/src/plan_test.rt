@@ -16,12 +16,10 @@ fn first_other(slack: &[u32; 16], found: &[u32; 16], tasks: usize) -> usize
     requires { tasks ≤ 16 }
     ensures { result ≡ first (λ i. not (eqb (row slack.now i) (row found.now i))) tasks }
 {
-    let mut i = 0;
-    while i < tasks {
+    for i in 0..tasks {
         if slack[i] != found[i] {
             return i;
         }
-        i += 1;
     }
     tasks
 }
@@ -52,10 +50,7 @@ fn found_test(plan: Plan, found: [u32; 16]) -> Result<(), Refusal>
 pub fn slack_count(offered: bool, tasks: usize) -> usize
     ensures { (result ≡ cond offered tasks 0) × (result ≤ tasks) }
 {
-    if offered {
-        return tasks;
-    }
-    0
+    if offered { tasks } else { 0 }
 }
 
 // 3 to 13, and 28.

@@ -124,7 +124,7 @@ least_more T release i p =
     let e : 16 * i + (p + 1) - 1 ≡ 16 * i + p = omega arith in
     rw (ne_eqb (p + 1) 0 (λ h. omega arith), e)
 
-turned : (z a b : Bool) → z && (a && b) ≡ a && (b && z)
+pub turned : (z a b : Bool) → z && (a && b) ≡ a && (b && z)
 turned true true true = refl
 turned true true false = refl
 turned true false b = refl

@@ -11,56 +11,33 @@ use tasks::edition::has_deadlines;
 use tasks::{Task, limits};
 use tidy::is_no_task;
 
-fn pred(k: usize) -> usize
-    ensures { result ≡ k - 1 }
-{
-    if k == 0 {
-        return 0;
-    }
-    k - 1
-}
-
 fn label_zero(i: usize, cores: usize, label: u8) -> bool
     ensures { result ≡ ltb i cores || eqb label 0 }
 {
-    if i < cores {
-        return true;
-    }
-    label == 0
+    i < cores || label == 0
 }
 
 fn task_zero(i: usize, tasks: usize, task: Task, slack: u32) -> bool
     ensures { result ≡ ltb i tasks || (zero_task task && eqb slack 0) }
 {
-    if i < tasks {
-        return true;
-    }
-    if !is_no_task(task) {
-        return false;
-    }
-    slack == 0
+    i < tasks || (is_no_task(task) && slack == 0)
 }
 
 // "the deadline, an unused place in edition 1"
 fn deadline_zero(edition: u8, deadline: u32) -> bool
     ensures { result ≡ has_deadlines edition || eqb deadline 0 }
 {
-    if has_deadlines(edition) {
-        return true;
-    }
-    deadline == 0
+    has_deadlines(edition) || deadline == 0
 }
 
 // "every unused place, also in the table part, is zero": the cores' labels
 pub fn labels_zero(labels: &[u8; 8], cores: usize) -> bool
     ensures { result ≡ all_of (label_zero cores labels.now) 8 }
 {
-    let mut i = 0;
-    while i < 8 {
+    for i in 0..8 {
         if !label_zero(i, cores, labels[i]) {
             return false;
         }
-        i += 1;
     }
     true
 }
@@ -69,8 +46,7 @@ pub fn labels_zero(labels: &[u8; 8], cores: usize) -> bool
 pub fn tasks_zero(edition: u8, task: [Task; 16], slack: &[u32; 16], tasks: usize) -> bool
     ensures { result ≡ all_of (task_zero edition tasks task slack.now) 16 }
 {
-    let mut i = 0;
-    while i < 16 {
+    for i in 0..16 {
         let t = task[i];
         if !task_zero(i, tasks, t, slack[i]) {
             return false;
@@ -78,7 +54,6 @@ pub fn tasks_zero(edition: u8, task: [Task; 16], slack: &[u32; 16], tasks: usize
         if !deadline_zero(edition, t.deadline) {
             return false;
         }
-        i += 1;
     }
     true
 }
@@ -87,54 +62,31 @@ pub fn tasks_zero(edition: u8, task: [Task; 16], slack: &[u32; 16], tasks: usize
 fn held(known: bool, jobs: usize, flag: bool) -> bool
     ensures { result ≡ known || (eqb jobs 0 && not flag) }
 {
-    if known {
-        return true;
-    }
-    if jobs != 0 {
-        return false;
-    }
-    !flag
+    known || (jobs == 0 && !flag)
 }
 
 // "a loop without a taken release has 0 as its tick"
 fn clear(flag: bool, last: u32) -> bool
     ensures { result ≡ flag || eqb last 0 }
 {
-    if flag {
-        return true;
-    }
-    last == 0
+    flag || last == 0
 }
 
 // The last taken release "is the newest pending one where any is pending".
 fn recent(jobs: usize, flag: bool, last: u32, newest: u32) -> bool
     ensures { result ≡ eqb jobs 0 || (flag && eqb last newest) }
 {
-    if jobs == 0 {
-        return true;
-    }
-    if !flag {
-        return false;
-    }
-    last == newest
+    jobs == 0 || (flag && last == newest)
 }
 
 fn loop_sound(known: bool, clock: u32, jobs: usize, flag: bool, last: u32, newest: u32) -> bool
     ensures { result ≡ loop_test known clock jobs flag last newest }
 {
-    if limits::JOBS_HIGH < jobs {
-        return false;
-    }
-    if !held(known, jobs, flag) {
-        return false;
-    }
-    if !clear(flag, last) {
-        return false;
-    }
-    if clock < last {
-        return false;
-    }
-    recent(jobs, flag, last, newest)
+    jobs <= limits::JOBS_HIGH
+        && held(known, jobs, flag)
+        && clear(flag, last)
+        && last <= clock
+        && recent(jobs, flag, last, newest)
 }
 
 fn loop_at(
@@ -153,7 +105,7 @@ fn loop_at(
     if limits::JOBS_HIGH < held {
         return false;
     }
-    let newest = release[16 * i + pred(held)];
+    let newest = release[16 * i + held.saturating_sub(1)];
     loop_sound(i < tasks, clock, held, released[i], last[i], newest)
 }
 
@@ -167,12 +119,10 @@ pub fn loops(
 ) -> bool
     ensures { result ≡ all_of (loop_holds tasks clock jobs.now released.now last.now release.now) 16 }
 {
-    let mut i = 0;
-    while i < 16 {
+    for i in 0..16 {
         if !loop_at(i, tasks, clock, jobs, released, last, release) {
             return false;
         }
-        i += 1;
     }
     true
 }
@@ -182,23 +132,7 @@ pub fn loops(
 fn used_sound(least: u64, budget: u32, clock: u32, release: u32, remaining: u32) -> bool
     ensures { result ≡ leb least release && (leb release clock && (leb 1 remaining && leb remaining budget)) }
 {
-    if (release as u64) < least {
-        return false;
-    }
-    if clock < release {
-        return false;
-    }
-    if remaining < 1 {
-        return false;
-    }
-    remaining <= budget
-}
-
-// What the release after this one has to reach.
-fn later(release: u32, separation: u32) -> u64
-    ensures { result ≡ release + separation }
-{
-    release as u64 + separation as u64
+    least <= release as u64 && release <= clock && 1 <= remaining && remaining <= budget
 }
 
 // The used places of loop `i`. The first release has to reach nothing.
@@ -216,25 +150,14 @@ fn used_places(
 {
     let first = 16 * i;
     let mut least = 0u64;
-    let mut p = 0;
-    while p < jobs {
+    for p in 0..jobs {
         let released = release[first + p];
         if !used_sound(least, budget, clock, released, remaining[first + p]) {
             return false;
         }
-        least = later(released, separation);
-        p += 1;
+        least = released as u64 + separation as u64;
     }
     true
-}
-
-fn zero_too(zero: bool, number: u32) -> bool
-    ensures { result ≡ eqb number 0 && zero }
-{
-    if number != 0 {
-        return false;
-    }
-    zero
 }
 
 // "every unused place … is zero": those of loop `i`. Each is looked at, also after one that is not zero, so that the compiler can take several
@@ -247,10 +170,8 @@ fn unused_places(i: usize, jobs: usize, release: &[u32; 256], remaining: &[u32; 
 {
     let first = 16 * i;
     let mut zero = true;
-    let mut p = jobs;
-    while p < 16 {
-        zero = zero_too(zero_too(zero, remaining[first + p]), release[first + p]);
-        p += 1;
+    for p in jobs..16 {
+        zero &= (release[first + p] == 0) & (remaining[first + p] == 0);
     }
     zero
 }
@@ -271,10 +192,8 @@ fn loop_places(
     if jobs == 0 {
         return unused_places(i, 0, release, remaining);
     }
-    if !used_places(i, separation, budget, clock, jobs, release, remaining) {
-        return false;
-    }
-    unused_places(i, jobs, release, remaining)
+    used_places(i, separation, budget, clock, jobs, release, remaining)
+        && unused_places(i, jobs, release, remaining)
 }
 
 // The clauses about all 256 places, loop by loop, of loops that hold at most 16 jobs each.
@@ -288,8 +207,7 @@ pub fn places(
     requires { (i : ℕ) → i < 16 → row jobs.now i ≤ 16 }
     ensures { result ≡ all_of (place_holds task clock jobs.now release.now remaining.now) 256 }
 {
-    let mut i = 0;
-    while i < 16 {
+    for i in 0..16 {
         let t = task[i];
         if !loop_places(
             i,
@@ -302,7 +220,6 @@ pub fn places(
         ) {
             return false;
         }
-        i += 1;
     }
     true
 }

@@ -15,7 +15,6 @@ use table::judge;
 use tasks::bound::core_for_each;
 use tasks::edition::{deadline_in, has_deadlines, is_unknown};
 use tasks::{Plan, Refusal, Rule, Task};
-use tidy::no_task;
 use writer::write_accepted;
 
 // "A table already in the wanted edition, or a wanted edition other than 1 and 2". A table without an edition byte is in none.
@@ -49,15 +48,10 @@ fn first_unfit(task: [Task; 16], tasks: usize, edition: u8) -> usize
     requires { tasks ≤ 16 }
     ensures { result ≡ first (λ i. cond (has_deadlines edition) (no_offset (task_of task i)) (other_deadline (task_of task i))) tasks }
 {
-    let mut i = 0;
-    while i < tasks {
-        let t = task[i];
-        if is_unfit(t, edition) {
-            return i;
-        }
-        i += 1;
-    }
-    tasks
+    task[..tasks]
+        .iter()
+        .position(|t| is_unfit(*t, edition))
+        .unwrap_or(tasks)
 }
 
 // 29 or 30, at the lowest task that meets it.
@@ -91,20 +85,10 @@ fn test_fit(cores: usize, task: [Task; 16], tasks: usize, edition: u8) -> Result
 fn convert_tasks(task: [Task; 16], edition: u8) -> [Task; 16]
     ensures { result ≡ tab (λ i. converted_task edition (task_of task i)) 16 }
 {
-    let none = no_task();
-    let mut out = [none; 16];
-    let mut i = 0;
-    while i < 16 {
-        let t = task[i];
-        out[i] = Task {
-            separation: t.separation,
-            budget: t.budget,
-            offset: t.offset,
-            deadline: deadline_in(edition, t.offset),
-        };
-        i += 1;
-    }
-    out
+    task.map(|t| Task {
+        deadline: deadline_in(edition, t.offset),
+        ..t
+    })
 }
 
 // The plan in the wanted edition.

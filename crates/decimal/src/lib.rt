@@ -9,12 +9,9 @@ pub fn put_words(out: &mut [u8], at: usize, words: &[u8]) -> usize
     requires { at + length words.now ≤ length out.old }
     ensures { Stored out.old at words.now result out.new }
 {
-    let mut i = 0;
-    while i < words.len() {
-        out[at + i] = words[i];
-        i += 1;
-    }
-    at + i
+    let end = at + words.len();
+    out[at..end].copy_from_slice(words);
+    end
 }
 
 // The digits of a number, from `at` on.

@@ -5,7 +5,6 @@ ghost use Rattle.tasks.specs.TaskSet.{row, bound_by};
 ghost use Rattle.tasks.specs.Content.{task_of, content_of};
 ghost use Rattle.tasks.specs.Tests.{over_bound, bounds_test};
 
-use multiple::wide;
 use tasks::bound::{bound, core_for_each};
 use tasks::{Plan, Refusal, Rule, Task};
 
@@ -13,7 +12,7 @@ use tasks::{Plan, Refusal, Rule, Task};
 fn is_over(each: bool, task: Task, slack: u32) -> bool
     ensures { result ≡ over_bound task (bound_by each task slack) }
 {
-    16 * wide(task.separation) < bound(each, task, slack)
+    16 * u64::from(task.separation) < bound(each, task, slack)
 }
 
 // The lowest task whose bound is above 16 × T, or `tasks` where there is none.
@@ -21,13 +20,10 @@ fn first_over(each: bool, task: [Task; 16], slack: [u32; 16], tasks: usize) -> u
     requires { tasks ≤ 16 }
     ensures { result ≡ first (λ i. over_bound (task_of task i) (bound_by each (task_of task i) (row slack i))) tasks }
 {
-    let mut i = 0;
-    while i < tasks {
-        let t = task[i];
-        if is_over(each, t, slack[i]) {
+    for i in 0..tasks {
+        if is_over(each, task[i], slack[i]) {
             return i;
         }
-        i += 1;
     }
     tasks
 }

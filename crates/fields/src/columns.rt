@@ -18,13 +18,11 @@ pub fn split(task: [Task; 16], tasks: usize) -> Columns
     let mut separation = [0u32; 16];
     let mut budget = [0u32; 16];
     let mut offset = [0u32; 16];
-    let mut i = 0;
-    while i < tasks {
+    for i in 0..tasks {
         let t = task[i];
         separation[i] = t.separation;
         budget[i] = t.budget;
         offset[i] = t.offset;
-        i += 1;
     }
     Columns {
         separation,

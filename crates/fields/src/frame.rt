@@ -12,13 +12,7 @@ fn is_bad_label(labels: &[u8; 8], i: usize) -> bool
     requires { i < 8 }
     ensures { result ≡ bad_label (row labels.now) i }
 {
-    if limits::LABEL_HIGH < labels[i] {
-        return true;
-    }
-    if i == 0 {
-        return false;
-    }
-    labels[i] <= labels[i - 1]
+    limits::LABEL_HIGH < labels[i] || (0 < i && labels[i] <= labels[i - 1])
 }
 
 // The lowest core with such a label, or `cores` where there is none.
@@ -26,12 +20,10 @@ fn bad_label(labels: &[u8; 8], cores: usize) -> usize
     requires { cores ≤ 8 }
     ensures { result ≡ first (bad_label (row labels.now)) cores }
 {
-    let mut i = 0;
-    while i < cores {
+    for i in 0..cores {
         if is_bad_label(labels, i) {
             return i;
         }
-        i += 1;
     }
     cores
 }
@@ -41,10 +33,7 @@ fn least(cores: usize, wishes: bool) -> usize
     requires { cores ≤ 8 }
     ensures { result ≡ least_by wishes cores }
 {
-    if wishes {
-        return cores + 1;
-    }
-    1
+    if wishes { cores + 1 } else { 1 }
 }
 
 pub fn frame(cores: usize, labels: &[u8; 8], tasks: usize, wishes: bool) -> Result<(), Refusal>

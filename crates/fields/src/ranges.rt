@@ -11,10 +11,7 @@ use tasks::{Refusal, Rule, Task, limits};
 fn is_outside(low: u32, high: u32, x: u32) -> bool
     ensures { result ≡ outside low high x }
 {
-    if x < low {
-        return true;
-    }
-    high < x
+    x < low || high < x
 }
 
 // "A separation is not 1 to 100,000."
@@ -50,10 +47,7 @@ fn bad_wish(task: Task) -> bool
 fn bad_deadline(task: Task, edition: u8) -> bool
     ensures { result ≡ bad_deadline edition task }
 {
-    if has_deadlines(edition) {
-        return is_outside(1, limits::DEADLINE_HIGH, task.deadline);
-    }
-    false
+    has_deadlines(edition) && is_outside(1, limits::DEADLINE_HIGH, task.deadline)
 }
 
 // No number is this large: the number of a task that meets none.
@@ -105,15 +99,12 @@ fn ranges(task: [Task; 16], tasks: usize, edition: u8, wishes: bool) -> Result<(
 {
     let mut number = NOTHING;
     let mut index = 0u16;
-    let mut i = 0;
-    while i < tasks {
-        let t = task[i];
-        let next = met(t, edition, wishes);
+    for i in 0..tasks {
+        let next = met(task[i], edition, wishes);
         if next < number {
             number = next;
             index = i as u16;
         }
-        i += 1;
     }
     if number == NOTHING {
         return Ok(());

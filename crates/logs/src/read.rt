@@ -28,12 +28,10 @@ fn first_late(log: &[u8], count: usize) -> usize
     requires { 2 + 9 * count ≤ length log.now }
     ensures { result ≡ first (λ e. ltb 1000000000 (entry_in log.now e).tick) count }
 {
-    let mut e = 0;
-    while e < count {
+    for e in 0..count {
         if limits::TICK_HIGH < number4(log, 2 + 9 * e) {
             return e;
         }
-        e += 1;
     }
     count
 }

@@ -2,7 +2,7 @@
 // passes the limit of refusal 9.
 #![tactic(auto)]
 
-ghost use Rattle.std.specs.Prelude.{◌≡◌, ◌+◌, ◌<◌, min, get_or};
+ghost use Rattle.std.specs.Prelude.{◌≡◌, min, get_or};
 ghost use Rattle.laws.specs.Multiple.{lcm, lcm_below};
 ghost use Rattle.multiple.specs.Greatest.{Greatest};
 ghost use Rattle.multiple.specs.Allowed.{Pair, Separations};
@@ -37,26 +37,17 @@ pub fn joined(h: u64, t: u64) -> u64
     h / g * t
 }
 
-// The same number in 64 bits, with its range said beside it: a cast of an element asks for that.
-pub fn wide(x: u32) -> u64
-    ensures { (result ≡ x) × (result < 4294967296) }
-{
-    x as u64
-}
-
 // The least common multiple of the first `tasks` separations, or 1,000,001 where it is above 1,000,000.
 pub fn common_multiple(separation: &[u32; 16], tasks: usize) -> u64
     requires { Separations separation.now tasks }
     ensures { result ≡ min (lcm_below (λ i. get_or separation.now i 0) tasks) 1000001 }
 {
     let mut h: u64 = 1;
-    let mut i: usize = 0;
-    while i < tasks {
-        h = joined(h, wide(separation[i]));
+    for t in &separation[..tasks] {
+        h = joined(h, u64::from(*t));
         if MULTIPLE_HIGH < h {
             return MULTIPLE_HIGH + 1;
         }
-        i += 1;
     }
     h
 }

@@ -2,7 +2,7 @@
 // and nothing is released every tick is the same tick.
 #![tactic(auto)]
 
-ghost use Rattle.std.specs.Prelude.{◌≡◌, ◌≤◌, ◌<◌, min, length};
+ghost use Rattle.std.specs.Prelude.{◌≡◌, ◌≤◌, ◌<◌, length};
 ghost use Rattle.running.specs.Running.{arrays};
 ghost use Rattle.running.specs.Leap.{Standing, Ready, Leapt, Advanced};
 ghost use Rattle.running.specs.FinishCode.{Finishing, Finished};
@@ -84,23 +84,12 @@ fn finish_all(
         (arrays jobs.new owners.new key.new left.new result out.new) }
 {
     let mut count = heads;
-    let mut a = 0;
-    while a < finished {
+    for a in 0..finished {
         count = finish(
             done[a], clock, log, offsets, jobs, owners, key, left, count, out,
         );
-        a += 1;
     }
     count
-}
-
-fn fewer(x: usize, y: usize) -> usize
-    ensures { result ≡ min x y }
-{
-    if x < y {
-        return x;
-    }
-    y
 }
 
 // One leap towards clock `to`: so many ticks as pass until a running job finishes, or until `to`.
@@ -125,7 +114,7 @@ fn leap(
         (arrays jobs.old owners.old key.old left.old heads out.old) result.clock
         (arrays jobs.new owners.new key.new left.new result.heads out.new) }
 {
-    let ticks = least(left, fewer(cores, heads), to - clock);
+    let ticks = least(left, cores.min(heads), to - clock);
     let reached = clock + ticks;
     let mut done = [0usize; 16];
     let after = run_heads(key, left, &mut done, heads, cores, ticks);

@@ -1,7 +1,7 @@
 // The reader: its one stage, which finds the three counts or refuses, and the loading of each section's entries, which cannot refuse.
 #![tactic(auto)]
 
-ghost use Rattle.std.specs.Prelude.{◌≡◌, ◌+◌, ◌*◌, ◌≤◌, min, length};
+ghost use Rattle.std.specs.Prelude.{◌≡◌, ◌+◌, ◌*◌, ◌≤◌, length};
 ghost use Rattle.laws.specs.Tab.{tab, cut};
 ghost use Rattle.tasks.specs.Content.{no_task};
 ghost use Rattle.numbers.specs.Bytes.{byte, number};
@@ -11,6 +11,7 @@ ghost use Rattle.reader.specs.Counted.{Counted};
 use codec::entry::{task_at, task_size};
 use codec::places::{slack_from, table_length, tasks_from};
 use numbers::{count_at, number4};
+use std::array;
 use tasks::edition::is_unknown;
 use tasks::{Refusal, Rule, Task};
 use tidy::no_task;
@@ -63,25 +64,12 @@ pub fn read_counts(t: &[u8]) -> Result<Counts, Refusal>
     })
 }
 
-fn lesser(a: usize, b: usize) -> usize
-    ensures { result ≡ min a b }
-{
-    if a < b { a } else { b }
-}
-
 // The labels of `cores` entries from the third byte on, zeros in the places past them.
 pub fn load_labels(t: &[u8], cores: usize) -> [u8; 8]
     requires { 2 + cores ≤ length t.now }
     ensures { result ≡ tab (cut cores (λ i. byte t.now (2 + i)) 0) 8 }
 {
-    let mut labels = [0; 8];
-    let end = lesser(cores, 8);
-    let mut i = 0;
-    while i < end {
-        labels[i] = t[2 + i];
-        i += 1;
-    }
-    labels
+    array::from_fn(|i| if i < cores { t[2 + i] } else { 0 })
 }
 
 // The tasks of `count` entries from `from` on, zeros in the places past them.
@@ -89,16 +77,12 @@ pub fn load_tasks(t: &[u8], from: usize, count: usize, edition: u8) -> [Task; 16
     requires { from + task_size edition * count ≤ length t.now }
     ensures { result ≡ tab (cut count (λ i. task_in edition t.now (from + task_size edition * i)) no_task) 16 }
 {
-    let none = no_task();
-    let mut tasks = [none; 16];
     let size = task_size(edition);
-    let end = lesser(count, 16);
-    let mut i = 0;
-    while i < end {
-        tasks[i] = task_at(t, from + size * i, edition);
-        i += 1;
-    }
-    tasks
+    array::from_fn(|i| if i < count {
+        task_at(t, from + size * i, edition)
+    } else {
+        no_task()
+    })
 }
 
 // The slack of `count` entries from `from` on, zeros in the places past them.
@@ -106,12 +90,9 @@ pub fn load_slack(t: &[u8], from: usize, count: usize) -> [u32; 16]
     requires { from + 4 * count ≤ length t.now }
     ensures { result ≡ tab (cut count (λ i. number 4 t.now (from + 4 * i)) 0) 16 }
 {
-    let mut slack = [0; 16];
-    let end = lesser(count, 16);
-    let mut i = 0;
-    while i < end {
-        slack[i] = number4(t, from + 4 * i);
-        i += 1;
-    }
-    slack
+    array::from_fn(|i| if i < count {
+        number4(t, from + 4 * i)
+    } else {
+        0
+    })
 }

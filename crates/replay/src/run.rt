@@ -55,8 +55,7 @@ fn enter_all(
     let mut clock = 0u32;
     let mut heads = 0;
     let mut taken = 0;
-    let mut e = 0;
-    while e < count {
+    for e in 0..count {
         let place = enter(
             log,
             e,
@@ -78,7 +77,6 @@ fn enter_all(
         clock = place.clock;
         heads = place.heads;
         taken += place.taken;
-        e += 1;
     }
     Place {
         clock,

@@ -21,11 +21,7 @@ fn put_labels(out: &mut [u8], at: usize, labels: &[u8; 8], count: usize)
 {
     out[at] = count as u8;
     let from = at + 1;
-    let mut i = 0;
-    while i < count {
-        out[from + i] = labels[i];
-        i += 1;
-    }
+    out[from..from + count].copy_from_slice(&labels[..count]);
 }
 
 // The loops' section.
@@ -36,10 +32,8 @@ fn put_tasks(out: &mut [u8], at: usize, task: [Task; 16], count: usize, edition:
     out[at] = count as u8;
     let from = at + 1;
     let size = task_size(edition);
-    let mut i = 0;
-    while i < count {
+    for i in 0..count {
         put_task(out, from + size * i, task[i], edition);
-        i += 1;
     }
 }
 
@@ -50,10 +44,8 @@ fn put_slack(out: &mut [u8], at: usize, slack: &[u32; 16], count: usize)
 {
     out[at] = count as u8;
     let from = at + 1;
-    let mut i = 0;
-    while i < count {
+    for i in 0..count {
         put4(out, from + 4 * i, slack[i]);
-        i += 1;
     }
 }
 

@@ -2,6 +2,7 @@
 --     moved-step           one store more, at p + 1
 --     moved_row i l         the row of l with the places of loop i moved down, the freed one 0; row_to i p l: with the first p moved
 --     moved-row            the places moved down are that row's list
+--     moved-copied         fifteen places copied to the places before them are those that are moved one after the other
 use Prim.Native.Nat.{ℕ, zero, suc, ◌+◌, ◌*◌, ◌/◌, ◌%◌, ◌≤◌, ◌<◌}
 use Rattle.std.specs.Prelude.{Bool, ◌&&◌, ◌≡◌, List, length, get_or, set}
 use Rattle.std.proofs.Math.Bool.{true, false, cond}
@@ -112,3 +113,35 @@ module _ (i : ℕ) (l : List ℕ) (h : i < 16) (e : length l ≡ 256) where
   pub moved-row : moved i l ≡ tab (moved_row i l) 256
   unfolding moved
   moved-row = move_all i l (moved_to i l 15) h (moved_to_lem 15 (omega arith))
+
+  pub moved-copied :
+      (m : List ℕ) → length m ≡ 256
+      → ((k : ℕ) → 16 * i ≤ k → k < 16 * i + 15 → get_or m k 0 ≡ get_or l (k + 1) 0)
+      → ((k : ℕ) → k < 16 * i → get_or m k 0 ≡ get_or l k 0)
+      → ((k : ℕ) → 16 * i + 15 ≤ k → get_or m k 0 ≡ get_or l k 0)
+      → m ≡ moved_to i l 15
+  unfolding row
+  moved-copied m f copied below above =
+      ext_tab (row_to i 15 l) m 256 0 f (by_place (λ k. get_or m k 0 ≡ row_to i 15 l k) at) ∙ sym (moved_to_lem 15 (omega arith))
+    where
+      at : (j q : ℕ) → j < 16 → q < 16 → get_or m (16 * j + q) 0 ≡ row_to i 15 l (16 * j + q)
+      at j q a b = rw (moved_at i 15 l j q b) (go (ltb j i) refl (eqb j i) refl (ltb q 15) refl)
+        where
+          go :
+              (x : Bool) → ltb j i ≡ x → (y : Bool) → eqb j i ≡ y → (z : Bool) → ltb q 15 ≡ z
+              → get_or m (16 * j + q) 0 ≡ cond (eqb j i && ltb q 15) (get_or l (16 * j + q + 1) 0) (get_or l (16 * j + q) 0)
+          go x u true y true z =
+              let v = eqb-true j i y in
+              let w = ltb-true q 15 z in
+              rw (y, z) (copied (16 * j + q) (omega arith) (omega arith))
+          go x u true y false z =
+              let v = eqb-true j i y in
+              let w = ltb-false q 15 z in
+              rw (y, z) (above (16 * j + q) (omega arith))
+          go true x false y z w =
+              let v = ltb-true j i x in
+              rw y (below (16 * j + q) (omega arith))
+          go false x false y z w =
+              let v = ltb-false j i x in
+              let ne = eqb-false j i y in
+              rw y (above (16 * j + q) (omega arith))

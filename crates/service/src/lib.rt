@@ -9,27 +9,13 @@ ghost use Rattle.service.specs.CodeLaws.{Turned, Are, Joined};
 
 use choice::NO_KEY;
 
-// x − y, 0 where y is larger.
-pub fn less(x: u32, y: u32) -> u32
-    ensures { result ≡ x - y }
-{
-    if x < y {
-        return 0;
-    }
-    x - y
-}
-
 // The sixteen places of task `i` moved down by one, "oldest first", with the freed place zero.
 pub fn move_down(places: &mut [u32; 256], i: usize)
     requires { i < 16 }
     ensures { places.new ≡ moved i places.old }
 {
     let base = 16 * i;
-    let mut p = 0;
-    while p < 15 {
-        places[base + p] = places[base + p + 1];
-        p += 1;
-    }
+    places.copy_within(base + 1..base + 16, base);
     places[base + 15] = 0;
 }
 
@@ -60,10 +46,10 @@ fn turn(
         remaining[16 * i] = work - 1;
         return;
     }
-    responses[i] = less(finish, release[16 * i]);
+    responses[i] = finish.saturating_sub(release[16 * i]);
     move_down(remaining, i);
     move_down(release, i);
-    jobs[i] = jobs[i] - 1;
+    jobs[i] -= 1;
 }
 
 // A tick that ends at clock `finish`, for all tasks, with the keys that the choice left. `tasks` is n: beyond it no task has a job, and no turn
@@ -89,10 +75,8 @@ pub fn serve(
         16)
         jobs.new remaining.new release.new responses.new }
 {
-    let mut i = 0;
-    while i < tasks {
+    for i in 0..tasks {
         turn(i, finish, keys[i], jobs, remaining, release, responses);
-        i += 1;
     }
 }
 

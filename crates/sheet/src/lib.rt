@@ -10,6 +10,7 @@ ghost use Rattle.sheet.specs.Wished.{wish_of, handed};
 ghost use Rattle.sheet.specs.WishedLaws.{Wishes};
 
 use reader::read_counts;
+use std::array;
 use table::load;
 use tasks::edition::deadline_in;
 use tasks::{Plan, Refusal, Task};
@@ -28,20 +29,16 @@ fn with_offsets(edition: u8, task: [Task; 16], offset: &[u32; 16], tasks: usize)
     requires { tasks ≤ 16 }
     ensures { result ≡ tab (cut tasks (λ i. with_offset (in_edition edition (task_of task i)) (row offset.now i)) no_task) 16 }
 {
-    let none = no_task();
-    let mut found = [none; 16];
-    let mut i = 0;
-    while i < tasks {
+    array::from_fn(|i| if i < tasks {
         let t = task[i];
-        found[i] = Task {
-            separation: t.separation,
-            budget: t.budget,
+        Task {
             offset: offset[i],
             deadline: deadline_in(edition, t.deadline),
-        };
-        i += 1;
-    }
-    found
+            ..t
+        }
+    } else {
+        no_task()
+    })
 }
 
 // The tests of a sheet that meets neither 1 nor 2, and its plan.

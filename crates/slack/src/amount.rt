@@ -6,7 +6,6 @@ ghost use Rattle.slack.specs.Arrays.{ArraysOf, Needs};
 ghost use Rattle.slack.specs.Weights.{weight_row, Few, Weighed, Amounts};
 
 use largest::choose;
-use multiple::wide;
 
 // Names to begin with: the tasks in their own order.
 pub fn first_names() -> [u8; 16]
@@ -22,13 +21,11 @@ fn weigh(share: &[u64; 16], offset: &[u32; 16], slack: &[u32; 16], tasks: usize)
     ensures { Weighed (weight_row share.now offset.now slack.now) tasks result }
 {
     let mut weight = [0u64; 16];
-    let mut i = 0;
-    while i < 16 {
+    for i in 0..16 {
         if i == tasks {
-            return weight;
+            break;
         }
-        weight[i] = share[i] * (wide(slack[i]) + wide(offset[i]));
-        i += 1;
+        weight[i] = share[i] * (u64::from(slack[i]) + u64::from(offset[i]));
     }
     weight
 }

@@ -6,7 +6,7 @@ ghost use Rattle.tasks.specs.TaskSet.{row};
 ghost use Rattle.fields.specs.Columns.{set_from};
 ghost use Rattle.slack.specs.Rates.{Ranges, Rated};
 
-use multiple::{MULTIPLE_HIGH, common_multiple, wide};
+use multiple::{MULTIPLE_HIGH, common_multiple};
 use tasks::{Refusal, Rule};
 
 // The rates of a task set that meets none of 6 to 10.
@@ -22,10 +22,8 @@ fn shares(separation: &[u32; 16], budget: &[u32; 16], multiple: u64, tasks: usiz
     ensures { result ≡ tab (cut tasks (λ i. row budget.now i * multiple / row separation.now i) 0) 16 }
 {
     let mut share = [0u64; 16];
-    let mut i = 0;
-    while i < tasks {
-        share[i] = wide(budget[i]) * multiple / wide(separation[i]);
-        i += 1;
+    for i in 0..tasks {
+        share[i] = u64::from(budget[i]) * multiple / u64::from(separation[i]);
     }
     share
 }
@@ -35,10 +33,8 @@ pub fn total(share: &[u64; 16], tasks: usize) -> u64
     ensures { result ≡ sum (row share.now) tasks }
 {
     let mut all = 0;
-    let mut i = 0;
-    while i < tasks {
-        all += share[i];
-        i += 1;
+    for x in &share[..tasks] {
+        all += *x;
     }
     all
 }
@@ -53,10 +49,8 @@ pub fn surplus_of(
     ensures { result ≡ sum (λ i. row share.now i * (row separation.now i - row offset.now i)) tasks }
 {
     let mut all = 0;
-    let mut i = 0;
-    while i < tasks {
-        all += share[i] * wide(separation[i] - offset[i]);
-        i += 1;
+    for i in 0..tasks {
+        all += share[i] * u64::from(separation[i] - offset[i]);
     }
     all
 }

@@ -25,16 +25,7 @@ pub fn no_task() -> Task
 pub fn is_no_task(task: Task) -> bool
     ensures { result ≡ zero_task task }
 {
-    if task.separation != 0 {
-        return false;
-    }
-    if task.budget != 0 {
-        return false;
-    }
-    if task.offset != 0 {
-        return false;
-    }
-    task.deadline == 0
+    task.separation == 0 && task.budget == 0 && task.offset == 0 && task.deadline == 0
 }
 
 // A plan of zeros, which a refused judgement hands back.
@@ -58,11 +49,7 @@ pub fn tidy_bytes(bytes: &[u8], count: usize) -> [u8; 8]
     ensures { result ≡ tab (cut count (row bytes.now) 0) 8 }
 {
     let mut out = [0u8; 8];
-    let mut i = 0;
-    while i < count {
-        out[i] = bytes[i];
-        i += 1;
-    }
+    out[..count].copy_from_slice(&bytes[..count]);
     out
 }
 
@@ -71,11 +58,7 @@ pub fn tidy_slack(slack: &[u32; 16], tasks: usize) -> [u32; 16]
     ensures { result ≡ tab (cut tasks (row slack.now) 0) 16 }
 {
     let mut out = [0u32; 16];
-    let mut i = 0;
-    while i < tasks {
-        out[i] = slack[i];
-        i += 1;
-    }
+    out[..tasks].copy_from_slice(&slack[..tasks]);
     out
 }
 
@@ -84,10 +67,8 @@ fn in_edition(edition: u8, task: Task) -> Task
     ensures { result ≡ in_edition edition task }
 {
     Task {
-        separation: task.separation,
-        budget: task.budget,
-        offset: task.offset,
         deadline: deadline_in(edition, task.deadline),
+        ..task
     }
 }
 
@@ -96,11 +77,8 @@ fn tidy_tasks(edition: u8, task: [Task; 16], tasks: usize) -> [Task; 16]
     ensures { result ≡ tab (cut tasks (λ i. in_edition edition (task_of task i)) no_task) 16 }
 {
     let mut out = [no_task(); 16];
-    let mut i = 0;
-    while i < tasks {
-        let t = task[i];
-        out[i] = in_edition(edition, t);
-        i += 1;
+    for i in 0..tasks {
+        out[i] = in_edition(edition, task[i]);
     }
     out
 }
@@ -110,23 +88,10 @@ pub fn tidied(plan: Plan) -> Plan
     requires { (plan.cores ≤ 8) × (1 ≤ plan.tasks) × (plan.tasks ≤ 16) }
     ensures { result ≡ tidy plan }
 {
-    let edition = plan.edition;
-    let offered = plan.offered;
-    let cores = plan.cores;
-    let tasks = plan.tasks;
-    let labels = plan.labels;
-    let task = plan.task;
-    let slack = plan.slack;
-    let labels = tidy_bytes(&labels, cores);
-    let task = tidy_tasks(edition, task, tasks);
-    let slack = tidy_slack(&slack, tasks);
     Plan {
-        edition,
-        offered,
-        cores,
-        tasks,
-        labels,
-        task,
-        slack,
+        labels: tidy_bytes(&plan.labels, plan.cores),
+        task: tidy_tasks(plan.edition, plan.task, plan.tasks),
+        slack: tidy_slack(&plan.slack, plan.tasks),
+        ..plan
     }
 }

@@ -8,7 +8,7 @@ use Rattle.clauses.proofs.labels_zero.Goals as goal
 
 pub loop-i-init : goal.loop-i-init
 unfolding all_of
-loop-i-init c = (omega arith, refl)
+loop-i-init c = refl
 
 pub returns-then-not-label_zero : goal.returns-then-not-label_zero
 unfolding label_zero row
@@ -16,4 +16,4 @@ returns-then-not-label_zero c = sym (all_fails _ 8 c.loop-i.i (omega arith) (sym
 
 pub loop-i-preserved : goal.loop-i-preserved
 unfolding label_zero row
-loop-i-preserved c = (omega arith, all_more _ c.loop-i.i c.loop-i.invariant.1 (sym c.label_zero.ensures ∙ c.if-not-label_zero.false))
+loop-i-preserved c = all_more _ c.loop-i.i c.loop-i.invariant (sym c.label_zero.ensures ∙ c.if-not-label_zero.false)

@@ -11,4 +11,4 @@ returns-then-held-gt-JOBS_HIGH c = rw (lt-leb _ _ c.if-held-gt-JOBS_HIGH.true)
 
 pub returns : goal.returns
 unfolding loop_holds row
-returns c = rw (← c.pred.ensures) c.loop_sound.ensures
+returns c = rw (← c.saturating_sub.ensures) c.loop_sound.ensures

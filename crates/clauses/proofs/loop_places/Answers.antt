@@ -10,7 +10,7 @@ returns-then-jobs-eq0 c =
     let a = c.args in
     rw c.if-jobs-eq0.true (c.unused_places.ensures a.separation a.budget a.clock refl)
 
-pub returns-then-not-used_places : goal.returns-then-not-used_places
-returns-then-not-used_places c =
+pub returns-else-used_places : goal.returns-else-used_places
+returns-else-used_places c =
     let a = c in
-    sym (all_short _ a.args.jobs 16 a.requires.1 (sym c.used_places.ensures ∙ c.if-not-used_places.true))
+    c.if-used_places.false ∙ sym (all_short _ a.args.jobs 16 a.requires.1 (sym c.used_places.ensures ∙ c.if-used_places.false))

@@ -9,7 +9,7 @@ use Rattle.clauses.proofs.places.Goals as goal
 
 pub loop-i-init : goal.loop-i-init
 unfolding all_of
-loop-i-init c = (omega arith, refl)
+loop-i-init c = refl
 
 pub loop_places-requires : goal.loop_places-requires
 unfolding row
@@ -29,9 +29,7 @@ pub loop-i-preserved : goal.loop-i-preserved
 unfolding task_of no_task row
 loop-i-preserved c =
     let a = c.args in
-    let l = c.loop-i in (
-      omega arith,
-      block_more (place_holds a.task a.clock a.jobs.now a.release.now a.remaining.now) _ l.i
-          (place-of a.task a.clock a.jobs.now a.release.now a.remaining.now l.i) l.invariant.1
-          (sym c.loop_places.ensures ∙ c.if-not-loop_places.false),
-    )
+    let l = c.loop-i in
+    block_more (place_holds a.task a.clock a.jobs.now a.release.now a.remaining.now) _ l.i
+    (place-of a.task a.clock a.jobs.now a.release.now a.remaining.now l.i) l.invariant
+    (sym c.loop_places.ensures ∙ c.if-not-loop_places.false)

@@ -2,12 +2,9 @@
 use Rattle.clauses.specs.SoundTests.{place_holds}
 use Rattle.state.specs.SoundState.{all_of}
 use mathlib.Core.Bool.{true}
-use Prim.Native.Nat.{◌≤◌, ◌-◌, ◌*◌}
+use Prim.Native.Nat.{◌*◌}
 use mathlib.Core.Path.{◌≡◌}
 use Rattle.clauses.proofs.places.Given as goal
 
 abbrev pub invariant-loop-i : goal.invariant-loop-i
-invariant-loop-i l = (l.i ≤ 16) × (all_of (place_holds l.task l.clock l.jobs l.release l.remaining) (16 * l.i) ≡ true)
-
-abbrev pub decreases-loop-i : goal.decreases-loop-i
-decreases-loop-i l = 16 - l.i
+invariant-loop-i l = all_of (place_holds l.task l.clock l.jobs l.release l.remaining) (16 * l.i) ≡ true

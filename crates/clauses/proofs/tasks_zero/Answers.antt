@@ -9,7 +9,7 @@ use Rattle.clauses.proofs.tasks_zero.Goals as goal
 
 pub loop-i-init : goal.loop-i-init
 unfolding all_of
-loop-i-init c = (omega arith, refl)
+loop-i-init c = refl
 
 pub returns-then-not-task_zero : goal.returns-then-not-task_zero
 unfolding task_zero task_of no_task row
@@ -33,11 +33,9 @@ returns-then-not-deadline_zero c =
 pub loop-i-preserved : goal.loop-i-preserved
 unfolding task_zero task_of no_task row
 loop-i-preserved c =
-    let l = c.loop-i in (
-      omega arith,
-      all_more _ l.i l.invariant.1
-          (rw (
-            sym c.task_zero.ensures ∙ c.if-not-task_zero.false,
-            sym c.deadline_zero.ensures ∙ c.if-not-deadline_zero.false,
-          )),
-    )
+    let l = c.loop-i in
+    all_more _ l.i l.invariant
+    (rw (
+      sym c.task_zero.ensures ∙ c.if-not-task_zero.false,
+      sym c.deadline_zero.ensures ∙ c.if-not-deadline_zero.false,
+    ))

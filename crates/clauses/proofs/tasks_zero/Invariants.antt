@@ -2,12 +2,8 @@
 use Rattle.clauses.specs.SoundTests.{task_zero}
 use Rattle.state.specs.SoundState.{all_of}
 use mathlib.Core.Bool.{true}
-use Prim.Native.Nat.{◌≤◌, ◌-◌}
 use mathlib.Core.Path.{◌≡◌}
 use Rattle.clauses.proofs.tasks_zero.Given as goal
 
 abbrev pub invariant-loop-i : goal.invariant-loop-i
-invariant-loop-i l = (l.i ≤ 16) × (all_of (task_zero l.edition l.tasks l.task l.slack) l.i ≡ true)
-
-abbrev pub decreases-loop-i : goal.decreases-loop-i
-decreases-loop-i l = 16 - l.i
+invariant-loop-i l = all_of (task_zero l.edition l.tasks l.task l.slack) l.i ≡ true

@@ -2,13 +2,10 @@
 use Rattle.clauses.specs.SoundTests.{place_in}
 use Rattle.state.specs.SoundState.{all_of}
 use mathlib.Core.Bool.{true}
-use Prim.Native.Nat.{ℕ, ◌≤◌, ◌-◌}
+use Prim.Native.Nat.{ℕ}
 use mathlib.Core.Path.{◌≡◌}
 use Rattle.clauses.proofs.unused_places.Given as goal
 
 abbrev pub invariant-loop-p : goal.invariant-loop-p
-invariant-loop-p l = (l.p ≤ 16) × (l.jobs ≤ l.p)
-    × ((T C t : ℕ) → all_of (place_in T C t l.jobs l.release l.remaining l.i) l.jobs ≡ true → l.zero ≡ all_of (place_in T C t l.jobs l.release l.remaining l.i) l.p)
-
-abbrev pub decreases-loop-p : goal.decreases-loop-p
-decreases-loop-p l = 16 - l.p
+invariant-loop-p l =
+    (T C t : ℕ) → all_of (place_in T C t l.jobs l.release l.remaining l.i) l.jobs ≡ true → l.zero ≡ all_of (place_in T C t l.jobs l.release l.remaining l.i) l.p

@@ -9,7 +9,7 @@ use Rattle.clauses.proofs.used_places.Goals as goal
 
 pub loop-p-init : goal.loop-p-init
 unfolding all_of least_at
-loop-p-init c = (omega arith, refl, refl)
+loop-p-init c = (refl, refl)
 
 pub returns-then-not-used_sound : goal.returns-then-not-used_sound
 unfolding row
@@ -19,7 +19,7 @@ returns-then-not-used_sound c =
     let h : l.p < a.jobs = omega arith in
     sym
     (all_fails _ a.jobs l.p h
-    (rw (used-holds a.separation a.budget a.clock a.jobs a.release.now a.remaining.now a.i l.p h, ← l.invariant.2)
+    (rw (used-holds a.separation a.budget a.clock a.jobs a.release.now a.remaining.now a.i l.p h, ← l.invariant.1)
     (sym c.used_sound.ensures ∙ c.if-not-used_sound.true)))
 
 pub loop-p-preserved : goal.loop-p-preserved
@@ -28,9 +28,8 @@ loop-p-preserved c =
     let a = c.args in
     let l = c.loop-p in
     let h : l.p < a.jobs = omega arith in (
-      omega arith,
-      all_more _ l.p l.invariant.1
-          (rw (used-holds a.separation a.budget a.clock a.jobs a.release.now a.remaining.now a.i l.p h, ← l.invariant.2)
+      all_more _ l.p l.invariant.0
+          (rw (used-holds a.separation a.budget a.clock a.jobs a.release.now a.remaining.now a.i l.p h, ← l.invariant.1)
           (sym c.used_sound.ensures ∙ c.if-not-used_sound.false)),
-      c.later-least.ensures ∙ sym (least_more a.separation a.release.now a.i l.p),
+      sym (least_more a.separation a.release.now a.i l.p),
     )

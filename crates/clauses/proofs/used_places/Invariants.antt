@@ -2,12 +2,8 @@
 use Rattle.clauses.specs.SoundTests.{place_in, least_at}
 use Rattle.state.specs.SoundState.{all_of}
 use mathlib.Core.Bool.{true}
-use Prim.Native.Nat.{◌≤◌, ◌-◌}
 use mathlib.Core.Path.{◌≡◌}
 use Rattle.clauses.proofs.used_places.Given as goal
 
 abbrev pub invariant-loop-p : goal.invariant-loop-p
-invariant-loop-p l = (l.p ≤ l.jobs) × (all_of (place_in l.separation l.budget l.clock l.jobs l.release l.remaining l.i) l.p ≡ true) × (l.least ≡ least_at l.separation l.release l.i l.p)
-
-abbrev pub decreases-loop-p : goal.decreases-loop-p
-decreases-loop-p l = l.jobs - l.p
+invariant-loop-p l = (all_of (place_in l.separation l.budget l.clock l.jobs l.release l.remaining l.i) l.p ≡ true) × (l.least ≡ least_at l.separation l.release l.i l.p)

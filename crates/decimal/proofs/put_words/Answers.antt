@@ -1,10 +1,7 @@
--- `decimal::put_words` meets its contract. The loop's invariant: the first i bytes are copied.
-use Rattle.decimal.proofs.PutLaws.{words-next}
-use native.Mathlib.Omega.{arith}
-use borrow.Author.Rules.{rules}
+-- `decimal::put_words` meets its contract.
+use Rattle.std.proofs.Common.{arith}
+use Rattle.decimal.proofs.PutLaws.{words-put}
 use Rattle.decimal.proofs.put_words.Goals as goal
 
-pub loop-i-preserved : goal.loop-i-preserved
-loop-i-preserved c =
-    let l = c.loop-i in
-    (search rules, search rules, words-next _ _ _ _ _ l.invariant.2 (omega arith))
+pub returns : goal.returns
+returns c = words-put _ _ _ _ _ c.copy_from_slice.ensures.after (omega arith) c.requires

@@ -1,6 +1,6 @@
 -- `multiple::common_multiple` meets its contract. The loop's invariant: h is the least common multiple of the separations passed, and within
 -- the limit. Once it is past the limit the whole is too, since a further separation never makes it smaller.
-use Prim.Native.Nat.{ℕ, ◌≤◌, ◌-◌}
+use Prim.Native.Nat.{ℕ, ◌≤◌}
 use mathlib.Core.Path.{◌≡◌}
 use mathlib.Core.List.{List}
 use lib.ListN.{get_or}
@@ -11,8 +11,5 @@ use Rattle.multiple.proofs.common_multiple.Given as goal
 abbrev pub row : List ℕ → ℕ → ℕ
 row separation i = get_or separation i 0
 
-abbrev pub invariant-loop-i : goal.invariant-loop-i
-invariant-loop-i l = (l.i ≤ l.tasks) × (l.h ≤ 1000000) × (l.h ≡ lcm_below (row l.separation) l.i)
-
-abbrev pub decreases-loop-i : goal.decreases-loop-i
-decreases-loop-i l = l.tasks - l.i
+abbrev pub invariant-loop-t : goal.invariant-loop-t
+invariant-loop-t l = (l.h ≤ 1000000) × (l.h ≡ lcm_below (row l.separation) l.t-index)

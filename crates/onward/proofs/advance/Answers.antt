@@ -16,3 +16,7 @@ loop-clock-preserved c =
     let l = c.loop-clock in
     let g = c.leap-stop.ensures in
     (omega (arith, g.2.onward), g.2.within, search rules, g.0, g.1, advanced-more l.invariant.0 l.invariant.5 g.2)
+
+-- a leap that stops before `to` finishes a job
+pub loop-clock-smaller : goal.loop-clock-smaller
+loop-clock-smaller c = let l = c.leap-stop.ensures.2 in omega (arith, l.fewer, l.onward, l.within)

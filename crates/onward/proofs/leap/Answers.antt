@@ -9,12 +9,12 @@ pub least-ticks-requires : goal.least-ticks-requires
 least-ticks-requires c =
     let P = c.requires in
     let n = ready-few P.3.1 in
-    omega (arith, n, c.fewer.ensures)
+    omega (arith, n, c.min.ensures)
 
 pub overflow_add-reached : goal.overflow_add-reached
 overflow_add-reached c =
     let P = c.requires in
-    let t = leap_in P.3.1 P.2 c.fewer.ensures c.least-ticks.ensures in
+    let t = leap_in P.3.1 P.2 c.min.ensures c.least-ticks.ensures in
     omega (arith, t.1, P.3.1.limit)
 
 pub run_heads-after-requires : goal.run_heads-after-requires
@@ -30,7 +30,7 @@ finish_all-heads-requires c =
       omega (arith, s.3, n),
       s.5,
       s.6,
-      leap_finishing P.3.1 P.2 c.fewer.ensures c.least-ticks.ensures s.0 s.1,
+      leap_finishing P.3.1 P.2 c.min.ensures c.least-ticks.ensures s.0 s.1,
     )
 
 pub returns : goal.returns
@@ -40,5 +40,5 @@ returns c =
     let f = c.finish_all-heads.ensures in (
       f.0,
       f.1,
-      leap_made P.3 P.2 c.fewer.ensures c.least-ticks.ensures s.0 s.1 f.2,
+      leap_made P.3 P.2 c.min.ensures c.least-ticks.ensures s.0 s.1 f.2,
     )

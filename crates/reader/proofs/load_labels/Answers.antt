@@ -1,18 +1,10 @@
--- `reader::load_labels` meets its contract. The loop's invariant: the array is filled up to i, and holds zeros after it.
-use native.Mathlib.Omega.{arith}
-use mathlib.Core.Path.{refl}
-use Rattle.laws.specs.TabLaws.{filled_none}
+-- `reader::load_labels` meets its contract: the call of the closure at each place hands back the row's entry, and changes nothing of what it reads.
+use Rattle.std.proofs.Common.{rules}
+use Rattle.laws.specs.Tab.{cut}
 use Rattle.numbers.specs.Bytes.{byte}
-use Rattle.reader.specs.LoadLaws.{filled_step, filled_end}
-use borrow.Author.Rules.{rules}
+use Rattle.reader.specs.LoadLaws.{from_fn_tab}
 use Rattle.reader.proofs.load_labels.Goals as goal
 
-pub loop-i-init : goal.loop-i-init
-loop-i-init c = (search rules, filled_none _ 0 8)
-
-pub loop-i-preserved : goal.loop-i-preserved
-unfolding byte
-loop-i-preserved c = (search rules, filled_step _ 0 _ 8 _ _ (omega arith) c.loop-i.invariant.1 refl)
-
 pub returns : goal.returns
-returns c = filled_end _ 0 _ 8 _ _ (omega arith) c.loop-i.invariant.1
+unfolding cut byte
+returns c = from_fn_tab _ _ _ 8 _ (λ i v after below called. (search rules, search rules)) 0 c.from_fn.ensures.items

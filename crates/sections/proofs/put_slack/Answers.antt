@@ -4,18 +4,13 @@ use Rattle.tasks.specs.TaskSet.{row}
 use Rattle.numbers.specs.Bytes.{entries}
 use Rattle.numbers.specs.StoreLaws.{sets-entry}
 use Rattle.numbers.specs.ByteLaws.{length_digits}
-use borrow.Author.Rules.{rules}
 use Rattle.sections.proofs.put_slack.Goals as goal
 
 pub loop-i-init : goal.loop-i-init
 unfolding entries
-loop-i-init c = (search rules, refl, refl)
+loop-i-init c = refl
 
 pub loop-i-preserved : goal.loop-i-preserved
 unfolding row
 loop-i-preserved c =
-    let l = c.loop-i.invariant in (
-      search rules,
-      c.put4.auto.out ∙ l.1,
-      c.put4.ensures ∙ sets-entry 4 _ (λ j. length_digits 4 _) _ _ _ _ _ _ l.2 refl refl,
-    )
+    c.put4.ensures ∙ sets-entry 4 _ (λ j. length_digits 4 _) _ _ _ _ _ _ c.loop-i.invariant refl refl

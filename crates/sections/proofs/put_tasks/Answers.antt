@@ -5,21 +5,16 @@ use Rattle.numbers.specs.Bytes.{entries}
 use Rattle.codec.specs.Table.{task_size}
 use Rattle.numbers.specs.StoreLaws.{sets-entry}
 use Rattle.codec.specs.TaskLaws.{length-task}
-use borrow.Author.Rules.{rules}
 use Rattle.sections.proofs.put_tasks.Goals as goal
 
 pub loop-i-init : goal.loop-i-init
 unfolding entries
-loop-i-init c = (search rules, refl, refl)
+loop-i-init c = refl
 
 pub loop-i-preserved : goal.loop-i-preserved
 unfolding task_of no_task
 loop-i-preserved c =
-    let l = c.loop-i.invariant in
-    let a = c.args in (
-      search rules,
-      c.put_task.auto.out ∙ l.1,
-      c.put_task.ensures
-          ∙ rw c.task_size-size.ensures
-          (sets-entry (task_size a.edition) _ (λ j. length-task _ _) _ _ _ _ _ _ l.2 refl refl),
-    )
+    let a = c.args in
+    c.put_task.ensures
+    ∙ rw c.task_size-size.ensures
+    (sets-entry (task_size a.edition) _ (λ j. length-task _ _) _ _ _ _ _ _ c.loop-i.invariant refl refl)

@@ -1,26 +1,19 @@
--- `service::move_down` meets its contract; the loop's invariant says what its turns so far have made.
-use Rattle.tasks.specs.TaskSet.{row}
-use Rattle.service.specs.MoveLaws.{moved-step}
-use Rattle.service.specs.Serve.{moved_to}
-use Rattle.service.specs.Serve.{moved}
-use native.Mathlib.Omega.{arith}
-use mathlib.Core.Path.{◌≡◌, refl}
+-- `service::move_down` meets its contract.
+use Rattle.std.proofs.Common.{◌≡◌, ◌∙◌, ap, get_or, arith}
+use Rattle.service.specs.MoveLaws.{moved-copied}
+use Rattle.service.specs.Serve.{moved, moved_to}
 use Rattle.service.proofs.move_down.Goals as goal
-
-pub loop-p-init : goal.loop-p-init
-unfolding moved_to
-loop-p-init c = (omega arith, refl, refl)
-
-pub loop-p-preserved : goal.loop-p-preserved
-unfolding row
-loop-p-preserved c =
-    let l = c.loop-p in
-    let a = c.args in
-    (omega arith, refl, rw (moved-step a.i l.p a.places.now, ← l.invariant.2))
 
 pub returns : goal.returns
 unfolding moved
 returns c =
-    let l = c.loop-p in
-    let e : l.p ≡ 15 = omega arith in
-    rw (l.invariant.2, e)
+    let e = c.copy_within.ensures in
+    let i = c.args.i in
+    let l = c.args.places.now in
+    let copied : c.copy_within.new.self ≡ moved_to i l 15 =
+    moved-copied i l c.requires c.told-places c.copy_within.new.self (omega arith)
+    (λ k a b. e.by_index.0 k 0 a (omega arith) ∙ ap (λ p. get_or l p 0) (omega arith))
+    (λ k a. e.by_index.1 k 0 a)
+    (λ k a. e.by_index.2 k 0 (omega arith))
+    in
+    rw copied

@@ -8,14 +8,14 @@ use mathlib.Core.Path.{◌≡◌}
 use Rattle.service.proofs.serve.Goals as goal
 
 pub loop-i-init : goal.loop-i-init
-loop-i-init c = (omega arith, turns-none _ _ _ _ _ _)
+loop-i-init c = turns-none _ _ _ _ _ _
 
 pub loop-i-preserved : goal.loop-i-preserved
 unfolding row
 loop-i-preserved c =
     let l = c.loop-i in
     let a = c.args in
-    (omega arith, turns_more a.finish l.i a.keys.now _ _ _ _ _ _ _ _ _ l.invariant.1 c.turn.ensures)
+    turns_more a.finish l.i a.keys.now _ _ _ _ _ _ _ _ _ l.invariant c.turn.ensures
 
 pub returns : goal.returns
 returns c =
@@ -24,4 +24,4 @@ returns c =
     let e : l.i ≡ a.args.tasks = omega arith in
     let x : Arrays =
     record { jobs = a.args.jobs.now; work = a.args.remaining.now; release = a.args.release.now; responses = a.args.responses.now } in
-    rw (turns-rest a.args.finish a.args.keys.now x a.args.tasks a.requires.0 a.requires.1, ← e) l.invariant.1
+    rw (turns-rest a.args.finish a.args.keys.now x a.args.tasks a.requires.0 a.requires.1, ← e) l.invariant

@@ -25,5 +25,5 @@ pub returns : goal.returns
 unfolding row
 returns c =
     let a = c.args in
-    rw (c.move_down.ensures, c.move_down-2.ensures, c.less.ensures)
+    rw (c.move_down.ensures, c.move_down-2.ensures, c.saturating_sub.ensures)
     (turn_last a.finish a.i a.key a.jobs.now a.remaining.now a.release.now a.responses.now c.if-jobs-i-eq0.false c.if-key-ne-NO_KEY.false c.if-work-gt1.false)

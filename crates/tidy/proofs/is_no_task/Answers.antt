@@ -1,25 +1,13 @@
 -- `tidy::is_no_task` meets its contract.
+use Rattle.std.proofs.Common.{arith}
+use Rattle.std.proofs.lemmas.Grind.{common_steps}
 use Rattle.tasks.specs.Content.{zero_task}
-use borrow.Author.Tests.{eq-eqb, ne_eqb}
 use Rattle.tidy.proofs.is_no_task.Goals as goal
 
-pub returns-then-task-ne0 : goal.returns-then-task-ne0
+pub returns-then-task-eq0-3 : goal.returns-then-task-eq0-3
 unfolding zero_task
-returns-then-task-ne0 c = rw (ne_eqb _ _ c.if-task-ne0.true)
+returns-then-task-eq0-3 c = grind (arith, common_steps)
 
-pub returns-then-task-ne0-2 : goal.returns-then-task-ne0-2
+pub returns-else-task-eq0-3 : goal.returns-else-task-eq0-3
 unfolding zero_task
-returns-then-task-ne0-2 c = rw (eq-eqb _ _ c.if-task-ne0.false, ne_eqb _ _ c.if-task-ne0-2.true)
-
-pub returns-then-task-ne0-3 : goal.returns-then-task-ne0-3
-unfolding zero_task
-returns-then-task-ne0-3 c = rw (eq-eqb _ _ c.if-task-ne0.false, eq-eqb _ _ c.if-task-ne0-2.false, ne_eqb _ _ c.if-task-ne0-3.true)
-
-pub returns : goal.returns
-unfolding zero_task
-returns c =
-    rw (
-      eq-eqb _ _ c.if-task-ne0.false,
-      eq-eqb _ _ c.if-task-ne0-2.false,
-      eq-eqb _ _ c.if-task-ne0-3.false,
-    )
+returns-else-task-eq0-3 c = grind (arith, common_steps)

@@ -3,4 +3,4 @@ use Rattle.tasks.proofs.ContentLaws.{tidied_code}
 use Rattle.tidy.proofs.tidied.Goals as goal
 
 pub returns : goal.returns
-returns c = tidied_code c.args.plan _ _ _ c.requires.1 c.tidy_bytes-labels.ensures c.tidy_tasks-task.ensures c.tidy_slack-slack.ensures
+returns c = tidied_code c.args.plan _ _ _ c.requires.1 c.tidy_bytes.ensures c.tidy_tasks.ensures c.tidy_slack.ensures

@@ -7,11 +7,11 @@ use lib.ListN.{replicate}
 use Rattle.tidy.proofs.tidy_tasks.Goals as goal
 
 pub loop-i-init : goal.loop-i-init
-loop-i-init c = (omega arith, ap (replicate 16) c.no_task-out.ensures ∙ filled_none _ no_task 16)
+loop-i-init c = ap (replicate 16) c.no_task-out.ensures ∙ filled_none _ no_task 16
 
 pub loop-i-preserved : goal.loop-i-preserved
 unfolding task_of no_task
 loop-i-preserved c =
     let l = c.loop-i in
     let a = c.args in
-    (omega arith, rw (l.invariant.1, c.in_edition.ensures) (filled_next (λ j. in_edition a.edition (task_of a.task j)) no_task l.i 16 (omega arith)))
+    rw (l.invariant, c.in_edition.ensures) (filled_next (λ j. in_edition a.edition (task_of a.task j)) no_task l.i 16 (omega arith))

@@ -9,12 +9,12 @@ use Rattle.fields.proofs.bounds.first_over.Goals as goal
 
 pub loop-i-init : goal.loop-i-init
 unfolding first
-loop-i-init c = (omega arith, refl)
+loop-i-init c = refl
 
 pub returns-then-is_over : goal.returns-then-is_over
 unfolding task_of no_task row
-returns-then-is_over c = sym (found_at _ _ _ c.loop-i.invariant.1 (sym c.is_over.ensures ∙ c.if-is_over.true) (omega arith))
+returns-then-is_over c = sym (found_at _ _ _ c.loop-i.invariant (sym c.is_over.ensures ∙ c.if-is_over.true) (omega arith))
 
 pub loop-i-preserved : goal.loop-i-preserved
 unfolding task_of no_task row
-loop-i-preserved c = (omega arith, none_more _ _ c.loop-i.invariant.1 (sym c.is_over.ensures ∙ c.if-is_over.false))
+loop-i-preserved c = none_more _ _ c.loop-i.invariant (sym c.is_over.ensures ∙ c.if-is_over.false)

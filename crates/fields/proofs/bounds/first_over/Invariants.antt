@@ -3,12 +3,8 @@ use Rattle.tasks.specs.TaskSet.{row, bound_by}
 use Rattle.tasks.specs.Content.{task_of}
 use Rattle.tasks.specs.Tests.{over_bound}
 use Rattle.laws.specs.First.{first}
-use Prim.Native.Nat.{◌≤◌, ◌-◌}
 use mathlib.Core.Path.{◌≡◌}
 use Rattle.fields.proofs.bounds.first_over.Given as goal
 
 abbrev pub invariant-loop-i : goal.invariant-loop-i
-invariant-loop-i l = (l.i ≤ l.tasks) × (first (λ k. over_bound (task_of l.task k) (bound_by l.each (task_of l.task k) (row l.slack k))) l.i ≡ l.i)
-
-abbrev pub decreases-loop-i : goal.decreases-loop-i
-decreases-loop-i l = l.tasks - l.i
+invariant-loop-i l = first (λ k. over_bound (task_of l.task k) (bound_by l.each (task_of l.task k) (row l.slack k))) l.i ≡ l.i

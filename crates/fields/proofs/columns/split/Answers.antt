@@ -7,17 +7,16 @@ use mathlib.Core.Path.{◌≡◌}
 use Rattle.fields.proofs.columns.split.Goals as goal
 
 pub loop-i-init : goal.loop-i-init
-loop-i-init c = (omega arith, filled_none _ 0 16, filled_none _ 0 16, filled_none _ 0 16)
+loop-i-init c = (filled_none _ 0 16, filled_none _ 0 16, filled_none _ 0 16)
 
 pub loop-i-preserved : goal.loop-i-preserved
 unfolding task_of no_task
 loop-i-preserved c =
     let l = c.loop-i in
     let t = c.args.task in (
-      omega arith,
-      column-more l.separation (λ i. (task_of t i).separation) l.i (omega arith) l.invariant.1,
-      column-more l.budget (λ i. (task_of t i).budget) l.i (omega arith) l.invariant.2,
-      column-more l.offset (λ i. (task_of t i).offset) l.i (omega arith) l.invariant.3,
+      column-more l.separation (λ i. (task_of t i).separation) l.i (omega arith) l.invariant.0,
+      column-more l.budget (λ i. (task_of t i).budget) l.i (omega arith) l.invariant.1,
+      column-more l.offset (λ i. (task_of t i).offset) l.i (omega arith) l.invariant.2,
     )
 
 pub returns : goal.returns
@@ -25,4 +24,4 @@ unfolding columns_of
 returns c =
     let l = c.loop-i in
     let e : l.i ≡ c.args.tasks = omega arith in
-    rw (← e, l.invariant.1, l.invariant.2, l.invariant.3)
+    rw (← e, l.invariant.0, l.invariant.1, l.invariant.2)

@@ -1,12 +1,8 @@
 use Rattle.laws.specs.First.{first}
 use Rattle.tasks.specs.TaskSet.{row}
 use Rattle.tasks.specs.Tests.{bad_label}
-use Prim.Native.Nat.{◌≤◌, ◌-◌}
 use mathlib.Core.Path.{◌≡◌}
 use Rattle.fields.proofs.frame.bad_label.Given as goal
 
 abbrev pub invariant-loop-i : goal.invariant-loop-i
-invariant-loop-i l = (l.i ≤ l.cores) × (first (bad_label (row l.labels)) l.i ≡ l.i)
-
-abbrev pub decreases-loop-i : goal.decreases-loop-i
-decreases-loop-i l = l.cores - l.i
+invariant-loop-i l = first (bad_label (row l.labels)) l.i ≡ l.i

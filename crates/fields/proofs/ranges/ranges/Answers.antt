@@ -7,28 +7,26 @@ use Rattle.fields.proofs.ScanLaws.{range_none, range_lower, range_kept, seen_non
 use Rattle.fields.proofs.ranges.ranges.Goals as goal
 
 pub loop-i-init : goal.loop-i-init
-loop-i-init c = (omega arith, range_none _ _ _)
+loop-i-init c = range_none _ _ _
 
 pub loop-i-preserved : goal.loop-i-preserved
 unfolding task_of no_task
 loop-i-preserved c =
     let l = c.loop-i in
-    let m = c.met-next.ensures in (
-      omega arith,
-      elim c.if-next-number.branch [
-        | then-next-number w ↦ range_lower _ _ _ _ _ _ l.invariant.1 m w.if-next-number.true w.number-is w.index-is
-        | else-next-number w ↦ range_kept _ _ _ _ _ _ l.invariant.1 m w.if-next-number.false w.number-is w.index-is
-      ],
-    )
+    let m = c.met-next.ensures in
+    elim c.if-next-number.branch [
+      | then-next-number w ↦ range_lower _ _ _ _ _ _ l.invariant m w.if-next-number.true w.number-is w.index-is
+      | else-next-number w ↦ range_kept _ _ _ _ _ _ l.invariant m w.if-next-number.false w.number-is w.index-is
+    ]
 
 pub returns-then-number : goal.returns-then-number
 returns-then-number c =
     let l = c.loop-i in
     let e : l.i ≡ c.args.tasks = omega arith in
-    sym (rw e at l.invariant.1 ∙ seen_none _ _ c.if-number.true)
+    sym (rw e at l.invariant ∙ seen_none _ _ c.if-number.true)
 
 pub returns : goal.returns
 returns c =
     let l = c.loop-i in
     let e : l.i ≡ c.args.tasks = omega arith in
-    sym (rw e at l.invariant.1 ∙ seen-some _ _ c.if-number.false)
+    sym (rw e at l.invariant ∙ seen-some _ _ c.if-number.false)

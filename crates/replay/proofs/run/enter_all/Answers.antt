@@ -7,7 +7,6 @@ use Rattle.replay.proofs.run.enter_all.Goals as goal
 
 pub loop-e-init : goal.loop-e-init
 loop-e-init c = (
-  omega arith,
   refl,
   c.requires.0,
   c.requires.1,
@@ -18,22 +17,21 @@ pub overflow_add-taken : goal.overflow_add-taken
 overflow_add-taken c =
     let l = c.loop-e in
     let few =
-    enters_few l.invariant.4 (omega arith) c.enter-place.ensures.2 c.requires.2 in
+    enters_few l.invariant.3 (omega arith) c.enter-place.ensures.2 c.requires.2 in
     let X = c.requires.2.1.1 in
     omega (arith, few, X.all, X.entered.fitting.few)
 
 pub loop-e-preserved : goal.loop-e-preserved
 loop-e-preserved c =
     let l = c.loop-e in (
-      omega arith,
       search rules,
       c.enter-place.ensures.0,
       c.enter-place.ensures.1,
-      enters_more l.invariant.4 (omega arith) c.enter-place.ensures.2,
+      enters_more l.invariant.3 (omega arith) c.enter-place.ensures.2,
     )
 
 pub returns : goal.returns
 returns c =
     let l = c.loop-e in
     let e : l.e ≡ c.args.count = omega arith in
-    (l.invariant.2, l.invariant.3, rw e at l.invariant.4)
+    (l.invariant.1, l.invariant.2, rw e at l.invariant.3)
