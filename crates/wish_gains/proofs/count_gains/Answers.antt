@@ -1,21 +1,17 @@
 -- Each name's entry is its share, or 0.
-use Rattle.std.specs.Prelude.{ℕ, ◌≤◌, ◌<◌, ◌≡◌, List, length, get_or, take}
-use Rattle.std.proofs.Common.{arith, ◌∙◌, length-take, length-set, get_or-take}
+use Rattle.std.specs.Prelude.{ℕ, ◌≤◌, ◌<◌, List, length, get_or, take}
+use Rattle.std.proofs.Common.{arith, ◌∙◌, length-set}
+use Rattle.laws.proofs.TakenLaws.{taken}
 use Rattle.tasks.specs.TaskSet.{row}
 use Rattle.wish_gains.specs.GainLaws.{gains-named, gains-counted, gains-set, named-at}
 use Rattle.wish_gains.proofs.count_gains.Goals as goal
 
 -- a name that the loop is at
-module _ (names : List ℕ) (many tasks a : ℕ) (few : many ≤ tasks) (low : (a : ℕ) → a < tasks → row names a < tasks) (h : a < length (take many names)) where
-  place : a < many
-  place = omega (arith, length-take many names)
-
-  at : get_or (take many names) a 0 ≡ row names a
-  unfolding row
-  at = get_or-take many names a 0 place
-
-  named : get_or (take many names) a 0 < tasks
-  named = rw at (low a (omega (arith, place)))
+named :
+    (names : List ℕ) (many tasks a : ℕ) → many ≤ tasks → ((a : ℕ) → a < tasks → row names a < tasks) → a < length (take many names)
+    → get_or (take many names) a 0 < tasks
+unfolding row
+named names many tasks a few low h = let t = taken names many a h in rw t.1 (low a (omega (arith, t.0)))
 
 pub loop-name-init : goal.loop-name-init
 loop-name-init c =
@@ -31,13 +27,14 @@ loop-name-preserved c =
     let n = s.names.now in
     let h = c.loop-name-test.true in
     let i = get_or (take s.many n) l.name-index 0 in
-    let m = named-at n s.many l.name-index (omega (arith, p.0, p.3)) (place n s.many s.tasks l.name-index p.0 p.2 h) in (
+    let t = taken n s.many l.name-index h in
+    let m = named-at n s.many l.name-index (omega (arith, p.0, p.3)) t.0 in (
       length-set l.gain i c.counted_gain.result ∙ l.invariant.0,
       λ separation room g.
           gains-set s.share.now separation room s.slack.now (take s.many n) s.tasks l.gain i _
           (omega (arith, l.invariant.0, named n s.many s.tasks l.name-index p.0 p.2 h, p.1)) (l.invariant.1 separation room g)
           (gains-counted s.share.now separation room s.slack.now (take s.many n) i _
-          (rw (at n s.many s.tasks l.name-index p.0 p.2 h) m) c.counted_gain.ensures),
+          (rw t.1 m) c.counted_gain.ensures),
     )
 
 pub bounds-share-i : goal.bounds-share-i
