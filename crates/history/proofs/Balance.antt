@@ -14,7 +14,7 @@ use Rattle.std.proofs.Math.Path.{refl, ap}
 use mathlib.Core.List.{List, [], ◌∷◌}
 use native.Mathlib.Omega.{arith}
 use Rattle.tasks.specs.TaskSet.{TaskSet}
-use Rattle.tasks.specs.Answer.{Answer, Accepted, Refused}
+use Rattle.tasks.specs.Answer.{Answer, Accepted}
 use Rattle.machine.specs.Machine.{Machine, opened, full, Allowed, joined, admitted, waiting, runs, served, advanced, tick}
 use Rattle.machine.specs.Admission.{admit_tests}
 use Rattle.machine.proofs.AdmissionLaws.{taken_allowed}

@@ -9,7 +9,7 @@
 --     Ends                    a loop is named often enough for the first time by f steps
 --     HistoryClaim            what is claimed of every history, whoever makes its calls
 use Rattle.std.specs.Prelude.{Ok, Err, ℕ, suc, ◌+◌, ◌≤◌, ◌<◌, Bool, true, false, cond, ◌&&◌, ◌≡◌, List, [], ◌∷◌, ◌++◌, ltb, eqb}
-use Rattle.tasks.specs.Answer.{Answer, Accepted, Refused}
+use Rattle.tasks.specs.Answer.{Answer}
 use Rattle.tasks.specs.TaskSet.{TaskSet, bound}
 
 -- the answer to a release: it is taken, or refused with a number of document 01

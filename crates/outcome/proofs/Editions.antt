@@ -17,7 +17,7 @@ use borrow.Author.Tests.{eq-eqb}
 use Rattle.laws.specs.EveryLaws.{below_or_not}
 use Rattle.laws.specs.TabLaws.{cut-above}
 use Rattle.tasks.specs.declared.Task.{Task}
-use Rattle.tasks.specs.Answer.{Answer, Accepted, Refused}
+use Rattle.tasks.specs.Answer.{Answer, Accepted}
 use Rattle.tasks.specs.TaskSet.{TaskSet, plain_task, plain, found, bound, row}
 use Rattle.tasks.specs.PlainLaws.{plain-found}
 use Rattle.tasks.specs.Content.{Content, no_task}

@@ -1,10 +1,8 @@
 -- What the log run answers and leaves behind, for every input.
 --     run_test       the first of 1 to 16 that a table, a log and the length of a lent answer meet
 --     ran_of         the answer: how many entries were taken and how many refused
---     handed         what a run that may be refused hands back
 --     run_leaves     the lent answer afterwards
-use Rattle.tasks.specs.declared.refusal.Refusal.{Refusal}
-use Rattle.std.specs.Prelude.{ℕ, ◌*◌, List, [], ◌∷◌, length, ltb, Ok, Err, Result}
+use Rattle.std.specs.Prelude.{ℕ, ◌*◌, List, [], ◌∷◌, length, ltb}
 use Rattle.tasks.specs.Answer.{Answer}
 use Rattle.tasks.specs.Tests.{refuse, first_met, unless_refused}
 use Rattle.codec.specs.Table.{verdict}
@@ -16,11 +14,6 @@ use Rattle.replay.specs.declared.run.Ran.{Ran}
 -- "A log run judges the table first." "16. The lent answer is shorter than 8 × count."
 unfoldable pub run_test : List ℕ → List ℕ → ℕ → Answer
 run_test t l room = first_met (verdict t ∷ log_test l ∷ refuse 16 (ltb room (8 * entry_count l)) ∷ [])
-
--- what a call hands back: "lengths and counts are 0" where it is refused
-abbrev pub handed : Result Ran Refusal → Ran
-handed (Ok r) = r
-handed (Err r) = record { answer = Err r; taken = 0; refused = 0 }
 
 -- "The call returns how many were taken and how many refused"; "lengths and counts are 0" on a refusal
 unfoldable pub ran_of : List ℕ → List ℕ → ℕ → Ran

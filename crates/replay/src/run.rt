@@ -7,7 +7,8 @@ ghost use Rattle.logs.specs.LogBytes.{entries_in, reports_to};
 ghost use Rattle.running.specs.Running.{arrays};
 ghost use Rattle.running.specs.Entered.{Fitting};
 ghost use Rattle.running.specs.RunCode.{taken_to, Begun, EntersTo, Started, Runs};
-ghost use Rattle.replay.specs.Ran.{ran_of, run_leaves, handed};
+ghost use Rattle.replay.specs.declared.run.Ran.{Ran};
+ghost use Rattle.replay.specs.Ran.{ran_of, run_leaves};
 
 use entry::{Place, enter};
 use fields::columns::split;
@@ -168,38 +169,39 @@ fn replay(plan: Plan, log: &[u8], count: usize, out: &mut [u8]) -> usize
     )
 }
 
-// 1 to 16, the table's first, and the run of the log.
-fn run(table: &[u8], log: &[u8], out: &mut [u8]) -> Result<Ran, Refusal>
-    ensures { (handed result ≡ ran_of table.now log.now (length out.old))
-        × (out.new ≡ run_leaves table.now log.now out.old)
-        × ((handed result).taken + (handed result).refused < 65536) }
+// "lengths and counts are 0"
+fn refused(answer: Result<(), Refusal>) -> Ran
+    ensures { ◌≡◌ {A = Ran} result (record { answer = answer; taken = 0; refused = 0 }) }
 {
-    let judgement = judge(table);
-    judgement.answer?;
-    let count = read_entries(log)?;
-    if out.len() < 8 * count {
-        return Err(Rule::AnswerTooShort.at(0));
+    Ran {
+        answer,
+        taken: 0,
+        refused: 0,
     }
-    let taken = replay(judgement.plan, log, count, out);
-    Ok(Ran {
-        answer: Ok(()),
-        taken,
-        refused: count - taken,
-    })
 }
 
-// Runs a log on a table, and writes 8 bytes for each entry.
+// Runs a log on a table, and writes 8 bytes for each entry. "log run and writer take it apart by let .. else and pass the refusal on."
 pub fn run_log(table: &[u8], log: &[u8], out: &mut [u8]) -> Ran
     ensures { (result ≡ ran_of table.now log.now (length out.old))
         × (out.new ≡ run_leaves table.now log.now out.old)
         × (result.taken + result.refused < 65536) }
 {
-    match run(table, log, out) {
-        Ok(ran) => ran,
-        Err(refusal) => Ran {
-            answer: Err(refusal),
-            taken: 0,
-            refused: 0,
-        },
+    let judgement = judge(table);
+    let judged = judgement.answer;
+    let Ok(()) = judged else {
+        return refused(judged);
+    };
+    let entries = read_entries(log);
+    let Ok(count) = entries else {
+        return refused(entries.map(|_| ()));
+    };
+    if out.len() < 8 * count {
+        return refused(Err(Rule::AnswerTooShort.at(0)));
+    }
+    let taken = replay(judgement.plan, log, count, out);
+    Ran {
+        answer: Ok(()),
+        taken,
+        refused: count - taken,
     }
 }

@@ -7,7 +7,7 @@ use Rattle.std.specs.Prelude.{Ok, Err, ℕ, ◌≤◌, ◌≡◌, List, ◌++◌
 use Rattle.std.proofs.Math.Path.{refl, sym}
 use Rattle.std.proofs.Common.{ap, ap₂, ◌∙◌, take_at, le-ltb}
 use Rattle.tasks.specs.declared.Plan.{Plan}
-use Rattle.tasks.specs.Answer.{Answer, Accepted, Refused}
+use Rattle.tasks.specs.Answer.{Answer, Accepted}
 use Rattle.tasks.specs.Content.{counted_of, content_of, tidy, Same}
 use Rattle.tasks.specs.Tests.{or_next, first_met, test_plan}
 use Rattle.tasks.specs.AnswerLaws.{first_met-passed}

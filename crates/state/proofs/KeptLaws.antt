@@ -12,7 +12,7 @@ use Rattle.std.proofs.Math.ListN.{length, length-append}
 use Rattle.std.proofs.Math.Dec.{eqb}
 use borrow.Author.Tests.{ltb-true, ltb-false, leb-false, eqb-true, ne_eqb}
 use Rattle.tasks.specs.declared.Plan.{Plan}
-use Rattle.tasks.specs.Answer.{Answer, Accepted, Refused}
+use Rattle.tasks.specs.Answer.{Answer, Accepted}
 use Rattle.tasks.specs.Content.{content_of, tidy}
 use Rattle.tasks.proofs.ContentLaws.{tidy-tidy}
 use Rattle.tasks.specs.Tests.{or_next, first_met, test_plan, unless_refused}

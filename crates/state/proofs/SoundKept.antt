@@ -6,7 +6,7 @@ use Rattle.std.specs.Prelude.{Ok, Err, ℕ, ◌<◌, ◌≡◌}
 use Rattle.std.proofs.Math.Path.{refl}
 use Rattle.std.proofs.Math.Bool.{true}
 use Rattle.tasks.specs.declared.Plan.{Plan}
-use Rattle.tasks.specs.Answer.{Answer, Accepted, Refused}
+use Rattle.tasks.specs.Answer.{Answer, Accepted}
 use Rattle.tasks.specs.Content.{tidy}
 use Rattle.tasks.specs.Tests.{test_plan, unless_refused}
 use Rattle.tasks.specs.AnswerLaws.{first_met-passed}

@@ -7,7 +7,7 @@
 --     sound_of                 all of them
 use Rattle.std.specs.Prelude.{Ok, Err, ℕ, zero, suc, ◌+◌, ◌-◌, ◌*◌, ◌/◌, ◌%◌, Bool, true, false, cond, not, ◌&&◌, ◌||◌, ltb, leb, eqb}
 use Rattle.tasks.specs.declared.Plan.{Plan}
-use Rattle.tasks.specs.Answer.{Answer, Accepted, Refused}
+use Rattle.tasks.specs.Answer.{Answer}
 use Rattle.tasks.specs.Numbers.{clock_end}
 use Rattle.tasks.specs.TaskSet.{row}
 use Rattle.tasks.specs.Content.{has_deadlines, zero_task, task_of}

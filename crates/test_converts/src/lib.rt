@@ -3,7 +3,7 @@
 
 ghost use Rattle.std.specs.Prelude.{◌<◌};
 
-use tasks::{Answer, Plan, Task};
+use tasks::{Plan, Task};
 use test_same_plan::same_plan;
 use test_script::buffer::{FILL, untouched};
 use test_script::line::front;

@@ -24,12 +24,15 @@ pub fn write_accepted(plan: Plan, out: &mut [u8]) -> Result<usize, Refusal>
     Ok(put_plan(out, plan))
 }
 
-// "The writer … returns the bytes written, and later bytes of its buffer stay."
+// "The writer … returns the bytes written, and later bytes of its buffer stay." "log run and writer take it apart by let .. else and pass the
+// refusal on."
 pub fn write(plan: Plan, out: &mut [u8]) -> Result<usize, Refusal>
     ensures { (answer_of_written result ≡ write_test plan (length out.old))
         × (length_of_written result ≡ written_length plan (length out.old))
         × (out.new ≡ written_to plan out.old) }
 {
-    test(plan)?;
-    write_accepted(plan, out)
+    let Err(refusal) = test(plan) else {
+        return write_accepted(plan, out);
+    };
+    Err(refusal)
 }
