@@ -1,7 +1,7 @@
 // A sentence's case: what `sentence` answers and what it leaves in the lent buffer.
 #![tactic(auto)]
 
-use test_script::buffer::{FILL, untouched};
+use test_script::buffer::{FILL, lent, untouched};
 use test_script::line::front;
 use test_script::say;
 use wording::Composed;
@@ -21,17 +21,9 @@ fn say_told(composed: Composed, buffer: &[u8; 300]) {
     }
 }
 
-// The first `room` bytes of the buffer are lent.
-fn lend(number: u32, index: u32, value: u64, buffer: &mut [u8], room: usize) -> Composed {
-    if room < buffer.len() {
-        return sentence::sentence(number, index, value, &mut buffer[..room]);
-    }
-    sentence::sentence(number, index, value, buffer)
-}
-
 // Any number, index and value.
 pub fn told(number: u32, index: u32, value: u64, room: usize) {
     let mut buffer = [FILL; 300];
-    let composed = lend(number, index, value, &mut buffer, room);
+    let composed = sentence::sentence(number, index, value, lent(&mut buffer, room));
     say_told(composed, &buffer);
 }

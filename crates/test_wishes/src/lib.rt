@@ -20,13 +20,8 @@ fn say_task(i: usize, edition: u8, task: Task, slack: u32) {
 
 fn say_tasks(plan: Plan) {
     let edition = plan.edition;
-    let tasks = plan.tasks;
-    let mut i = 0;
-    while i < 16 {
-        if i < tasks {
-            say_task(i, edition, plan.task[i], plan.slack[i]);
-        }
-        i += 1;
+    for i in 0..plan.tasks.min(16) {
+        say_task(i, edition, plan.task[i], plan.slack[i]);
     }
 }
 
@@ -48,15 +43,13 @@ fn say_written(plan: Plan) {
 }
 
 fn say_plan(plan: Plan) {
-    say::text(b"wish accepted");
-    say::edition(plan.edition);
-    say::number(b" cores ", plan.cores as u64);
-    say::number(b" loops ", plan.tasks as u64);
-    if plan.offered {
-        say::text(b" slack offered\n");
-    } else {
-        say::text(b" slack found\n");
-    }
+    say::accepted(
+        b"wish accepted",
+        plan.edition,
+        plan.cores,
+        plan.tasks,
+        plan.offered,
+    );
     say_tasks(plan);
     say::fact(b"unused places are zero", unused_zero(plan));
     say_written(plan);
