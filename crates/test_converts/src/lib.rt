@@ -3,12 +3,11 @@
 
 ghost use Rattle.std.specs.Prelude.{◌<◌};
 
-use tasks::{Answer, Plan, Task};
+use tasks::{Plan, Refusal, Task};
 use test_same_plan::same_plan;
 use test_script::buffer::{FILL, lent, untouched};
 use test_script::line::front;
 use test_script::say;
-use writer::Written;
 
 // What is converted has more loops than cores: in edition 1 its late is "x + C, counted from the priority point".
 fn say_side(edition: u8, task: Task, slack: u32) {
@@ -39,13 +38,6 @@ fn say_tasks(from: Plan, to: Plan) {
     }
 }
 
-fn is_accepted(answer: Result<(), Refusal>) -> bool {
-    let Ok(()) = answer else {
-        return false;
-    };
-    true
-}
-
 // In edition 1 deadlines are unused places, so two such plans are the same where labels, T, C, Y, slack and mark agree.
 fn without_deadlines(mut plan: Plan) -> Plan {
     plan.edition = 1;
@@ -56,7 +48,7 @@ fn without_deadlines(mut plan: Plan) -> Plan {
 fn say_back(edition: u8, bytes: &[u8], table: &[u8]) {
     let mut buffer = [FILL; 400];
     let answer = converter::convert(bytes, u32::from(edition), &mut buffer);
-    let Written::Length(length) = answer else {
+    let Ok(length) = answer else {
         say::text(b"not converted back\n");
         return;
     };
@@ -72,8 +64,7 @@ fn say_sides(bytes: &[u8], table: &[u8]) {
     let again = table::judge(bytes);
     let from = judged.plan;
     let to = again.plan;
-    let answer = again.answer;
-    say::fact(b"the judge accepts them", is_accepted(answer));
+    say::fact(b"the judge accepts them", again.answer.is_ok());
     say::fact(
         b"labels, T, C, Y, slack and its mark are the table's",
         same_plan(without_deadlines(to), without_deadlines(from)),
@@ -97,8 +88,8 @@ pub fn converted(name: &[u8], table: &[u8], edition: u32, room: usize) {
     let mut buffer = [FILL; 400];
     let answer = converter::convert(table, edition, lent(&mut buffer, room));
     match answer {
-        Written::Length(length) => say_length(&buffer, length, table),
-        Written::Refused { number, index } => {
+        Ok(length) => say_length(&buffer, length, table),
+        Err(Refusal { number, index }) => {
             say::refusal(b"convert", number, index);
             say::fact(b"the buffer is unchanged", untouched(&buffer, 0));
         }

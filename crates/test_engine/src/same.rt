@@ -1,6 +1,5 @@
 // What the cases compare: states, place by place, and the answers of a step.
 use state::{State, Stepped};
-use tasks::Answer;
 use test_same_plan::{same_plan, unused_zero};
 
 // Two states without their clocks and table parts.
@@ -23,17 +22,9 @@ pub fn same_state(a: State, b: State) -> bool {
         && same_jobs(a, b)
 }
 
-// An answer as one number: 0 where nothing was refused.
-fn code(answer: Result<(), Refusal>) -> u64 {
-    match answer {
-        Ok(()) => 0,
-        Answer::Refused { number, index } => 65536 * number as u64 + index as u64,
-    }
-}
-
 // Two answers of a step, the state in them too.
 pub fn same_step(a: Stepped, b: Stepped) -> bool {
-    code(a.answer) == code(b.answer)
+    a.answer == b.answer
         && a.runs == b.runs
         && a.responses == b.responses
         && same_state(a.state, b.state)

@@ -2,7 +2,7 @@
 ghost use Rattle.std.specs.Prelude.{◌+◌, ◌≤◌, ◌<◌};
 
 use replay::Ran;
-use tasks::Answer;
+use tasks::Refusal;
 use test_script::buffer::{FILL, lent, untouched};
 use test_script::say;
 
@@ -50,7 +50,7 @@ fn say_run(ran: Ran, buffer: &[u8; 400])
             say_entries(buffer, count);
             say::fact(b"later bytes stay", untouched(buffer, 8 * count));
         }
-        Answer::Refused { number, index } => {
+        Err(Refusal { number, index }) => {
             say::refusal(b"run", number, index);
             say::fact(b"the counts are 0", ran.taken == 0 && ran.refused == 0);
             say::fact(b"the buffer is unchanged", untouched(buffer, 0));

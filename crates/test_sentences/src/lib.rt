@@ -1,20 +1,20 @@
 // A sentence's case: what `sentence` answers and what it leaves in the lent buffer.
 #![tactic(auto)]
 
+use tasks::Refusal;
 use test_script::buffer::{FILL, lent, untouched};
 use test_script::line::front;
 use test_script::say;
-use wording::Composed;
 
 // "later bytes stay", and of a refused call "nothing is written".
-fn say_told(composed: Composed, buffer: &[u8; 300]) {
+fn say_told(composed: Result<usize, Refusal>, buffer: &[u8; 300]) {
     match composed {
-        Composed::Length(length) => {
+        Ok(length) => {
             say::text(front(buffer, length));
             say::text(b"\n");
             say::fact(b"later bytes stay", untouched(buffer, length));
         }
-        Composed::Refused { number, index } => {
+        Err(Refusal { number, index }) => {
             say::refusal(b"sentence", number, index);
             say::fact(b"the buffer is unchanged", untouched(buffer, 0));
         }

@@ -1,7 +1,7 @@
 // A table's case: what `judge` and `slack_part` answer to it, and what comes of writing the plan.
 use crate::written;
 use tasks::bound::{bound, core_for_each};
-use tasks::{Answer, Plan, Task};
+use tasks::{Plan, Refusal, Task};
 use test_same_plan::{all_zero, unused_zero};
 use test_script::say;
 
@@ -46,7 +46,7 @@ pub fn bytes(name: &[u8], table: &[u8]) {
             say_plan(plan);
             written::outcome(plan, 400, table);
         }
-        Answer::Refused { number, index } => {
+        Err(Refusal { number, index }) => {
             say::refusal(b"judge", number, index);
             say::fact(b"the plan is of zeros", all_zero(plan));
         }

@@ -1,10 +1,9 @@
 // A plan's case: what `write` answers to it and what it leaves in the buffer.
-use tasks::Plan;
+use tasks::{Plan, Refusal};
 use test_same_plan::same_plan;
 use test_script::buffer::{FILL, lent, untouched};
 use test_script::line::front;
 use test_script::say;
-use writer::Written;
 
 fn say_length(plan: Plan, buffer: &[u8], length: usize, table: &[u8]) {
     say::number(b"write ", length as u64);
@@ -24,8 +23,8 @@ pub fn outcome(plan: Plan, room: usize, table: &[u8]) {
     let mut buffer = [FILL; 400];
     let answer = writer::write(plan, lent(&mut buffer, room));
     match answer {
-        Written::Length(length) => say_length(plan, &buffer, length, table),
-        Written::Refused { number, index } => {
+        Ok(length) => say_length(plan, &buffer, length, table),
+        Err(Refusal { number, index }) => {
             say::refusal(b"write", number, index);
             say::fact(b"the buffer is unchanged", untouched(&buffer, 0));
         }

@@ -1,12 +1,11 @@
 // A wish sheet's case: what `wish` answers to it, and what the judge says of the plan that it found.
 #![tactic(auto)]
 
-use tasks::{Answer, Plan, Task};
+use tasks::{Plan, Refusal, Task};
 use test_same_plan::{all_zero, same_plan, unused_zero};
 use test_script::buffer::FILL;
 use test_script::line::front;
 use test_script::say;
-use writer::Written;
 
 fn say_task(i: usize, edition: u8, task: Task, slack: u32) {
     let bound = task.offset as u64 + slack as u64 + task.budget as u64;
@@ -29,7 +28,7 @@ fn say_tasks(plan: Plan) {
 fn say_written(plan: Plan) {
     let mut buffer = [FILL; 400];
     let written = writer::write(plan, &mut buffer);
-    let Written::Length(length) = written else {
+    let Ok(length) = written else {
         say::text(b"not written\n");
         return;
     };
@@ -63,7 +62,7 @@ pub fn wished(name: &[u8], bytes: &[u8]) {
     let answer = found.answer;
     match answer {
         Ok(()) => say_plan(plan),
-        Answer::Refused { number, index } => {
+        Err(Refusal { number, index }) => {
             say::refusal(b"wish", number, index);
             say::fact(b"the plan is of zeros", all_zero(plan));
         }
