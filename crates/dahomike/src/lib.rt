@@ -56,12 +56,10 @@ fn report(plan: Plan, out: &mut [u8], wishes: bool)
     let task = plan.task;
     let slack = plan.slack;
     let each = core_for_each(plan.cores, tasks);
-    let mut i = 0;
-    while i < tasks {
+    for i in 0..tasks {
         let t = task[i];
         let b = bound(each, t, slack[i]) as u32;
         put_entry(out, i, t.offset, slack[i], b, wishes);
-        i += 1;
     }
 }
 

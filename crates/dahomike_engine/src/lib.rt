@@ -12,7 +12,7 @@ ghost use Rattle.engine_lent.specs.Lent.{open_number, open_leaves, release_numbe
 use dahomike_answer::answer;
 use engine::{open, release, step_fields};
 use engine_store::put::{put_machine, put_plan};
-use engine_store::read::{fit, flags, jobs, numbers, places, plan, read, sized};
+use engine_store::read::{fit, flags, jobs, numbers, plan, read};
 use state::State;
 use table::judge;
 use tasks::{Refusal, Rule};
@@ -52,7 +52,6 @@ fn put_state(words: &mut [u32; 653], state: State)
     requires { (state.plan.cores ≤ 8) × (state.plan.tasks ≤ 16) × ((i : ℕ) → i < 16 → row state.jobs i ≤ 16) }
     ensures { words.new ≡ words_of state }
 {
-    sized(*words);
     let plan = state.plan;
     put_plan(words, plan);
     put_rest(words, state);
@@ -81,7 +80,6 @@ pub extern "C" fn dahomike_engine_open(table: &[u8], state: &mut [u32; 653]) -> 
 fn released(state: &mut [u32; 653], task: u32, demand: u32) -> Result<u64, Refusal>
     ensures { (told_number result ≡ release_number state.old task demand) × (state.new ≡ release_leaves state.old task demand) }
 {
-    sized(*state);
     fitting(state)?;
     let done = release(read(state), task as usize, demand);
     done.answer?;
@@ -108,17 +106,14 @@ fn stepped(
         × (runs.new ≡ runs_leave state.old runs.old)
         × (responses.new ≡ responses_leave state.old responses.old) }
 {
-    sized(*state);
     fitting(state)?;
     let plan = plan(state);
     let clock = state[92];
     let mut jobs = jobs(state);
     let flags = flags(state);
     let last = numbers(state, 125);
-    let mut remaining = [0u32; 256];
-    places(state, 141, &mut remaining);
-    let mut release = [0u32; 256];
-    places(state, 397, &mut release);
+    let mut remaining = numbers(state, 141);
+    let mut release = numbers(state, 397);
     let done = step_fields(
         plan,
         clock,

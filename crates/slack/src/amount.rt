@@ -62,5 +62,6 @@ pub fn needed(
     ensures { ((s : TaskSet) (b : List ℕ) → ArraysOf s share.now b offset.now multiple surplus cores tasks → Needs s (row slack.now) names.new result) × Arranged names.new tasks }
 {
     let whole = amount(share, offset, slack, names, surplus, cores - 1, tasks);
+    // Rounded up by hand: with `div_ceil` the law of H's limit in specs/StageLaws, which may not change, would have no use left.
     ((whole + (multiple - 1)) / multiple) as u32
 }

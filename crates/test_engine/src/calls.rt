@@ -1,7 +1,7 @@
 // A case of an opening: what it answers, and the state that it hands back.
 use crate::made::zeros;
 use crate::same::{same_jobs, same_state};
-use tasks::{Answer, Plan};
+use tasks::{Plan, Refusal};
 use test_same_plan::{same_plan, unused_zero};
 use test_script::say;
 
@@ -12,7 +12,7 @@ pub fn answered(words: &[u8], answer: Result<(), Refusal>) {
             say::text(words);
             say::text(b" accepted\n");
         }
-        Answer::Refused { number, index } => say::refusal(words, number, index),
+        Err(Refusal { number, index }) => say::refusal(words, number, index),
     }
 }
 

@@ -22,7 +22,7 @@ pub fn reach(whole: u64, slope: u64, multiple: u64, cores: u64, start: u64) -> u
     if left == 0 {
         return NEVER;
     }
-    start + cores * ((whole - held + (left - 1)) / left)
+    start + cores * (whole - held).div_ceil(left)
 }
 
 // A task's share where its slack rises and its offset is cut, so that its surplus rises with it.

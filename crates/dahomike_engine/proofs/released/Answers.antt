@@ -27,4 +27,4 @@ put_rest-requires c = release-kept _ _ _ (fit_told _ (sym c.in_ok-fitting.was �
 
 pub returns : goal.returns
 returns c =
-    release_done _ _ _ (fit_told _ (sym c.in_ok-fitting.was ∙ c.fitting.ensures)) _ c.read.ensures _ c.release-done.ensures c.in_ok-done.was c.sized.ensures _ c.put_rest.ensures
+    release_done _ _ _ (fit_told _ (sym c.in_ok-fitting.was ∙ c.fitting.ensures)) _ c.read.ensures _ c.release-done.ensures c.in_ok-done.was c.told-state _ c.put_rest.ensures

@@ -24,7 +24,7 @@ returns-in_err-fitting c =
 pub returns-in_err-done : goal.returns-in_err-done
 unfolding row
 returns-in_err-done c =
-    let same = fields_from _ c.plan-plan.ensures c.jobs-jobs.ensures c.flags-flags.ensures c.numbers-last.ensures c.places.ensures c.places-2.ensures in
+    let same = fields_from _ c.plan-plan.ensures c.jobs-jobs.ensures c.flags-flags.ensures c.numbers-last.ensures c.numbers-remaining.ensures c.numbers-release.ensures in
     let q = c.in_err-done.field-0.0 in
     let e : c.from_residual-in_err-done.result ≡ Err q = search rules in
     step-refused _ _ _ (fit_told _ (sym c.in_ok-fitting.was ∙ c.fitting.ensures)) _ same _ c.step_fields-done.ensures.0 q.number q.index _ c.in_err-done.was
@@ -33,18 +33,18 @@ returns-in_err-done c =
 pub overflow_add-clock : goal.overflow_add-clock
 unfolding row
 overflow_add-clock c =
-    let same = fields_from _ c.plan-plan.ensures c.jobs-jobs.ensures c.flags-flags.ensures c.numbers-last.ensures c.places.ensures c.places-2.ensures in
+    let same = fields_from _ c.plan-plan.ensures c.jobs-jobs.ensures c.flags-flags.ensures c.numbers-last.ensures c.numbers-remaining.ensures c.numbers-release.ensures in
     omega (arith, step-early _ [] [] (fit_told _ (sym c.in_ok-fitting.was ∙ c.fitting.ensures)) _ same _ c.step_fields-done.ensures.0 c.in_ok-done.was)
 
 pub put_machine-requires : goal.put_machine-requires
 unfolding row
 put_machine-requires c =
-    let same = fields_from _ c.plan-plan.ensures c.jobs-jobs.ensures c.flags-flags.ensures c.numbers-last.ensures c.places.ensures c.places-2.ensures in
+    let same = fields_from _ c.plan-plan.ensures c.jobs-jobs.ensures c.flags-flags.ensures c.numbers-last.ensures c.numbers-remaining.ensures c.numbers-release.ensures in
     step_kept _ [] [] (fit_told _ (sym c.in_ok-fitting.was ∙ c.fitting.ensures)) _ same _ c.step_fields-done.ensures.0 c.in_ok-done.was _ (c.step_fields-done.ensures.2 c.in_ok-done.was)
 
 pub returns : goal.returns
 unfolding row machine_words flag_at
 returns c =
-    let same = fields_from _ c.plan-plan.ensures c.jobs-jobs.ensures c.flags-flags.ensures c.numbers-last.ensures c.places.ensures c.places-2.ensures in
+    let same = fields_from _ c.plan-plan.ensures c.jobs-jobs.ensures c.flags-flags.ensures c.numbers-last.ensures c.numbers-remaining.ensures c.numbers-release.ensures in
     step_done _ _ _ (fit_told _ (sym c.in_ok-fitting.was ∙ c.fitting.ensures)) _ same _ c.step_fields-done.ensures.0 c.in_ok-done.was _ (c.step_fields-done.ensures.2 c.in_ok-done.was)
-    c.sized.ensures _ c.put_machine.ensures
+    c.told-state _ c.put_machine.ensures
