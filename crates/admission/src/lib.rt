@@ -6,7 +6,7 @@ ghost use Rattle.machine.specs.Machine.{within};
 ghost use Rattle.state.specs.State.{last_of};
 ghost use Rattle.state.specs.CallLaws.{admission};
 
-use tasks::{Answer, limits, refusal};
+use tasks::{Refusal, Rule, limits};
 
 // "The loop's last taken release is less than T ticks ago."
 fn too_soon(separation: u32, clock: u32, flag: bool, last: u32) -> bool
@@ -27,32 +27,20 @@ pub fn admission_test(
     jobs: usize,
     flag: bool,
     last: u32,
-) -> Answer
+) -> Result<(), Refusal>
     ensures { result ≡ admission separation budget clock demand jobs flag last }
 {
     if demand < 1 {
-        return Answer::Refused {
-            number: refusal::DEMAND_OUTSIDE,
-            index: 0,
-        };
+        return Err(Rule::DemandOutside.at(0));
     }
     if budget < demand {
-        return Answer::Refused {
-            number: refusal::DEMAND_OUTSIDE,
-            index: 0,
-        };
+        return Err(Rule::DemandOutside.at(0));
     }
     if too_soon(separation, clock, flag, last) {
-        return Answer::Refused {
-            number: refusal::RELEASE_TOO_SOON,
-            index: 0,
-        };
+        return Err(Rule::ReleaseTooSoon.at(0));
     }
     if limits::JOBS_HIGH <= jobs {
-        return Answer::Refused {
-            number: refusal::NO_PLACE_FREE,
-            index: 0,
-        };
+        return Err(Rule::NoPlaceFree.at(0));
     }
-    Answer::Accepted
+    Ok(())
 }

@@ -3,7 +3,7 @@
 --     Ticked       with these arrays, one tick later, it is what a tick of the machine leaves, and so are these runs and responses
 --     Admitted     with these arrays it is what a taken release leaves
 use Rattle.std.specs.Prelude.{ℕ, ◌+◌, ◌≡◌, Bool, true, List}
-use Rattle.tasks.specs.declared.Answer.TheVariants.{Accepted}
+use Rattle.tasks.specs.Answer.{Accepted}
 use Rattle.machine.specs.Machine.{admitted}
 use Rattle.state.specs.declared.State.{State}
 use Rattle.state.specs.declared.Stepped.{Stepped}

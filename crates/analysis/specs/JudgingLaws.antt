@@ -3,7 +3,7 @@
 --     judging-tests    of a content whose slack is the slack that it has, it is the tests' answer
 --     judging-found    where no slack is offered, the slack that stands in the content is not looked at
 --     judging-limits, judging-count    where one of 3 to 11 is met, that is the answer
-use Rattle.std.specs.Prelude.{ℕ, ◌<◌, ◌≡◌, Bool, [], ◌∷◌}
+use Rattle.std.specs.Prelude.{Ok, Err, ℕ, ◌<◌, ◌≡◌, Bool, [], ◌∷◌}
 use Rattle.std.proofs.Math.Path.{refl, sym, ap}
 use Rattle.std.proofs.Common.{◌∙◌, arith, eqb-true, eq-eqb}
 use Rattle.std.proofs.Math.Bool.{true, false, not}
@@ -11,8 +11,7 @@ use Rattle.std.proofs.Math.Dec.{eqb}
 use Rattle.std.proofs.lemmas.Bool.{eqb-false}
 use Rattle.laws.specs.Tab.{tab}
 use Rattle.laws.specs.TabLaws.{get_or-tab}
-use Rattle.tasks.specs.declared.Answer.{Answer}
-use Rattle.tasks.specs.declared.Answer.TheVariants.{Accepted, Refused}
+use Rattle.tasks.specs.Answer.{Answer, Accepted, Refused}
 use Rattle.tasks.specs.TaskSet.{TaskSet, row}
 use Rattle.tasks.specs.Content.{Content}
 use Rattle.tasks.specs.Tests.{first_met, or_next, found_test, bounds_test, test3, test4, test5, test6, test7, test8, test28, test9, test10, test11, tests}
@@ -41,9 +40,9 @@ module _ (c : Content) (same : (i : ℕ) → i < c.tasks.count → c.slack i ≡
   judging-tests = go (tested_by c) refl (eqb c.offers 0) refl
     where
       go : (a : Answer) → tested_by c ≡ a → (b : Bool) → eqb c.offers 0 ≡ b → judging c ≡ tests c
-      go (Refused j i) e b z = rw e (sym (test_refused c j i e))
-      go Accepted e true z = rw e (sym (test_found c e (tab (had_slack c) 16) refl (eqb-true _ _ z) ∙ rw (twelve e)))
-      go Accepted e false z = rw e (sym (test_offered c e (tab (had_slack c) 16) refl (eqb-false _ _ z)))
+      go (Err r) e b z = rw e (sym (test_refused c r.number r.index e))
+      go (Ok tt) e true z = rw e (sym (test_found c e (tab (had_slack c) 16) refl (eqb-true _ _ z) ∙ rw (twelve e)))
+      go (Ok tt) e false z = rw e (sym (test_offered c e (tab (had_slack c) 16) refl (eqb-false _ _ z)))
 
 other :
     (e : ℕ) (t : TaskSet) (l x y : ℕ → ℕ) →

@@ -3,7 +3,7 @@
 --     found_tests    12 and 13 of a plan marked as found, against this found slack
 use Rattle.std.specs.Prelude.{List, ℕ}
 use Rattle.tasks.specs.declared.Plan.{Plan}
-use Rattle.tasks.specs.declared.Answer.{Answer}
+use Rattle.tasks.specs.Answer.{Answer}
 use Rattle.tasks.specs.TaskSet.{row}
 use Rattle.tasks.specs.Content.{content_of}
 use Rattle.tasks.specs.Tests.{or_next, found_test, bounds_test}

@@ -3,7 +3,7 @@
 --     tested-limits    what 3 to 12 leave; few-tasks: at most sixteen tasks
 --     test_found       a plan marked as found: 12 and 13 against the found slack
 --     test_offered     a plan marked as offered: 13
-use Rattle.std.specs.Prelude.{ℕ, ◌≤◌, ◌<◌, ◌≡◌, Bool, cond, List, [], ◌∷◌, ◌⊎◌}
+use Rattle.std.specs.Prelude.{Ok, Err, ℕ, ◌≤◌, ◌<◌, ◌≡◌, Bool, cond, List, [], ◌∷◌, ◌⊎◌}
 use Rattle.std.proofs.Math.Path.{refl, ap}
 use Rattle.std.proofs.Common.{sym, ◌∙◌, inl, inr, arith, eqb-true, ne_eqb}
 use Rattle.std.proofs.Math.Bool.{true, false, not}
@@ -13,8 +13,7 @@ use Rattle.std.proofs.lemmas.Bool.{not-false}
 use Rattle.laws.specs.Tab.{tab}
 use Rattle.laws.specs.TabLaws.{get_or-tab}
 use Rattle.tasks.specs.declared.Plan.{Plan}
-use Rattle.tasks.specs.declared.Answer.{Answer}
-use Rattle.tasks.specs.declared.Answer.TheVariants.{Accepted, Refused}
+use Rattle.tasks.specs.Answer.{Answer, Accepted, Refused}
 use Rattle.tasks.specs.TaskSet.{found, bound, row}
 use Rattle.tasks.specs.Content.{Content, content_of}
 use Rattle.tasks.specs.Tests.{first_met, or_next, found_test, bounds_test, test11, test12, test13, tests}
@@ -25,12 +24,12 @@ use Rattle.tasks.proofs.LimitsLaws.{tests_split, limits-passed}
 use Rattle.analysis.specs.SlackTest.{offering, offered_test, had_slack}
 
 or_next-refused : (a b : Answer) (j i : ℕ) → or_next a b ≡ Refused j i → (a ≡ Refused j i) ⊎ ((a ≡ Accepted) × (b ≡ Refused j i))
-or_next-refused Accepted b j i e = inr (refl, e)
-or_next-refused (Refused k l) b j i e = inl e
+or_next-refused (Ok tt) b j i e = inr (refl, e)
+or_next-refused (Err r) b j i e = inl e
 
 last : (a : Answer) → or_next a Accepted ≡ a
-last Accepted = refl
-last (Refused k i) = refl
+last (Ok tt) = refl
+last (Err r) = refl
 
 module _ (c : Content) where
   -- 11, and 12 of offered slack
@@ -124,9 +123,9 @@ module _ (c : Content) where
           (a : Answer) → found_test c.slack (row had) c.tasks.count ≡ a →
           or_next a (test13 c)
           ≡ or_next a (bounds_test c.tasks (row had))
-      found-13 Accepted e =
+      found-13 (Ok tt) e =
           same-bounds (λ i h. sym (eqb-true (c.slack i) (row had i) (not-false _ (lowest-passed 12 _ c.tasks.count e i h))))
-      found-13 (Refused k j) e = refl
+      found-13 (Err r) e = refl
 
       pub test_found :
           c.offers ≡ 0 →

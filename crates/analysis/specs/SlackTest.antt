@@ -8,11 +8,11 @@
 --     RatesTested    the answer by 9 to 12, and the slack with the tasks counted at it
 --     TasksTested    the answer by 6 to 12, and the same
 --     PlanTested     the answer by 3 to 12, and the same where none is met
-use Rattle.std.specs.Prelude.{ℕ, ◌≡◌, cond, List, [], ◌∷◌, eqb}
+use Rattle.std.specs.Prelude.{IfOk, Result, ℕ, ◌≡◌, cond, List, [], ◌∷◌, eqb}
 use Rattle.laws.specs.Tab.{cut}
 use Rattle.tasks.specs.declared.Plan.{Plan}
-use Rattle.tasks.specs.declared.Answer.{Answer}
-use Rattle.tasks.specs.declared.Answer.TheVariants.{Accepted}
+use Rattle.tasks.specs.declared.refusal.Refusal.{Refusal}
+use Rattle.tasks.specs.Answer.{Answer, Accepted, answer_of}
 use Rattle.tasks.specs.TaskSet.{TaskSet, found, row}
 use Rattle.tasks.specs.Content.{Content, content_of}
 use Rattle.tasks.specs.Tests.{refuse, first_met, or_next, bad_offers, compliant_test, test6, test7, test8, test28, test9, test10, test11}
@@ -45,12 +45,11 @@ unfoldable pub had_slack : Content → ℕ → ℕ
 had_slack c = cond (eqb c.offers 0) (row (found c.tasks)) c.slack
 
 -- 12 of offered slack, from an array that may hold more than the used places
-pub record Offered (s : TaskSet) (slack : List ℕ) (r : Tested) : Type 0 where
-  pub answer : r.answer ≡ compliant_test s (cut s.count (row slack) 0)
-  pub had : r.answer ≡ Accepted → Had s (cut s.count (row slack) 0) r.slack r.names
+pub record Offered (s : TaskSet) (slack : List ℕ) (r : Result Tested Refusal) : Type 0 where
+  pub answer : answer_of r ≡ compliant_test s (cut s.count (row slack) 0)
+  pub had : IfOk r (λ t. Had s (cut s.count (row slack) 0) t.slack t.names)
 
 pub record Unoffered (s : TaskSet) (r : Tested) : Type 0 where
-  pub answer : r.answer ≡ Accepted
   pub had : Had s (row (found s)) r.slack r.names
 
 -- 11, and 12 of offered slack
@@ -60,16 +59,16 @@ slack_test s slack k =
     (refuse 11 (bad_offers s k) ∷ cond (eqb k 0) Accepted (compliant_test s (cut s.count (row slack) 0)) ∷ [])
 
 -- 9 to 12
-pub record RatesTested (s : TaskSet) (slack : List ℕ) (k : ℕ) (r : Tested) : Type 0 where
-  pub answer : r.answer ≡ or_next (rates_test s) (slack_test s slack k)
-  pub had : r.answer ≡ Accepted → Had s (cond (eqb k 0) (row (found s)) (cut s.count (row slack) 0)) r.slack r.names
+pub record RatesTested (s : TaskSet) (slack : List ℕ) (k : ℕ) (r : Result Tested Refusal) : Type 0 where
+  pub answer : answer_of r ≡ or_next (rates_test s) (slack_test s slack k)
+  pub had : IfOk r (λ t. Had s (cond (eqb k 0) (row (found s)) (cut s.count (row slack) 0)) t.slack t.names)
 
 -- 6 to 12
-pub record TasksTested (p : Plan) (k : ℕ) (r : Tested) : Type 0 where
-  pub answer : r.answer ≡ task_tests (offering p k)
-  pub had : r.answer ≡ Accepted → Had (offering p k).tasks (had_slack (offering p k)) r.slack r.names
+pub record TasksTested (p : Plan) (k : ℕ) (r : Result Tested Refusal) : Type 0 where
+  pub answer : answer_of r ≡ task_tests (offering p k)
+  pub had : IfOk r (λ t. Had (offering p k).tasks (had_slack (offering p k)) t.slack t.names)
 
-pub record PlanTested (p : Plan) (k : ℕ) (r : Tested) : Type 0 where
+pub record PlanTested (p : Plan) (k : ℕ) (r : Result Tested Refusal) : Type 0 where
   pub answer :
-      r.answer ≡ or_next (limit_tests (offering p k)) (first_met (test11 (offering p k) ∷ offered_test (offering p k) ∷ []))
-  pub had : r.answer ≡ Accepted → Had (offering p k).tasks (had_slack (offering p k)) r.slack r.names
+      answer_of r ≡ or_next (limit_tests (offering p k)) (first_met (test11 (offering p k) ∷ offered_test (offering p k) ∷ []))
+  pub had : IfOk r (λ t. Had (offering p k).tasks (had_slack (offering p k)) t.slack t.names)

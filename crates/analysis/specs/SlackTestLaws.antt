@@ -7,7 +7,7 @@
 --     slack-tests, had-plan                        11 and 12 of a plan, and the slack that it has with the tasks counted at it
 --     slack-none, slack-own, slack-count, slack-offered     11 and 12 by the slack count, slack-own where loops are no more than cores
 --     had-own                                      the slack there
-use Rattle.std.specs.Prelude.{ℕ, ◌-◌, ◌≤◌, ◌<◌, ◌≡◌, Bool, cond, not, ◌||◌, List, [], ◌∷◌, eqb, replicate}
+use Rattle.std.specs.Prelude.{Ok, Err, ℕ, ◌-◌, ◌≤◌, ◌<◌, ◌≡◌, Bool, cond, not, ◌||◌, List, [], ◌∷◌, eqb, replicate}
 use Rattle.std.proofs.Math.Path.{refl, ap}
 use Rattle.std.proofs.Common.{sym, ◌∙◌, true≢false, arith}
 use Rattle.std.proofs.Math.Bool.{true, false}
@@ -17,8 +17,7 @@ use Rattle.laws.specs.Tab.{tab, cut}
 use Rattle.laws.specs.TabLaws.{tab_ext, tab_replicate, get_or-cut, cut_below, cut-map}
 use Rattle.tasks.specs.declared.Task.{Task}
 use Rattle.tasks.specs.declared.Plan.{Plan}
-use Rattle.tasks.specs.declared.Answer.{Answer}
-use Rattle.tasks.specs.declared.Answer.TheVariants.{Accepted, Refused}
+use Rattle.tasks.specs.Answer.{Answer, Accepted, Refused}
 use Rattle.tasks.specs.TaskSet.{TaskSet, plain_task, plain, counted, core_for_each, found, row}
 use Rattle.tasks.specs.PlainLaws.{plain-multiple, plain_shares, plain-counted, plain-compliant, plain-found}
 use Rattle.tasks.proofs.AmountLaws.{counted_ext}
@@ -176,8 +175,8 @@ module _ (s : TaskSet) (slack : List ℕ) (k : ℕ) where
     slack-offered e f = rw (ne_eqb k 0 e, more, eq-eqb k s.count f) (last _)
       where
         last : (a : Answer) → or_next a Accepted ≡ a
-        last Accepted = refl
-        last (Refused k i) = refl
+        last (Ok tt) = refl
+        last (Err r) = refl
 
 -- the last stage of a plan whose task set the columns stand for
 module _ (p : Plan) (k : ℕ) (s : TaskSet) (e : s ≡ plain (content_of p).tasks) where

@@ -9,25 +9,23 @@ ghost use Rattle.analysis.specs.PlanTest.{bounds_of, found_tests};
 use crate::slack_test::test_slack;
 use fields::bounds::bounds;
 use tasks::edition::is_unknown;
-use tasks::{Answer, Plan, refusal};
+use tasks::{Plan, Refusal, Rule};
 
 // The lowest task at which the two slacks differ, or `tasks` where there is none.
 fn first_other(slack: &[u32; 16], found: &[u32; 16], tasks: usize) -> usize
     requires { tasks ≤ 16 }
     ensures { result ≡ first (λ i. not (eqb (row slack.now i) (row found.now i))) tasks }
 {
-    let mut i = 0;
-    while i < tasks {
+    for i in 0..tasks {
         if slack[i] != found[i] {
             return i;
         }
-        i += 1;
     }
     tasks
 }
 
 // Test 13 of a plan's tasks with this slack.
-pub fn plan_bounds(plan: Plan, slack: [u32; 16]) -> Answer
+pub fn plan_bounds(plan: Plan, slack: [u32; 16]) -> Result<(), Refusal>
     requires { plan.tasks ≤ 16 }
     ensures { result ≡ bounds_of plan slack }
 {
@@ -35,7 +33,7 @@ pub fn plan_bounds(plan: Plan, slack: [u32; 16]) -> Answer
 }
 
 // 12 and 13 of a plan marked as found: its slack against the found one.
-fn found_test(plan: Plan, found: [u32; 16]) -> Answer
+fn found_test(plan: Plan, found: [u32; 16]) -> Result<(), Refusal>
     requires { plan.tasks ≤ 16 }
     ensures { result ≡ found_tests plan found }
 {
@@ -43,10 +41,7 @@ fn found_test(plan: Plan, found: [u32; 16]) -> Answer
     let slack = plan.slack;
     let other = first_other(&slack, &found, tasks);
     if other < tasks {
-        return Answer::Refused {
-            number: refusal::SLACK_NOT_COMPLIANT,
-            index: other as u16,
-        };
+        return Err(Rule::SlackNotCompliant.at(other as u16));
     }
     plan_bounds(plan, found)
 }
@@ -55,23 +50,15 @@ fn found_test(plan: Plan, found: [u32; 16]) -> Answer
 pub fn slack_count(offered: bool, tasks: usize) -> usize
     ensures { (result ≡ cond offered tasks 0) × (result ≤ tasks) }
 {
-    if offered {
-        return tasks;
-    }
-    0
+    if offered { tasks } else { 0 }
 }
 
 // 3 to 13, and 28.
-fn test_entries(plan: Plan) -> Answer
+fn test_entries(plan: Plan) -> Result<(), Refusal>
     ensures { result ≡ tests (content_of plan) }
 {
     let offers = slack_count(plan.offered, plan.tasks);
-    let tested = test_slack(plan, offers);
-    let answer = tested.answer;
-    let Answer::Accepted = answer else {
-        return answer;
-    };
-    let had = tested.slack;
+    let had = test_slack(plan, offers)?.slack;
     if offers == 0 {
         return found_test(plan, had);
     }
@@ -79,14 +66,11 @@ fn test_entries(plan: Plan) -> Answer
 }
 
 // "a plan of another edition meets 1 too"
-pub fn test(plan: Plan) -> Answer
+pub fn test(plan: Plan) -> Result<(), Refusal>
     ensures { result ≡ test_plan plan }
 {
     if is_unknown(plan.edition) {
-        return Answer::Refused {
-            number: refusal::EDITION_UNKNOWN,
-            index: 0,
-        };
+        return Err(Rule::EditionUnknown.at(0));
     }
     test_entries(plan)
 }

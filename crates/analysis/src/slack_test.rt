@@ -1,6 +1,7 @@
 // A plan's tests 3 to 12 and 28 and the slack that it has: offered slack is tested, and slack that is not offered is found.
-ghost use Rattle.std.specs.Prelude.{◌≡◌, not, eqb, replicate};
+ghost use Rattle.std.specs.Prelude.{◌≡◌, IfOk, not, eqb, replicate};
 ghost use Rattle.tasks.specs.TaskSet.{TaskSet};
+ghost use Rattle.tasks.specs.Answer.{answer_of};
 ghost use Rattle.tasks.specs.Tests.{refuse};
 ghost use Rattle.slack.specs.Arrays.{ArraysOf};
 ghost use Rattle.slack.specs.StageLaws.{Framed};
@@ -15,26 +16,15 @@ use slack::amount::{amount, first_names};
 use slack::rates::rate;
 use slack::vector::{first_uncovered, search};
 use tasks::bound::core_for_each;
-use tasks::{Answer, Plan, refusal};
+use tasks::{Plan, Refusal, Rule};
 use tidy::tidy_slack;
 
-// The answer, and where it is no refusal the slack, offered or found, with zeros in unused places, and the tasks by name, those counted at
+// The slack of a plan that meets none of 3 to 12 and 28, offered or found, with zeros in unused places, and the tasks by name, those counted at
 // that slack first.
 #[derive(Clone, Copy)]
 pub struct Tested {
-    pub answer: Answer,
     pub slack: [u32; 16],
     pub names: [u8; 16],
-}
-
-fn untested(answer: Answer) -> Tested
-    ensures { result.answer ≡ answer }
-{
-    Tested {
-        answer,
-        slack: [0; 16],
-        names: [0; 16],
-    }
 }
 
 // Test 12 of offered slack.
@@ -47,7 +37,7 @@ fn offered(
     surplus: u64,
     cores: usize,
     tasks: usize,
-) -> Tested
+) -> Result<Tested, Refusal>
     requires { (s : TaskSet) × ArraysOf s share.now budget.now offset.now multiple surplus cores tasks }
     ensures { (s : TaskSet) → ArraysOf s share.now budget.now offset.now multiple surplus cores tasks → Offered s slack.now result }
 {
@@ -56,16 +46,9 @@ fn offered(
     let whole = amount(share, offset, &used, &mut names, surplus, cores - 1, tasks);
     let bad = first_uncovered(&used, budget, whole, multiple, cores as u64, tasks);
     if bad < tasks {
-        return untested(Answer::Refused {
-            number: refusal::SLACK_NOT_COMPLIANT,
-            index: bad as u16,
-        });
+        return Err(Rule::SlackNotCompliant.at(bad as u16));
     }
-    Tested {
-        answer: Answer::Accepted,
-        slack: used,
-        names,
-    }
+    Ok(Tested { slack: used, names })
 }
 
 // Slack that is not offered is found.
@@ -85,32 +68,20 @@ fn unoffered(
     let slack = search(
         share, budget, offset, &mut names, multiple, surplus, cores, tasks,
     );
-    Tested {
-        answer: Answer::Accepted,
-        slack,
-        names,
-    }
+    Tested { slack, names }
 }
 
 // Where loops are no more than cores "offered slack … is refused 11", a loop's "slack is 0", and no task is counted.
-fn own_cores(offers: usize) -> Tested
-    ensures { (result.answer ≡ refuse 11 (not (eqb offers 0))) × (result.slack ≡ replicate 16 0) }
+fn own_cores(offers: usize) -> Result<Tested, Refusal>
+    ensures { (answer_of result ≡ refuse 11 (not (eqb offers 0))) × IfOk result (λ t. t.slack ≡ replicate 16 0) }
 {
-    if offers == 0 {
-        return Tested {
-            answer: Answer::Accepted,
-            slack: [0; 16],
-            names: [0; 16],
-        };
+    if offers != 0 {
+        return Err(Rule::SlackCountWrong.at(0));
     }
-    Tested {
-        answer: Answer::Refused {
-            number: refusal::SLACK_COUNT_WRONG,
-            index: 0,
-        },
+    Ok(Tested {
         slack: [0; 16],
         names: [0; 16],
-    }
+    })
 }
 
 // Tests 9 to 12, of a task set that meets none of 3 to 8 and 28.
@@ -122,21 +93,17 @@ fn test_rated(
     cores: usize,
     tasks: usize,
     offers: usize,
-) -> Tested
+) -> Result<Tested, Refusal>
     requires { Framed 1 cores tasks × Ranges (set_from cores tasks separation.now budget.now offset.now) }
     ensures { RatesTested (set_from cores tasks separation.now budget.now offset.now) slack.now offers result }
 {
-    let rates = rate(separation, budget, offset, cores, tasks);
-    let rated = rates.answer;
-    let Answer::Accepted = rated else {
-        return untested(rated);
-    };
+    let rates = rate(separation, budget, offset, cores, tasks)?;
     if core_for_each(cores, tasks) {
         return own_cores(offers);
     }
     let share = rates.share;
     if offers == 0 {
-        return unoffered(
+        return Ok(unoffered(
             &share,
             budget,
             offset,
@@ -144,13 +111,10 @@ fn test_rated(
             rates.surplus,
             cores,
             tasks,
-        );
+        ));
     }
     if offers != tasks {
-        return untested(Answer::Refused {
-            number: refusal::SLACK_COUNT_WRONG,
-            index: 0,
-        });
+        return Err(Rule::SlackCountWrong.at(0));
     }
     offered(
         &share,
@@ -165,26 +129,19 @@ fn test_rated(
 }
 
 // Tests 6 to 12, and 28.
-fn test_tasks(plan: Plan, offers: usize) -> Tested
+fn test_tasks(plan: Plan, offers: usize) -> Result<Tested, Refusal>
     requires { Framed 1 plan.cores plan.tasks }
     ensures { TasksTested plan offers result }
 {
     let tasks = plan.tasks;
     let task = plan.task;
-    let fielded = task_ranges(task, tasks, plan.edition);
-    let Answer::Accepted = fielded else {
-        return untested(fielded);
-    };
+    task_ranges(task, tasks, plan.edition)?;
     let columns = split(task, tasks);
-    let separation = columns.separation;
-    let budget = columns.budget;
-    let offset = columns.offset;
-    let slack = plan.slack;
     test_rated(
-        &separation,
-        &budget,
-        &offset,
-        &slack,
+        &columns.separation,
+        &columns.budget,
+        &columns.offset,
+        &plan.slack,
         plan.cores,
         tasks,
         offers,
@@ -192,13 +149,9 @@ fn test_tasks(plan: Plan, offers: usize) -> Tested
 }
 
 // Tests 3 to 12, and 28, with a slack count of `offers`: a table's may be any, a plan's is 0 or n.
-pub fn test_slack(plan: Plan, offers: usize) -> Tested
+pub fn test_slack(plan: Plan, offers: usize) -> Result<Tested, Refusal>
     ensures { PlanTested plan offers result }
 {
-    let labels = plan.labels;
-    let framed = frame(plan.cores, &labels, plan.tasks, false);
-    let Answer::Accepted = framed else {
-        return untested(framed);
-    };
+    frame(plan.cores, &plan.labels, plan.tasks, false)?;
     test_tasks(plan, offers)
 }

@@ -13,7 +13,7 @@
 use Rattle.std.specs.Prelude.{ℕ, ◌+◌, ◌*◌, cond, not, List, [], ◌∷◌, ◌++◌, length, eqb}
 use Rattle.laws.specs.Tab.{cut}
 use Rattle.tasks.specs.declared.Task.{Task}
-use Rattle.tasks.specs.declared.Answer.{Answer}
+use Rattle.tasks.specs.Answer.{Answer}
 use Rattle.tasks.specs.TaskSet.{TaskSet, found, row}
 use Rattle.tasks.specs.Content.{has_deadlines, in_edition, Content, no_task}
 use Rattle.tasks.specs.Tests.{refuse, first_met, bad_edition, tests}

@@ -14,7 +14,7 @@ use Rattle.std.proofs.Math.Dec.{eqb}
 use borrow.Author.Tests.{le-ltb, eqb-false, eq-eqb, ne_eqb}
 use Rattle.laws.specs.EveryLaws.{below_or_not}
 use Rattle.tasks.specs.declared.Plan.{Plan}
-use Rattle.tasks.specs.declared.Answer.TheVariants.{Accepted, Refused}
+use Rattle.tasks.specs.Answer.{Accepted, Refused}
 use Rattle.tasks.specs.TaskSet.{core_for_each, bound}
 use Rattle.tasks.specs.Content.{has_deadlines, Content, late, no_task, content_of, plan_of}
 use Rattle.tasks.proofs.ContentLaws.{content_ext}

@@ -8,7 +8,7 @@
 --     converted_length   its length; converted_to: the bytes left behind
 use Rattle.std.specs.Prelude.{ℕ, Bool, cond, not, ◌||◌, List, [], ◌∷◌, ◌++◌, length, drop, ltb, eqb}
 use Rattle.tasks.specs.declared.Task.{Task}
-use Rattle.tasks.specs.declared.Answer.{Answer}
+use Rattle.tasks.specs.Answer.{Answer}
 use Rattle.tasks.specs.TaskSet.{core_for_each}
 use Rattle.tasks.specs.Content.{has_deadlines, in_edition, Content}
 use Rattle.tasks.specs.Tests.{refuse, lowest, first_met, unless_refused, bad_edition}

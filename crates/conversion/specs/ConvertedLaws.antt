@@ -21,8 +21,7 @@ use mathlib.Core.List.{List, [], ◌∷◌}
 use Rattle.std.proofs.Math.Dec.{eqb}
 use borrow.Author.Tests.{eqb-true, eqb-false, not-false}
 use Rattle.tasks.specs.declared.Task.{Task}
-use Rattle.tasks.specs.declared.Answer.{Answer}
-use Rattle.tasks.specs.declared.Answer.TheVariants.{Accepted, Refused}
+use Rattle.tasks.specs.Answer.{Answer, Accepted, Refused}
 use Rattle.tasks.specs.TaskSet.{TaskSet, plain, core_for_each, found, row}
 use Rattle.tasks.specs.PlainLaws.{plain-multiple, plain_shares, plain-compliant, plain-found, plain-bounds}
 use Rattle.tasks.specs.Content.{has_deadlines, in_edition, Content, late_of, no_task, content_of, plan_of}

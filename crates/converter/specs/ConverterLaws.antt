@@ -6,7 +6,8 @@
 --     convert_unwanted, convert_refused, convert_unfit, convert_written    each case of it
 --     plan-few             an accepted table's plan has at most sixteen tasks
 --     converted-accepts    converted, it meets none of a plan's numbers
-use Rattle.std.specs.Prelude.{ℕ, ◌≤◌, ◌<◌, ◌≡◌, Bool, true, false, ◌||◌, ◌≢◌, length, eqb}
+use Rattle.tasks.specs.declared.refusal.Refusal.{Refusal}
+use Rattle.std.specs.Prelude.{ℕ, ◌≤◌, ◌<◌, ◌≡◌, Bool, true, false, ◌||◌, ◌≢◌, length, eqb, Err, Result}
 use Rattle.std.proofs.Common.{arith, ◌∙◌, eq-or-lt_of_le}
 use Rattle.std.proofs.Math.Path.{refl, sym, ap}
 use Rattle.std.proofs.Math.Bool.{cond}
@@ -19,7 +20,7 @@ use Rattle.laws.specs.Tab.{tab}
 use Rattle.laws.specs.TabLaws.{tab_ext, get_or-tab}
 use Rattle.tasks.specs.declared.Task.{Task}
 use Rattle.tasks.specs.declared.Plan.{Plan}
-use Rattle.tasks.specs.declared.Answer.TheVariants.{Accepted, Refused}
+use Rattle.tasks.specs.Answer.{Accepted, Refused}
 use Rattle.tasks.specs.TaskSet.{core_for_each}
 use Rattle.tasks.specs.Content.{has_deadlines, Content, no_task, task_of, content_of, plan_of}
 use Rattle.tasks.proofs.ContentLaws.{plan_ext, by_edition}
@@ -30,8 +31,6 @@ use Rattle.numbers.specs.Bytes.{byte}
 use Rattle.codec.specs.Table.{edition_in, content_in, verdict}
 use Rattle.table.specs.declared.Judgement.{Judgement}
 use Rattle.table.specs.Judged.{judged}
-use Rattle.writer.specs.declared.Written.{Written}
-use Rattle.writer.specs.declared.Written.TheVariants.{Refused as NotWritten}
 use Rattle.writer.specs.Written.{answer_of_written, length_of_written, write_test, written_length, written_to}
 use Rattle.writer.specs.WriterLaws.{Writes}
 use Rattle.roundtrip.specs.SectionLaws.{verdict-parts, table_fits}
@@ -108,18 +107,18 @@ plan-converted e c =
 
 -- ---- the answer
 
-abbrev pub Converts : ℕ → List ℕ → List ℕ → Written → List ℕ → Type 0
+abbrev pub Converts : ℕ → List ℕ → List ℕ → Result ℕ Refusal → List ℕ → Type 0
 Converts e t out r after =
     (answer_of_written r ≡ convert_test e t (length out))
     × (length_of_written r ≡ converted_length e t (length out))
     × (after ≡ converted_to e t out)
 
-module _ (e : ℕ) (t out : List ℕ) (r : Written) where
+module _ (e : ℕ) (t out : List ℕ) (r : Result ℕ Refusal) where
   stopped : (k i : ℕ) → convert_test e t (length out) ≡ Refused k i → answer_of_written r ≡ Refused k i → length_of_written r ≡ 0 → Converts e t out r out
   unfolding converted_length converted_to
   stopped k i met a l = (rw (met, a), rw (met, l), rw met)
 
-  pub convert_unwanted : bad_edition e || eqb (edition_in t) e ≡ true → r ≡ NotWritten 1 0 → Converts e t out r out
+  pub convert_unwanted : bad_edition e || eqb (edition_in t) e ≡ true → r ≡ Err (record { number = 1; index = 0 }) → Converts e t out r out
   unfolding convert_test wanted_test first_met
   convert_unwanted h s = stopped 1 0 (rw h) (ap answer_of_written s) (ap length_of_written s)
 
@@ -130,7 +129,7 @@ module _ (e : ℕ) (t : List ℕ) (wanted : bad_edition e || eqb (edition_in t) 
   judged-answer = ap (λ (r : Judgement). r.answer) q
 
   pub convert_refused :
-      (out : List ℕ) (r : Written) (k i : ℕ) → j.answer ≡ Refused k i → answer_of_written r ≡ j.answer → length_of_written r ≡ 0
+      (out : List ℕ) (r : Result ℕ Refusal) (k i : ℕ) → j.answer ≡ Refused k i → answer_of_written r ≡ j.answer → length_of_written r ≡ 0
       → Converts e t out r out
   unfolding convert_test wanted_test first_met
   convert_refused out r k i m a =
@@ -163,7 +162,7 @@ module _ (e : ℕ) (t : List ℕ) (wanted : bad_edition e || eqb (edition_in t) 
         (way_ext e (content_in t).tasks.count _ _ (λ i h. get_or-tab (content_in t).tasks.task 16 i no_task (omega (arith, fits.tasks-high)))))
 
     pub convert_unfit :
-        (out : List ℕ) (r : Written) (k i : ℕ) → fit_test e j.plan.cores (task_of j.plan.task) j.plan.tasks ≡ Refused k i
+        (out : List ℕ) (r : Result ℕ Refusal) (k i : ℕ) → fit_test e j.plan.cores (task_of j.plan.task) j.plan.tasks ≡ Refused k i
         → answer_of_written r ≡ Refused k i → length_of_written r ≡ 0 → Converts e t out r out
     unfolding convert_test wanted_test first_met
     convert_unfit out r k i m =
@@ -190,7 +189,7 @@ module _ (e : ℕ) (t : List ℕ) (wanted : bad_edition e || eqb (edition_in t) 
       unfolding write_test convert_test wanted_test first_met
       same_test room = rw (converted-accepts, says, wanted, accepted, fit)
 
-      pub convert_written : (out : List ℕ) (r : Written) (after : List ℕ) → Writes p out r after → Converts e t out r after
+      pub convert_written : (out : List ℕ) (r : Result ℕ Refusal) (after : List ℕ) → Writes p out r after → Converts e t out r after
       unfolding written_length written_to converted_length converted_to
       convert_written out r after h =
           let z = same_test (length out) in

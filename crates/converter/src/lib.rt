@@ -14,8 +14,8 @@ ghost use Rattle.converter.specs.ConverterLaws.{converted_plan};
 use table::judge;
 use tasks::bound::core_for_each;
 use tasks::edition::{deadline_in, has_deadlines, is_unknown};
-use tasks::{Answer, Plan, Task, refusal};
-use writer::{Written, unwritten, write_accepted};
+use tasks::{Plan, Refusal, Rule, Task};
+use writer::write_accepted;
 
 // "A table already in the wanted edition, or a wanted edition other than 1 and 2". A table without an edition byte is in none.
 fn is_unwanted(table: &[u8], edition: u32) -> bool
@@ -55,37 +55,28 @@ fn first_unfit(task: [Task; 16], tasks: usize, edition: u8) -> usize
 }
 
 // 29 or 30, at the lowest task that meets it.
-fn test_way(task: [Task; 16], tasks: usize, edition: u8) -> Answer
+fn test_way(task: [Task; 16], tasks: usize, edition: u8) -> Result<(), Refusal>
     requires { tasks ≤ 16 }
     ensures { result ≡ way_test edition (task_of task) tasks }
 {
     let at = first_unfit(task, tasks, edition);
     if at == tasks {
-        return Answer::Accepted;
+        return Ok(());
     }
     let index = at as u16;
     if has_deadlines(edition) {
-        return Answer::Refused {
-            number: refusal::OFFSET_ZERO,
-            index,
-        };
+        return Err(Rule::OffsetZero.at(index));
     }
-    Answer::Refused {
-        number: refusal::DEADLINE_NOT_OFFSET,
-        index,
-    }
+    Err(Rule::DeadlineNotOffset.at(index))
 }
 
 // 31, "tested before 29 and 30".
-fn test_fit(cores: usize, task: [Task; 16], tasks: usize, edition: u8) -> Answer
+fn test_fit(cores: usize, task: [Task; 16], tasks: usize, edition: u8) -> Result<(), Refusal>
     requires { tasks ≤ 16 }
     ensures { result ≡ fit_test edition cores (task_of task) tasks }
 {
     if core_for_each(cores, tasks) {
-        return Answer::Refused {
-            number: refusal::TASKS_TOO_FEW,
-            index: 0,
-        };
+        return Err(Rule::TasksTooFew.at(0));
     }
     test_way(task, tasks, edition)
 }
@@ -113,28 +104,19 @@ fn convert_plan(plan: Plan, edition: u8) -> Plan
 }
 
 // "Convert to edition 2 by giving each loop its offset as deadline, and back where every deadline equals its offset."
-pub fn convert(table: &[u8], edition: u32, out: &mut [u8]) -> Written
+pub fn convert(table: &[u8], edition: u32, out: &mut [u8]) -> Result<usize, Refusal>
     ensures { (answer_of_written result ≡ convert_test edition table.now (length out.old))
         × (length_of_written result ≡ converted_length edition table.now (length out.old))
         × (out.new ≡ converted_to edition table.now out.old) }
 {
     if is_unwanted(table, edition) {
-        return Written::Refused {
-            number: refusal::EDITION_UNKNOWN,
-            index: 0,
-        };
+        return Err(Rule::EditionUnknown.at(0));
     }
     let judgement = judge(table);
-    let answer = judgement.answer;
-    let Answer::Accepted = answer else {
-        return unwritten(answer);
-    };
+    judgement.answer?;
     let plan = judgement.plan;
     let wanted = edition as u8;
     let task = plan.task;
-    let tested = test_fit(plan.cores, task, plan.tasks, wanted);
-    let Answer::Accepted = tested else {
-        return unwritten(tested);
-    };
+    test_fit(plan.cores, task, plan.tasks, wanted)?;
     write_accepted(convert_plan(plan, wanted), out)
 }

@@ -5,15 +5,15 @@
 --     run-refused, run_done      the log run's answer
 --     told_length, told_refused          the sentence's, by the cases of what came back
 --     written_length_lem, written_refused    the conversion's
-use Rattle.std.specs.Prelude.{ℕ, ◌+◌, ◌*◌, ◌≤◌, ◌<◌, ◌≡◌, List, take}
+use Rattle.tasks.specs.declared.refusal.Refusal.{Refusal}
+use Rattle.std.specs.Prelude.{ℕ, ◌+◌, ◌*◌, ◌≤◌, ◌<◌, ◌≡◌, List, take, Ok, Err, Result}
 use Rattle.std.proofs.Math.Path.{sym, ap}
 use Rattle.std.proofs.Common.{◌∙◌, arith}
 use Rattle.std.proofs.Math.Bool.{true, false}
 use Rattle.std.proofs.Math.ListN.{length}
 use Rattle.std.proofs.lemmas.List.Edits.{sets}
 use borrow.Author.Tests.{lt-ltb, le-ltb}
-use Rattle.tasks.specs.declared.Answer.{Answer}
-use Rattle.tasks.specs.declared.Answer.TheVariants.{Accepted, Refused}
+use Rattle.tasks.specs.Answer.{Answer, Accepted, Refused}
 use Rattle.tasks.specs.Tests.{first_met, unless_refused, tests}
 use Rattle.tasks.specs.AnswerLaws.{first_met-passed}
 use Rattle.table.specs.declared.Judgement.{Judgement}
@@ -26,11 +26,7 @@ use Rattle.wishes.specs.Wish.{with_offsets, at_slack, solved}
 use Rattle.sheet.specs.declared.Wished.{Wished}
 use Rattle.sheet.specs.Wished.{wish_verdict, wish_of}
 use Rattle.sheet.specs.SheetTheorems.{wish_accepted}
-use Rattle.wording.specs.declared.Composed.{Composed}
-use Rattle.wording.specs.declared.Composed.TheVariants.{Length, Refused as NotComposed}
 use Rattle.wording.specs.Told.{answer_of_composed, length_of_composed, sentence_test, sentence_length}
-use Rattle.writer.specs.declared.Written.{Written}
-use Rattle.writer.specs.declared.Written.TheVariants.{Length as Wrote, Refused as NotWritten}
 use Rattle.writer.specs.Written.{answer_of_written, length_of_written}
 use Rattle.conversion.specs.Converted.{convert_test, converted_length}
 use Rattle.replay.specs.declared.run.Ran.{Ran}
@@ -136,21 +132,21 @@ module _ (a : Answer) (n : ℕ) where
   refused-number m j e = rw e
 
 -- the sentence
-module _ (k i v room : ℕ) (r : Composed) (e : answer_of_composed r ≡ sentence_test k i v room) where
-  pub told_length : (n : ℕ) → r ≡ Length n → length_of_composed r ≡ sentence_length k i v room → n ≡ sentence_number k i v room
+module _ (k i v room : ℕ) (r : Result ℕ Refusal) (e : answer_of_composed r ≡ sentence_test k i v room) where
+  pub told_length : (n : ℕ) → r ≡ Ok n → length_of_composed r ≡ sentence_length k i v room → n ≡ sentence_number k i v room
   unfolding sentence_number sentence_length
   told_length n c l = length-number (sentence_test k i v room) _ n (sym e ∙ ap answer_of_composed c) (sym (ap length_of_composed c) ∙ l)
 
-  pub told_refused : (m j : ℕ) → r ≡ NotComposed m j → answer_number (Refused m j) 0 ≡ sentence_number k i v room
+  pub told_refused : (m j : ℕ) → r ≡ Err (record { number = m; index = j }) → answer_number (Refused m j) 0 ≡ sentence_number k i v room
   unfolding sentence_number
   told_refused m j c = refused-number (sentence_test k i v room) _ m j (sym e ∙ ap answer_of_composed c)
 
 -- the conversion
-module _ (e : ℕ) (t : List ℕ) (room : ℕ) (r : Written) (q : answer_of_written r ≡ convert_test e t room) where
-  pub written_length_lem : (n : ℕ) → r ≡ Wrote n → length_of_written r ≡ converted_length e t room → n ≡ convert_number e t room
+module _ (e : ℕ) (t : List ℕ) (room : ℕ) (r : Result ℕ Refusal) (q : answer_of_written r ≡ convert_test e t room) where
+  pub written_length_lem : (n : ℕ) → r ≡ Ok n → length_of_written r ≡ converted_length e t room → n ≡ convert_number e t room
   unfolding convert_number converted_length
   written_length_lem n c l = length-number (convert_test e t room) _ n (sym q ∙ ap answer_of_written c) (sym (ap length_of_written c) ∙ l)
 
-  pub written_refused : (m j : ℕ) → r ≡ NotWritten m j → answer_number (Refused m j) 0 ≡ convert_number e t room
+  pub written_refused : (m j : ℕ) → r ≡ Err (record { number = m; index = j }) → answer_number (Refused m j) 0 ≡ convert_number e t room
   unfolding convert_number
   written_refused m j c = refused-number (convert_test e t room) _ m j (sym q ∙ ap answer_of_written c)

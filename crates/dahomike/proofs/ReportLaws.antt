@@ -6,7 +6,7 @@
 --     report-leaves    what is left of a buffer that has room for all entries
 --     answer-refused, answer-short, answer_done    what a plan is answered with, by what the code has seen
 --     answered_is      that is the answer of the content that the plan keeps
-use Rattle.std.specs.Prelude.{ℕ, ◌*◌, ◌≤◌, ◌<◌, ◌≡◌, Bool, List, ◌++◌, length}
+use Rattle.std.specs.Prelude.{Ok, Err, ℕ, ◌*◌, ◌≤◌, ◌<◌, ◌≡◌, Bool, List, ◌++◌, length}
 use Rattle.std.proofs.Math.Path.{refl, ap}
 use Rattle.std.proofs.Common.{◌∙◌, arith, length-append}
 use Rattle.std.proofs.Math.Bool.{true, false}
@@ -17,8 +17,7 @@ use borrow.Author.Tests.{lt-ltb, le-ltb, ltb-false}
 use Rattle.laws.specs.SetsLaws.{sets-whole}
 use Rattle.laws.specs.TabLaws.{get_or-tab}
 use Rattle.tasks.specs.declared.Plan.{Plan}
-use Rattle.tasks.specs.declared.Answer.{Answer}
-use Rattle.tasks.specs.declared.Answer.TheVariants.{Accepted, Refused}
+use Rattle.tasks.specs.Answer.{Answer, Accepted, Refused}
 use Rattle.tasks.specs.TaskSet.{bound, row}
 use Rattle.tasks.specs.Limits.{Bounded}
 use Rattle.tasks.specs.Content.{Content, plan_of, task_of}
@@ -116,8 +115,8 @@ module _ (b : Bool) (a : Answer) {c : Content} {p : Plan} (g : a ≡ Accepted �
   number_same = go a refl
     where
       go : (d : Answer) → a ≡ d → answer_number (room_test b a p.tasks (length out)) p.tasks ≡ answer_number (room_test b a c.tasks.count (length out)) c.tasks.count
-      go (Refused k i) e = rw e
-      go Accepted e = ap (λ (n : ℕ). answer_number (room_test b a n (length out)) n) (tasks_are b (g e))
+      go (Err r) e = rw e
+      go (Ok tt) e = ap (λ (n : ℕ). answer_number (room_test b a n (length out)) n) (tasks_are b (g e))
 
   leaves-same :
       unless_refused (room_test b a p.tasks (length out)) (sets out 0 (entries (entry_of b p) p.tasks)) out
@@ -128,8 +127,8 @@ module _ (b : Bool) (a : Answer) {c : Content} {p : Plan} (g : a ≡ Accepted �
       go : (d : Answer) → a ≡ d
           → unless_refused (room_test b a p.tasks (length out)) (sets out 0 (entries (entry_of b p) p.tasks)) out
           ≡ unless_refused (room_test b a c.tasks.count (length out)) (bytes_of b c ++ drop (entry_size b * c.tasks.count) out) out
-      go (Refused k i) e = rw e
-      go Accepted e =
+      go (Err r) e = rw e
+      go (Ok tt) e =
           written (ltb (length out) (entry_size b * p.tasks)) refl
           ∙ ap (λ (n : ℕ). unless_refused (room_test b a n (length out)) (bytes_of b c ++ drop (entry_size b * n) out) out) (tasks_are b (g e))
         where

@@ -16,7 +16,7 @@
 --                                       that they fit
 use Rattle.std.specs.Prelude.{ℕ, ◌+◌, ◌*◌, ◌≤◌, ◌<◌, Bool, true, false, List, [], ◌∷◌, ◌++◌, length, drop, ltb}
 use Rattle.tasks.specs.declared.Plan.{Plan}
-use Rattle.tasks.specs.declared.Answer.{Answer}
+use Rattle.tasks.specs.Answer.{Answer}
 use Rattle.tasks.specs.TaskSet.{core_for_each, bound_by, bound, row}
 use Rattle.tasks.specs.Content.{Content, task_of}
 use Rattle.tasks.specs.Tests.{refuse, first_met, unless_refused}

@@ -3,7 +3,7 @@
 use Rattle.std.specs.Prelude.{ℕ, ◌≡◌, Bool, List}
 use Rattle.std.proofs.Math.Bool.{true, false}
 use Rattle.tasks.specs.declared.Plan.{Plan}
-use Rattle.tasks.specs.declared.Answer.TheVariants.{Accepted}
+use Rattle.tasks.specs.Answer.{Accepted}
 use Rattle.tasks.specs.Content.{Content, plan_of}
 use Rattle.tasks.specs.Tests.{tests}
 use Rattle.dahomike.specs.Answers.{report_bytes, found_bytes}

@@ -6,7 +6,8 @@ ghost use Rattle.std.proofs.lemmas.List.Edits.{sets};
 ghost use Rattle.numbers.specs.Bytes.{digits, entries};
 ghost use Rattle.conversion.specs.Converted.{converted_to};
 ghost use Rattle.replay.specs.Ran.{run_leaves};
-ghost use Rattle.dahomike_answer.specs.Number.{answer_number};
+ghost use Rattle.tasks.specs.Answer.{Accepted};
+ghost use Rattle.dahomike_answer.specs.Number.{answer_number, told_number};
 ghost use Rattle.dahomike.specs.Answers.{judge_number, judge_leaves, counted_number, counted_leaves, wish_number, wish_leaves, run_number, sentence_number, convert_number, entry_size, entry_bytes, entry_of, room_test, Reportable};
 ghost use Rattle.dahomike.specs.ReportLaws.{Reported};
 ghost use Rattle.tasks.specs.Content.{Content};
@@ -14,7 +15,7 @@ ghost use Rattle.tasks.specs.Tests.{unless_refused};
 ghost use Rattle.wording.specs.Told.{sentence_leaves};
 
 use converter::convert;
-use dahomike_answer::refused;
+use dahomike_answer::answer;
 use decimal::put_words;
 use numbers::put4;
 use replay::run_log;
@@ -22,9 +23,7 @@ use sentence::sentence;
 use sheet::wish;
 use table::judge;
 use tasks::bound::{bound, core_for_each};
-use tasks::{Answer, Plan, refusal};
-use wording::Composed;
-use writer::Written;
+use tasks::{Plan, Refusal, Rule};
 
 // A task's slack and bound, 4 bytes each, from `at` on.
 fn put_pair(out: &mut [u8], at: usize, slack: u32, bound: u32)
@@ -57,12 +56,10 @@ fn report(plan: Plan, out: &mut [u8], wishes: bool)
     let task = plan.task;
     let slack = plan.slack;
     let each = core_for_each(plan.cores, tasks);
-    let mut i = 0;
-    while i < tasks {
+    for i in 0..tasks {
         let t = task[i];
         let b = bound(each, t, slack[i]) as u32;
         put_entry(out, i, t.offset, slack[i], b, wishes);
-        i += 1;
     }
 }
 
@@ -77,23 +74,23 @@ fn entry_size(wishes: bool) -> usize
 }
 
 // A plan's answer: its number of tasks, and each task's entry in `out`; or the refusal, 24 last.
-fn answered(answer: Answer, plan: Plan, out: &mut [u8], wishes: bool) -> u64
-    requires { answer ≡ Answer.Accepted → (c : Content) × Reported c plan }
-    ensures { (result ≡ answer_number (room_test wishes answer plan.tasks (length out.old)) plan.tasks)
-        × (out.new ≡ unless_refused (room_test wishes answer plan.tasks (length out.old)) (sets out.old 0 (entries (entry_of wishes plan) plan.tasks)) out.old) }
+fn answered(
+    met: Result<(), Refusal>,
+    plan: Plan,
+    out: &mut [u8],
+    wishes: bool,
+) -> Result<u64, Refusal>
+    requires { met ≡ Accepted → (c : Content) × Reported c plan }
+    ensures { (told_number result ≡ answer_number (room_test wishes met plan.tasks (length out.old)) plan.tasks)
+        × (out.new ≡ unless_refused (room_test wishes met plan.tasks (length out.old)) (sets out.old 0 (entries (entry_of wishes plan) plan.tasks)) out.old) }
 {
-    let Answer::Accepted = answer else {
-        return refused(answer);
-    };
+    met?;
     let tasks = plan.tasks;
     if out.len() < entry_size(wishes) * tasks {
-        return refused(Answer::Refused {
-            number: refusal::BUFFER_TOO_SHORT,
-            index: 0,
-        });
+        return Err(Rule::BufferTooShort.at(0));
     }
     report(plan, out, wishes);
-    tasks as u64
+    Ok(tasks as u64)
 }
 
 // The judgement of a table: n and each task's slack and bound, or the refusal.
@@ -101,9 +98,7 @@ pub fn dahomike_judge(table: &[u8], out: &mut [u8]) -> u64
     ensures { (result ≡ judge_number table.now (length out.old)) × (out.new ≡ judge_leaves table.now out.old) }
 {
     let judgement = judge(table);
-    let answer = judgement.answer;
-    let plan = judgement.plan;
-    answered(answer, plan, out, false)
+    answer(answered(judgement.answer, judgement.plan, out, false))
 }
 
 // Offsets and slack for a wish sheet: n and each task's offset, slack and bound, or the refusal.
@@ -111,30 +106,39 @@ pub fn dahomike_wish(sheet: &[u8], out: &mut [u8]) -> u64
     ensures { (result ≡ wish_number sheet.now (length out.old)) × (out.new ≡ wish_leaves sheet.now out.old) }
 {
     let wished = wish(sheet);
-    let answer = wished.answer;
-    let plan = wished.plan;
-    answered(answer, plan, out, true)
+    answer(answered(wished.answer, wished.plan, out, true))
+}
+
+// How many loops are counted in a table's judgement, and a byte for each in `out`; or the refusal, 24 last.
+fn counted(table: &[u8], out: &mut [u8]) -> Result<u64, Refusal>
+    ensures { (told_number result ≡ counted_number table.now (length out.old)) × (out.new ≡ counted_leaves table.now out.old) }
+{
+    let judgement = judge(table);
+    judgement.answer?;
+    let count = judgement.count;
+    if out.len() < count {
+        return Err(Rule::BufferTooShort.at(0));
+    }
+    let counted = judgement.counted;
+    put_words(out, 0, &counted[..count]);
+    Ok(count as u64)
 }
 
 // The loops counted in the judgement of a table: how many, and a byte for each, largest weight first; or the refusal.
 pub fn dahomike_counted(table: &[u8], out: &mut [u8]) -> u64
     ensures { (result ≡ counted_number table.now (length out.old)) × (out.new ≡ counted_leaves table.now out.old) }
 {
-    let judgement = judge(table);
-    let answer = judgement.answer;
-    let Answer::Accepted = answer else {
-        return refused(answer);
-    };
-    let count = judgement.count;
-    if out.len() < count {
-        return refused(Answer::Refused {
-            number: refusal::BUFFER_TOO_SHORT,
-            index: 0,
-        });
-    }
-    let counted = judgement.counted;
-    put_words(out, 0, &counted[..count]);
-    count as u64
+    answer(counted(table, out))
+}
+
+// A run's two counts in one number, or the refusal.
+fn run(table: &[u8], log: &[u8], out: &mut [u8]) -> Result<u64, Refusal>
+    ensures { (told_number result ≡ run_number table.now log.now (length out.old))
+        × (out.new ≡ run_leaves table.now log.now out.old) }
+{
+    let ran = run_log(table, log, out);
+    ran.answer?;
+    Ok((ran.taken as u64) + 65536 * (ran.refused as u64))
 }
 
 // The run of a log on a table: taken + 65,536 × refused and each entry's 8 bytes, or the refusal.
@@ -142,12 +146,7 @@ pub fn dahomike_run_log(table: &[u8], log: &[u8], out: &mut [u8]) -> u64
     ensures { (result ≡ run_number table.now log.now (length out.old))
         × (out.new ≡ run_leaves table.now log.now out.old) }
 {
-    let ran = run_log(table, log, out);
-    let answer = ran.answer;
-    let Answer::Accepted = answer else {
-        return refused(answer);
-    };
-    (ran.taken as u64) + 65536 * (ran.refused as u64)
+    answer(run(table, log, out))
 }
 
 // A refusal as one English sentence: how long it is, and its bytes; or 25.
@@ -156,16 +155,7 @@ pub fn dahomike_sentence(number: u32, index: u32, value: u64, out: &mut [u8]) ->
         × (out.new ≡ sentence_leaves number index value out.old) }
 {
     let told = sentence(number, index, value, out);
-    match told {
-        Composed::Length(length) => length as u64,
-        Composed::Refused {
-            number: met,
-            index: at,
-        } => refused(Answer::Refused {
-            number: met,
-            index: at,
-        }),
-    }
+    answer(told.map(|length| length as u64))
 }
 
 // A table in the other edition: how many bytes it has, and the bytes; or the refusal.
@@ -174,14 +164,5 @@ pub fn dahomike_convert(table: &[u8], edition: u32, out: &mut [u8]) -> u64
         × (out.new ≡ converted_to edition table.now out.old) }
 {
     let written = convert(table, edition, out);
-    match written {
-        Written::Length(length) => length as u64,
-        Written::Refused {
-            number: met,
-            index: at,
-        } => refused(Answer::Refused {
-            number: met,
-            index: at,
-        }),
-    }
+    answer(written.map(|count| count as u64))
 }

@@ -1,29 +1,30 @@
 // The engine for a controller in C: its calls as C functions over a lent state of 653 words.
 #![tactic(auto)]
 
-ghost use Rattle.std.specs.Prelude.{◌≡◌, ℕ, ◌≤◌, ◌<◌};
+ghost use Rattle.std.specs.Prelude.{◌≡◌, not, ℕ, ◌≤◌, ◌<◌};
 ghost use Rattle.std.proofs.lemmas.List.Edits.{sets};
 ghost use Rattle.tasks.specs.TaskSet.{row};
-ghost use Rattle.dahomike_answer.specs.Number.{answer_number};
-ghost use Rattle.engine_words.specs.Words.{machine_words, words_of};
+ghost use Rattle.tasks.specs.Tests.{refuse};
+ghost use Rattle.dahomike_answer.specs.Number.{told_number};
+ghost use Rattle.engine_words.specs.Words.{machine_words, words_of, fits};
 ghost use Rattle.engine_lent.specs.Lent.{open_number, open_leaves, release_number, release_leaves, step_number, step_leaves, runs_leave, responses_leave};
 
-use dahomike_answer::refused;
+use dahomike_answer::answer;
 use engine::{open, release, step_fields};
 use engine_store::put::{put_machine, put_plan};
-use engine_store::read::{fit, flags, jobs, numbers, places, plan, read, sized};
+use engine_store::read::{fit, flags, jobs, numbers, plan, read};
 use state::State;
 use table::judge;
-use tasks::{Answer, refusal};
+use tasks::{Refusal, Rule};
 
 // "Words that don't fit make a state that isn't sound: 18."
-fn misfit() -> u64
-    ensures { result ≡ answer_number (Answer.Refused 18 0) 0 }
+fn fitting(words: &[u32; 653]) -> Result<(), Refusal>
+    ensures { result ≡ refuse 18 (not (fits words.now)) }
 {
-    refused(Answer::Refused {
-        number: refusal::STATE_NOT_SOUND,
-        index: 0,
-    })
+    if !fit(words) {
+        return Err(Rule::StateNotSound.at(0));
+    }
+    Ok(())
 }
 
 // The words behind the plan's: a release and a step leave the plan as it is.
@@ -51,10 +52,21 @@ fn put_state(words: &mut [u32; 653], state: State)
     requires { (state.plan.cores ≤ 8) × (state.plan.tasks ≤ 16) × ((i : ℕ) → i < 16 → row state.jobs i ≤ 16) }
     ensures { words.new ≡ words_of state }
 {
-    sized(*words);
     let plan = state.plan;
     put_plan(words, plan);
     put_rest(words, state);
+}
+
+fn opened(table: &[u8], state: &mut [u32; 653]) -> Result<u64, Refusal>
+    ensures { (told_number result ≡ open_number table.now) × (state.new ≡ open_leaves table.now state.old) }
+{
+    let judgement = judge(table);
+    judgement.answer?;
+    let plan = judgement.plan;
+    let opened = open(plan);
+    let after = opened.state;
+    put_state(state, after);
+    Ok(0)
 }
 
 // Opens the engine on a show table: 0 and the opened state of its plan, or what its judgement refuses.
@@ -62,16 +74,18 @@ fn put_state(words: &mut [u32; 653], state: State)
 pub extern "C" fn dahomike_engine_open(table: &[u8], state: &mut [u32; 653]) -> u64
     ensures { (result ≡ open_number table.now) × (state.new ≡ open_leaves table.now state.old) }
 {
-    let judgement = judge(table);
-    let answer = judgement.answer;
-    let Answer::Accepted = answer else {
-        return refused(answer);
-    };
-    let plan = judgement.plan;
-    let opened = open(plan);
-    let after = opened.state;
-    put_state(state, after);
-    0
+    answer(opened(table, state))
+}
+
+fn released(state: &mut [u32; 653], task: u32, demand: u32) -> Result<u64, Refusal>
+    ensures { (told_number result ≡ release_number state.old task demand) × (state.new ≡ release_leaves state.old task demand) }
+{
+    fitting(state)?;
+    let done = release(read(state), task as usize, demand);
+    done.answer?;
+    let after = done.state;
+    put_rest(state, after);
+    Ok(0)
 }
 
 // Hands the engine a release of a loop with its demand: 0 and the state with one job more, or the first of 18 to 23.
@@ -79,18 +93,43 @@ pub extern "C" fn dahomike_engine_open(table: &[u8], state: &mut [u32; 653]) -> 
 pub extern "C" fn dahomike_engine_release(state: &mut [u32; 653], task: u32, demand: u32) -> u64
     ensures { (result ≡ release_number state.old task demand) × (state.new ≡ release_leaves state.old task demand) }
 {
-    sized(*state);
-    if !fit(state) {
-        return misfit();
-    }
-    let done = release(read(state), task as usize, demand);
-    let answer = done.answer;
-    let Answer::Accepted = answer else {
-        return refused(answer);
-    };
-    let after = done.state;
-    put_rest(state, after);
-    0
+    answer(released(state, task, demand))
+}
+
+fn stepped(
+    state: &mut [u32; 653],
+    runs: &mut [u8; 8],
+    responses: &mut [u32; 16],
+) -> Result<u64, Refusal>
+    ensures { (told_number result ≡ step_number state.old)
+        × (state.new ≡ step_leaves state.old)
+        × (runs.new ≡ runs_leave state.old runs.old)
+        × (responses.new ≡ responses_leave state.old responses.old) }
+{
+    fitting(state)?;
+    let plan = plan(state);
+    let clock = state[92];
+    let mut jobs = jobs(state);
+    let flags = flags(state);
+    let last = numbers(state, 125);
+    let mut remaining = numbers(state, 141);
+    let mut release = numbers(state, 397);
+    let done = step_fields(
+        plan,
+        clock,
+        &mut jobs,
+        &flags,
+        &last,
+        &mut remaining,
+        &mut release,
+    );
+    let ran = done.runs;
+    let finished = done.responses;
+    done.answer?;
+    put_machine(state, clock + 1, &jobs, &flags, &last, &remaining, &release);
+    *runs = ran;
+    *responses = finished;
+    Ok(0)
 }
 
 // Steps the engine by one tick: 0 and the state one tick later, with the loop on each core and who finished, or 18 or 19.
@@ -105,44 +144,5 @@ pub extern "C" fn dahomike_engine_step(
         × (runs.new ≡ runs_leave state.old runs.old)
         × (responses.new ≡ responses_leave state.old responses.old) }
 {
-    sized(*state);
-    if !fit(state) {
-        return misfit();
-    }
-    let plan = plan(state);
-    let clock = state[92];
-    let mut jobs = jobs(state);
-    let released = flags(state);
-    let last = numbers(state, 125);
-    let mut remaining = [0u32; 256];
-    places(state, 141, &mut remaining);
-    let mut release = [0u32; 256];
-    places(state, 397, &mut release);
-    let done = step_fields(
-        plan,
-        clock,
-        &mut jobs,
-        &released,
-        &last,
-        &mut remaining,
-        &mut release,
-    );
-    let answer = done.answer;
-    let ran = done.runs;
-    let finished = done.responses;
-    let Answer::Accepted = answer else {
-        return refused(answer);
-    };
-    put_machine(
-        state,
-        clock + 1,
-        &jobs,
-        &released,
-        &last,
-        &remaining,
-        &release,
-    );
-    *runs = ran;
-    *responses = finished;
-    0
+    answer(stepped(state, runs, responses))
 }

@@ -3,7 +3,7 @@
 --     Alike                a state is that of a machine that is reached; opens, steps, asks: the calls keep this; stepped: what a step answers
 --     mirrored             the delivered engine mirrors the machine
 use Prim.Native.Nat.{ℕ, suc, ◌≤◌, ◌<◌}
-use Rattle.std.specs.Prelude.{Bool, ◌&&◌, ◌≡◌, ltb}
+use Rattle.std.specs.Prelude.{Ok, Err, Bool, ◌&&◌, ◌≡◌, ltb}
 use Rattle.std.proofs.Math.Bool.{true, false, not}
 use Rattle.std.proofs.Common.{true≢false, ◌∙◌, arith}
 use Rattle.std.proofs.Math.Path.{refl, sym, ap}
@@ -14,8 +14,7 @@ use borrow.Author.Tests.{ltb-true, ltb-false, eqb-true, eqb-false, eq-eqb}
 use Rattle.laws.specs.Tab.{tab}
 use Rattle.laws.specs.Member.{member}
 use Rattle.tasks.specs.declared.Plan.{Plan}
-use Rattle.tasks.specs.declared.Answer.{Answer}
-use Rattle.tasks.specs.declared.Answer.TheVariants.{Accepted, Refused}
+use Rattle.tasks.specs.Answer.{Answer, Accepted}
 use Rattle.tasks.specs.TaskSet.{TaskSet, row}
 use Rattle.tasks.specs.Content.{content_of, tidy}
 use Rattle.tasks.proofs.ContentLaws.{content-tidy, tidy-tidy}
@@ -107,12 +106,12 @@ module _ (p : Plan) (a : test_plan p ≡ Accepted) where
         (go (admit_tests s M i c) refl)
       where
         go : (b : Answer) → admit_tests s M i c ≡ b → Alike t (unless_refused b (state_of (tidy p) (admitted i c M)) (state_of (tidy p) M)) (handed_of s M i c)
-        go Accepted q =
+        go (Ok tt) q =
             let e : answer_of s M i c ≡ taken = sym (same_answer s M i c) ∙ ap outcome_of q in
             rw e
             (record { view = refl; reached = release i c (answer_allowed s M i c e).0 A.reached; clock = A.clock })
-        go (Refused k j) q =
-            let e : answer_of s M i c ≡ refused k = sym (same_answer s M i c) ∙ ap outcome_of q in
+        go (Err r) q =
+            let e : answer_of s M i c ≡ refused r.number = sym (same_answer s M i c) ∙ ap outcome_of q in
             rw e (record { view = refl; reached = A.reached; clock = A.clock })
 
     pub answers : (i c : ℕ) → outcome_of (release_of u i c).answer ≡ answer_of s M i c

@@ -10,7 +10,7 @@
 --     demand_histories  the claim of every history of calls, whoever makes them, below the clock's end
 use Rattle.std.specs.Prelude.{ℕ, ◌≤◌, ◌<◌, true, ◌≡◌, List, ◌∷◌, ◌++◌, length}
 use Rattle.std.proofs.Common.{sym, ap, subst, ◌∙◌, arith}
-use Rattle.tasks.specs.declared.Answer.TheVariants.{Accepted}
+use Rattle.tasks.specs.Answer.{Accepted}
 use Rattle.tasks.specs.Content.{Content}
 use Rattle.tasks.specs.Tests.{test_plan}
 use Rattle.codec.specs.Table.{content_in, verdict}

@@ -4,7 +4,7 @@
 use Rattle.std.specs.Prelude.{ℕ, ◌≤◌, ◌≡◌}
 use Rattle.std.proofs.Math.Path.{subst}
 use mathlib.Core.List.{List}
-use Rattle.tasks.specs.declared.Answer.TheVariants.{Accepted, Refused}
+use Rattle.tasks.specs.Answer.{Accepted, Refused}
 use Rattle.tasks.specs.TaskSet.{bound, row}
 use Rattle.tasks.specs.Content.{Content}
 use Rattle.codec.specs.Table.{content_in, verdict}

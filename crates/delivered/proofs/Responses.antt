@@ -12,7 +12,7 @@ use borrow.Author.Tests.{eq-eqb}
 use Rattle.laws.specs.EveryLaws.{below_or_not}
 use Rattle.laws.specs.TabLaws.{get_or-tab, get_or-tab-out, get_or_alike}
 use Rattle.tasks.specs.declared.Plan.{Plan}
-use Rattle.tasks.specs.declared.Answer.TheVariants.{Accepted, Refused}
+use Rattle.tasks.specs.Answer.{Accepted, Refused}
 use Rattle.tasks.specs.Numbers.{clock_end}
 use Rattle.tasks.specs.TaskSet.{bound, row}
 use Rattle.tasks.specs.Content.{content_of}

@@ -13,7 +13,7 @@ use advance::{admit, tick};
 use analysis::test;
 use soundness::sound;
 use state::{Opened, Released, State, Stepped};
-use tasks::{Answer, Plan, limits, refusal};
+use tasks::{Plan, Refusal, Rule, limits};
 use tidy::tidied;
 
 // 18 and 19 of the state that has these fields.
@@ -25,22 +25,16 @@ fn step_test(
     last: &[u32; 16],
     remaining: &[u32; 256],
     release: &[u32; 256],
-) -> Answer
+) -> Result<(), Refusal>
     ensures { result ≡ step_tests (state_from plan clock jobs.now released.now last.now remaining.now release.now) }
 {
     if !sound(plan, clock, jobs, released, last, remaining, release) {
-        return Answer::Refused {
-            number: refusal::STATE_NOT_SOUND,
-            index: 0,
-        };
+        return Err(Rule::StateNotSound.at(0));
     }
     if clock == limits::CLOCK_END {
-        return Answer::Refused {
-            number: refusal::CLOCK_AT_ITS_END,
-            index: 0,
-        };
+        return Err(Rule::ClockAtItsEnd.at(0));
     }
-    Answer::Accepted
+    Ok(())
 }
 
 // 20 to 23 of a loop of the state that has these fields: what is left and when it was released is not looked at.
@@ -52,7 +46,7 @@ fn task_test(
     last: &[u32; 16],
     task: usize,
     demand: u32,
-) -> Answer
+) -> Result<(), Refusal>
     requires { plan.tasks ≤ 16 }
     ensures { (remaining release : List ℕ)
         → result
@@ -63,10 +57,7 @@ fn task_test(
 {
     let tasks = plan.tasks;
     if tasks <= task {
-        return Answer::Refused {
-            number: refusal::TASK_NOT_IN_TABLE,
-            index: 0,
-        };
+        return Err(Rule::TaskNotInTable.at(0));
     }
     let all = plan.task;
     let t = all[task];
@@ -81,14 +72,14 @@ pub fn open(plan: Plan) -> Opened
     ensures { result ≡ open_of plan }
 {
     let answer = test(plan);
-    let Answer::Accepted = answer else {
+    let Ok(()) = answer else {
         let state = zeros();
         return Opened { answer, state };
     };
     let tidy = tidied(plan);
     let state = empty(tidy);
     Opened {
-        answer: Answer::Accepted,
+        answer: Ok(()),
         state,
     }
 }
@@ -105,11 +96,11 @@ pub fn release(state: State, task: usize, demand: u32) -> Released
     let mut remaining = state.remaining;
     let mut release = state.release;
     let answer = step_test(plan, clock, &jobs, &released, &last, &remaining, &release);
-    let Answer::Accepted = answer else {
+    let Ok(()) = answer else {
         return Released { answer, state };
     };
     let answer = task_test(plan, clock, &jobs, &released, &last, task, demand);
-    let Answer::Accepted = answer else {
+    let Ok(()) = answer else {
         return Released { answer, state };
     };
     admit(
@@ -123,7 +114,7 @@ pub fn release(state: State, task: usize, demand: u32) -> Released
         &mut release,
     );
     Released {
-        answer: Answer::Accepted,
+        answer: Ok(()),
         state: State {
             plan,
             clock,
@@ -139,7 +130,7 @@ pub fn release(state: State, task: usize, demand: u32) -> Released
 // What a step over a state's arrays answers; where it is refused, every core is idle and no task finished.
 #[derive(Clone, Copy)]
 pub struct Ticked {
-    pub answer: Answer,
+    pub answer: Result<(), Refusal>,
     pub runs: [u8; 8],
     pub responses: [u32; 16],
 }
@@ -160,7 +151,7 @@ pub fn step_fields(
         result.answer jobs.new remaining.new release.new result.runs result.responses }
 {
     let answer = step_test(plan, clock, jobs, released, last, remaining, release);
-    let Answer::Accepted = answer else {
+    let Ok(()) = answer else {
         return Ticked {
             answer,
             runs: [255u8; 8],
@@ -171,7 +162,7 @@ pub fn step_fields(
     let runs = ran.runs;
     let responses = ran.responses;
     Ticked {
-        answer: Answer::Accepted,
+        answer: Ok(()),
         runs,
         responses,
     }
@@ -199,7 +190,7 @@ pub fn step(state: State) -> Stepped
     let answer = ran.answer;
     let runs = ran.runs;
     let responses = ran.responses;
-    let Answer::Accepted = answer else {
+    let Ok(()) = answer else {
         return Stepped {
             answer,
             state,
@@ -208,7 +199,7 @@ pub fn step(state: State) -> Stepped
         };
     };
     Stepped {
-        answer: Answer::Accepted,
+        answer: Ok(()),
         state: State {
             plan,
             clock: state.clock + 1,

@@ -6,7 +6,7 @@
 --     controller_says                      the lent words say the engine's state, after any calls
 --     controller_history                   the claim of all histories, of the C calls
 --     controller_responses                 each response that a step leaves is at most its loop's bound
-use Rattle.std.specs.Prelude.{ℕ, zero, suc, ◌+◌, ◌*◌, ◌/◌, ◌≤◌, ◌<◌, Bool, true, false, ◌&&◌, ◌≡◌, List, [], ◌∷◌, replicate}
+use Rattle.std.specs.Prelude.{Ok, Err, ℕ, zero, suc, ◌+◌, ◌*◌, ◌/◌, ◌≤◌, ◌<◌, Bool, true, false, ◌&&◌, ◌≡◌, List, [], ◌∷◌, replicate}
 use Rattle.std.proofs.Math.Bool.{not}
 use Rattle.std.proofs.Math.Path.{refl, sym, ap, subst}
 use Rattle.std.proofs.Common.{◌∙◌, arith}
@@ -14,8 +14,7 @@ use Rattle.std.proofs.Math.Option.{Option}
 use Rattle.std.proofs.Math.Dec.{eqb}
 use borrow.Author.Tests.{ne_eqb}
 use Rattle.laws.specs.Member.{member}
-use Rattle.tasks.specs.declared.Answer.{Answer}
-use Rattle.tasks.specs.declared.Answer.TheVariants.{Accepted, Refused}
+use Rattle.tasks.specs.Answer.{Answer, Accepted, Refused}
 use Rattle.tasks.specs.Numbers.{clock_end}
 use Rattle.tasks.specs.TaskSet.{bound, row}
 use Rattle.tasks.specs.Tests.{refuse, or_next, first_met, unless_refused}
@@ -45,16 +44,16 @@ use Rattle.engine_controller.specs.KeptWords.{Says, step-says, release-says, ope
 -- ---- the numbers of refusals
 
 abbrev Plain : Answer → Type 0
-Plain Accepted = Unit {0}
-Plain (Refused k j) = (1 ≤ k) × (j ≡ 0)
+Plain (Ok tt) = Unit {0}
+Plain (Err r) = (1 ≤ r.number) × (r.index ≡ 0)
 
 refuse-plain : (k : ℕ) (b : Bool) → 1 ≤ k → Plain (refuse k b)
 refuse-plain k true h = (h, refl)
 refuse-plain k false h = tt
 
 next-plain : (a b : Answer) → Plain a → Plain b → Plain (or_next a b)
-next-plain Accepted b p q = q
-next-plain (Refused k j) b p q = p
+next-plain (Ok tt) b p q = q
+next-plain (Err r) b p q = p
 
 two-plain : (a b : Answer) → Plain a → Plain b → Plain (first_met (a ∷ b ∷ []))
 unfolding first_met
@@ -82,11 +81,11 @@ release-plain s i c =
 
 number-back : (a : Answer) → Plain a → outcome_in (answer_number a 0) ≡ outcome_of a
 unfolding outcome_in answer_number
-number-back Accepted p = refl
-number-back (Refused k j) p =
-    let some : 4294967296 * k + j ≡ 0 → ⊥ = λ e. omega (arith, p.0) in
-    let same : (4294967296 * k + j) / 4294967296 ≡ k = omega (arith, p.1) in
-    rw (ne_eqb (4294967296 * k + j) 0 some, same)
+number-back (Ok tt) p = refl
+number-back (Err o) p =
+    let some : 4294967296 * o.number + o.index ≡ 0 → ⊥ = λ e. omega (arith, p.0) in
+    let same : (4294967296 * o.number + o.index) / 4294967296 ≡ o.number = omega (arith, p.1) in
+    rw (ne_eqb (4294967296 * o.number + o.index) 0 some, same)
 
 -- ---- the calls give the engine's answers
 
@@ -116,12 +115,12 @@ module _ (l : List ℕ) (s : State) (S : Says l s) where
           (a : Answer) → (step_of s).answer ≡ a
           → eqb (answer_number (step_of s).answer 0) 0 && (not (eqb i idle) && member i (unless_refused (step_of s).answer (step_of s).runs []))
           ≡ not (eqb i idle) && member i (step_of s).runs
-      go Accepted q = rw q
-      go (Refused k j) q =
-          let r : step_tests s ≡ Refused k j = sym (step-answer s) ∙ q in
-          let p : Plain (Refused k j) = subst Plain r (step-plain s) in
-          let some : 4294967296 * k + j ≡ 0 → ⊥ = λ e. omega (arith, p.0) in
-          rw (q, refused-runs s k j r, ne_eqb (4294967296 * k + j) 0 some) (sym (none_runs i))
+      go (Ok tt) q = rw q
+      go (Err o) q =
+          let r : step_tests s ≡ Err o = sym (step-answer s) ∙ q in
+          let p : Plain (Err o) = subst Plain r (step-plain s) in
+          let some : 4294967296 * o.number + o.index ≡ 0 → ⊥ = λ e. omega (arith, p.0) in
+          rw (q, refused-runs s o.number o.index r, ne_eqb (4294967296 * o.number + o.index) 0 some) (sym (none_runs i))
 
   answers_alike : (i c : ℕ) → outcome_in (release_number l i c) ≡ outcome_of (release_of s i c).answer
   unfolding release_number release_of
@@ -172,8 +171,8 @@ module _ (t ws : List ℕ) (a : verdict t ≡ Accepted) where
       go :
           (b : Answer) → (step_of u).answer ≡ b → answer_number (step_of u).answer 0 ≡ 0
           → row (unless_refused (step_of u).answer (step_of u).responses lent) i ≤ bound (content_in t).tasks (content_in t).slack i
-      go Accepted q z = rw q (demand-responses t a h i)
-      go (Refused k j) q z =
-          let p : Plain (Refused k j) = subst Plain (sym (step-answer u) ∙ q) (step-plain u) in
-          let none : 4294967296 * k + j ≡ 0 = ap (λ (b : Answer). answer_number b 0) (sym q) ∙ z in
+      go (Ok tt) q z = rw q (demand-responses t a h i)
+      go (Err o) q z =
+          let p : Plain (Err o) = subst Plain (sym (step-answer u) ∙ q) (step-plain u) in
+          let none : 4294967296 * o.number + o.index ≡ 0 = ap (λ (b : Answer). answer_number b 0) (sym q) ∙ z in
           absurd (omega (arith, p.0))

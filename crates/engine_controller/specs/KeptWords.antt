@@ -3,7 +3,7 @@
 --     step_same, release-same                   a refused call hands back the state handed in
 --     Says                                      words fit, and say a state
 --     step-says, release-says, open_says        the words that a call leaves say the state that the engine's call hands back
-use Rattle.std.specs.Prelude.{ℕ, ◌≤◌, ◌<◌, Bool, true, false, not, ◌||◌, ◌≡◌, refl, List, eqb}
+use Rattle.std.specs.Prelude.{Ok, Err, ℕ, ◌≤◌, ◌<◌, Bool, true, false, not, ◌||◌, ◌≡◌, refl, List, eqb}
 use Rattle.std.proofs.Common.{true≢false, sym, ap, ◌∙◌, ⊎_elim, arith}
 use Rattle.std.proofs.Math.ListN.{get_or}
 use borrow.Author.Tests.{le-leb, eqb-true}
@@ -11,8 +11,7 @@ use Rattle.laws.specs.Tab.{cut}
 use Rattle.laws.specs.TabLaws.{get_or-tab, cut-above}
 use Rattle.laws.specs.EveryLaws.{below_or_not}
 use Rattle.tasks.specs.declared.Plan.{Plan}
-use Rattle.tasks.specs.declared.Answer.{Answer}
-use Rattle.tasks.specs.declared.Answer.TheVariants.{Accepted, Refused}
+use Rattle.tasks.specs.Answer.{Answer, Accepted, Refused}
 use Rattle.tasks.specs.TaskSet.{row}
 use Rattle.tasks.specs.Content.{content_of, plan_of, tidy}
 use Rattle.tasks.specs.Tests.{bad_edition, test_plan, unless_refused}
@@ -44,16 +43,16 @@ module _ (s : State) (W : Whole s) where
   step-whole = go (step_tests s)
     where
       go : (a : Answer) → Whole (unless_refused a (ticked_of s.plan (tasks_of s) (machine_of s)) (not_stepped (step_tests s) s)).state
-      go Accepted = with_plan s (tick (tasks_of s) (machine_of s)) W
-      go (Refused k j) = W
+      go (Ok tt) = with_plan s (tick (tasks_of s) (machine_of s)) W
+      go (Err r) = W
 
   pub release-whole : (i c : ℕ) → Whole (release_of s i c).state
   unfolding release_of
   release-whole i c = go (release_tests s i c)
     where
       go : (a : Answer) → Whole (unless_refused a (state_of s.plan (admitted i c (machine_of s))) s)
-      go Accepted = with_plan s (admitted i c (machine_of s)) W
-      go (Refused k j) = W
+      go (Ok tt) = with_plan s (admitted i c (machine_of s)) W
+      go (Err r) = W
 
 -- ---- an opening
 
@@ -101,8 +100,8 @@ pub record Says (ws : List ℕ) (s : State) : Type 0 where
   pub fit : fits ws ≡ true
 
 left-says : (a : Answer) (s : State) (ws : List ℕ) → Whole s → ((k j : ℕ) → a ≡ Refused k j → Says ws s) → Says (left a s ws) s
-left-says Accepted s ws W same = record { state = said-words s W; fit = words-fit s W }
-left-says (Refused k j) s ws W same = same k j refl
+left-says (Ok tt) s ws W same = record { state = said-words s W; fit = words-fit s W }
+left-says (Err r) s ws W same = same r.number r.index refl
 
 module _ (ws : List ℕ) (f : fits ws ≡ true) where
   pub step-says : Says (step_leaves ws) (step_of (said ws)).state

@@ -5,7 +5,7 @@
 --     step_number, step_leaves                      a step
 --     runs_leave, responses_leave                   what a step leaves of the two other arrays that are lent to it
 use Rattle.std.specs.Prelude.{ℕ, List}
-use Rattle.tasks.specs.declared.Answer.{Answer}
+use Rattle.tasks.specs.Answer.{Answer}
 use Rattle.tasks.specs.Tests.{unless_refused}
 use Rattle.table.specs.Judged.{judged}
 use Rattle.state.specs.declared.State.{State}

@@ -7,15 +7,14 @@
 --     step-plan, release-plan                   a step and a release leave the plan as it is
 --     step-jobs, release-jobs                   and leave no loop with more than 16 jobs
 --     over-said                                 the words behind the plan's, stored over the lent ones
-use Rattle.std.specs.Prelude.{ℕ, ◌+◌, ◌≤◌, ◌<◌, Bool, true, false, ◌&&◌, ◌≡◌, List, length, leb, eqb}
+use Rattle.std.specs.Prelude.{Ok, Err, ℕ, ◌+◌, ◌≤◌, ◌<◌, Bool, true, false, ◌&&◌, ◌≡◌, List, length, leb, eqb}
 use Rattle.std.proofs.Math.Path.{refl}
 use Rattle.std.proofs.Common.{sym, ap, ◌∙◌, leb-true}
 use Rattle.std.proofs.lemmas.List.Edits.{sets}
 use Rattle.laws.specs.Tab.{tab}
 use Rattle.laws.specs.EveryLaws.{both}
 use Rattle.tasks.specs.declared.Plan.{Plan}
-use Rattle.tasks.specs.declared.Answer.{Answer}
-use Rattle.tasks.specs.declared.Answer.TheVariants.{Accepted, Refused}
+use Rattle.tasks.specs.Answer.{Answer, Accepted, Refused}
 use Rattle.tasks.specs.TaskSet.{row}
 use Rattle.tasks.specs.Tests.{first_met, test_plan}
 use Rattle.tasks.specs.AnswerLaws.{first_met-passed}
@@ -76,24 +75,24 @@ module _ (s : State) where
   step-answer = go (step_tests s) refl
     where
       go : (a : Answer) → step_tests s ≡ a → (step_of s).answer ≡ step_tests s
-      go Accepted q = rw q
-      go (Refused k j) q = rw q
+      go (Ok tt) q = rw q
+      go (Err r) q = rw q
 
   pub step-plan : (step_of s).state.plan ≡ s.plan
   unfolding step_of ticked_of not_stepped state_of
   step-plan = go (step_tests s) refl
     where
       go : (a : Answer) → step_tests s ≡ a → (step_of s).state.plan ≡ s.plan
-      go Accepted q = rw q
-      go (Refused k j) q = rw q
+      go (Ok tt) q = rw q
+      go (Err r) q = rw q
 
   pub release-plan : (i c : ℕ) → (release_of s i c).state.plan ≡ s.plan
   unfolding release_of state_of
   release-plan i c = go (release_tests s i c) refl
     where
       go : (a : Answer) → release_tests s i c ≡ a → (release_of s i c).state.plan ≡ s.plan
-      go Accepted q = rw q
-      go (Refused k j) q = rw q
+      go (Ok tt) q = rw q
+      go (Err r) q = rw q
 
   pub step-jobs : Shaped s → (step_of s).answer ≡ Accepted → (i : ℕ) → i < 16 → row (step_of s).state.jobs i ≤ 16
   step-jobs S a = sound-jobs (step_of s).state (step-sound s S (step-passed s (sym step-answer ∙ a)).0)

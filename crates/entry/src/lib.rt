@@ -4,7 +4,6 @@
 ghost use Rattle.std.specs.Prelude.{◌≡◌, List, ℕ};
 ghost use Rattle.std.specs.Int.{from_bool};
 ghost use Rattle.tasks.specs.declared.Plan.{Plan};
-ghost use Rattle.tasks.specs.Tests.{number_of};
 ghost use Rattle.history.specs.Log.{Entry};
 ghost use Rattle.running.specs.HandLaws.{Handing, Handed};
 ghost use Rattle.running.specs.EnterCode.{Entering, Enters};
@@ -17,7 +16,7 @@ use heads::Heads;
 use logs::read::{Release, release_at};
 use logs::report::put_refused;
 use onward::{Pending, Setup};
-use tasks::{Answer, refusal};
+use tasks::Rule;
 
 // A log run: its clock and pending jobs, and whether each task has had a release taken, and when the last one was.
 #[derive(Drop)]
@@ -25,15 +24,6 @@ pub struct Run {
     pub pending: Pending,
     pub released: [bool; 16],
     pub last: [u32; 16],
-}
-
-fn number(answer: Answer) -> u8
-    ensures { result ≡ number_of answer }
-{
-    match answer {
-        Answer::Accepted => 0,
-        Answer::Refused { number, index: _ } => number,
-    }
 }
 
 impl Run {
@@ -72,11 +62,11 @@ impl Run {
     {
         let task = release.task;
         if on.tasks <= task {
-            put_refused(out, e, refusal::TASK_NOT_IN_TABLE);
+            put_refused(out, e, Rule::TaskNotInTable.number());
             return false;
         }
         let held = self.pending.jobs[task];
-        let answer = admission_test(
+        let test = admission_test(
             on.columns.separation[task],
             on.columns.budget[task],
             release.tick,
@@ -85,10 +75,10 @@ impl Run {
             self.released[task],
             self.last[task],
         );
-        let Answer::Accepted = answer else {
-            put_refused(out, e, number(answer));
+        if let Err(refusal) = test {
+            put_refused(out, e, refusal.number);
             return false;
-        };
+        }
         self.pending.owners[16 * task + held] = e as u32;
         self.pending.jobs[task] = held + 1;
         self.released[task] = true;
@@ -116,7 +106,7 @@ impl Run {
     {
         let release = release_at(on.log, e);
         if release.tick < self.pending.clock {
-            put_refused(out, e, refusal::TICK_GOES_BACK);
+            put_refused(out, e, Rule::TickGoesBack.number());
             false
         } else {
             self.pending.advance(release.tick, on, out);

@@ -3,7 +3,7 @@
 --     scan_fields, scan_wishes    the scan of range_tests
 --     range_none, range_lower, range_kept    of no task, of one more that meets a lower number, and of one that doesn't
 --     seen_none, seen-some    what is kept, by whether a number is
-use Rattle.std.specs.Prelude.{ℕ, ◌+◌, ◌<◌, ◌≤◌, ◌≡◌, Bool, ltb, eqb}
+use Rattle.std.specs.Prelude.{Ok, Err, ℕ, ◌+◌, ◌<◌, ◌≤◌, ◌≡◌, Bool, ltb, eqb}
 use Rattle.std.proofs.Math.Path.{refl}
 use Rattle.std.proofs.Common.{sym, ap, ◌∙◌, ⊎_elim}
 use Rattle.std.proofs.Math.Bool.{true, false, cond}
@@ -12,8 +12,7 @@ use native.Mathlib.Omega.{arith}
 use borrow.Author.Tests.{lt-ltb, le-ltb, ne_eqb, eqb-true}
 use Rattle.laws.specs.First.{first}
 use Rattle.laws.specs.FirstLaws.{first_or_none, none_more, found_at, found_stays}
-use Rattle.tasks.specs.declared.Answer.{Answer}
-use Rattle.tasks.specs.declared.Answer.TheVariants.{Accepted, Refused}
+use Rattle.tasks.specs.Answer.{Answer, Accepted, Refused}
 use Rattle.tasks.specs.Tests.{refuse_at, lowest, or_next, first_met, number_of, index_of}
 use Rattle.tasks.specs.declared.Task.{Task}
 use Rattle.tasks.specs.NumberLaws.{lowest-met}
@@ -79,8 +78,8 @@ module _ (n k i : ℕ) where
   scan-above h (t ∷ l) r e = go (scan-above t.0 l r.1) (lowest t.0 t.1 n) refl
     where
       go : (scan l n ≡ seen k i → t.0 < k) → (a : Answer) → lowest t.0 t.1 n ≡ a → h < k
-      go above Accepted q = omega (arith, r.0, above (rw q at e))
-      go above (Refused m j) q = omega (arith, r.0, (lowest-met t.0 t.1 n m j q).0, (seen-refused k i m j (rw q at e)).0)
+      go above (Ok tt) q = omega (arith, r.0, above (rw q at e))
+      go above (Err m) q = omega (arith, r.0, (lowest-met t.0 t.1 n m.number m.index q).0, (seen-refused k i m.number m.index (rw q at e)).0)
 
   pub scan-more :
       (h : ℕ) (l : List (ℕ × (ℕ → Bool))) → Rising h l → scan l n ≡ seen k i
@@ -93,15 +92,15 @@ module _ (n k i : ℕ) where
           (scan l n ≡ seen k i → scan l (n + 1) ≡ cond (ltb (first_met_at l n) k) (seen (first_met_at l n) n) (seen k i))
           → (a : Answer) → lowest t.0 t.1 n ≡ a → (b : Bool) → t.1 n ≡ b
           → scan (t ∷ l) (n + 1) ≡ cond (ltb (first_met_at (t ∷ l) n) k) (seen (first_met_at (t ∷ l) n) n) (seen k i)
-      go rest (Refused m j) q b p =
-          let w : Refused m j ≡ seen k i = rw q at e in
-          let late : k ≤ first_met_at (t ∷ l) n = omega (arith, (seen-refused k i m j w).0, (lowest-met t.0 t.1 n m j q).0, from b p) in
+      go rest (Err m) q b p =
+          let w : Err m ≡ seen k i = rw q at e in
+          let late : k ≤ first_met_at (t ∷ l) n = omega (arith, (seen-refused k i m.number m.index w).0, (lowest-met t.0 t.1 n m.number m.index q).0, from b p) in
           rw (lowest-more t.0 t.1 n, q, le-ltb (first_met_at (t ∷ l) n) k late) w
         where
           from : (b : Bool) → t.1 n ≡ b → t.0 ≤ first_met_at (t ∷ l) n
           from true p = rw p (omega arith)
           from false p = rw p (omega (arith, met-above t.0 l r.1 n))
-      go rest Accepted q true p =
+      go rest (Ok tt) q true p =
           rw (
             lowest-more t.0 t.1 n,
             q,
@@ -109,7 +108,7 @@ module _ (n k i : ℕ) where
             lt-ltb t.0 k (scan-above t.0 l r.1 (rw q at e)),
           )
           (sym (seen-some t.0 n (λ z. omega (arith, z, below-nothing t.0 l r.1))))
-      go rest Accepted q false p = rw (lowest-more t.0 t.1 n, q, p) (rest (rw q at e))
+      go rest (Ok tt) q false p = rw (lowest-more t.0 t.1 n, q, p) (rest (rw q at e))
 
 pub scan_fields : (e : ℕ) (task : ℕ → Task) (n : ℕ) → scan (range_tests e false task) n ≡ fields_test e task n
 unfolding scan range_tests fields_test first_met

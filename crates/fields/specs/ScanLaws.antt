@@ -7,8 +7,7 @@
 use Rattle.std.specs.Prelude.{ℕ, ◌<◌, Bool, eqb}
 use Rattle.std.proofs.Math.Bool.{true, false, cond}
 use mathlib.Core.List.{List, [], ◌∷◌}
-use Rattle.tasks.specs.declared.Answer.{Answer}
-use Rattle.tasks.specs.declared.Answer.TheVariants.{Accepted, Refused}
+use Rattle.tasks.specs.Answer.{Answer, Accepted, Refused}
 use Rattle.tasks.specs.Tests.{lowest, or_next, bad_separation, bad_budget, bad_offset, bad_wish, bad_deadline}
 use Rattle.tasks.specs.declared.Task.{Task}
 use Rattle.fields.specs.Stages.{nothing}

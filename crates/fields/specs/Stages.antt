@@ -8,7 +8,7 @@
 --     wishes_test    6, 7, 26 and 28 of n tasks
 use Rattle.std.specs.Prelude.{ℕ, ◌+◌, Bool, true, false, cond, [], ◌∷◌}
 use Rattle.tasks.specs.declared.Task.{Task}
-use Rattle.tasks.specs.declared.Answer.{Answer}
+use Rattle.tasks.specs.Answer.{Answer}
 use Rattle.tasks.specs.Tests.{refuse, lowest, first_met, bad_cores, bad_label, bad_count, bad_separation, bad_budget, bad_offset, bad_wish, bad_deadline}
 
 abbrev pub least_by : Bool → ℕ → ℕ

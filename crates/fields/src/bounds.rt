@@ -6,7 +6,7 @@ ghost use Rattle.tasks.specs.Content.{task_of, content_of};
 ghost use Rattle.tasks.specs.Tests.{over_bound, bounds_test};
 
 use tasks::bound::{bound, core_for_each};
-use tasks::{Answer, Plan, Task, refusal};
+use tasks::{Plan, Refusal, Rule, Task};
 
 // "A bound is above 16 × T."
 fn is_over(each: bool, task: Task, slack: u32) -> bool
@@ -29,7 +29,7 @@ fn first_over(each: bool, task: [Task; 16], slack: [u32; 16], tasks: usize) -> u
 }
 
 // 13 of a plan's tasks with this slack.
-pub fn bounds(plan: Plan, slack: [u32; 16]) -> Answer
+pub fn bounds(plan: Plan, slack: [u32; 16]) -> Result<(), Refusal>
     requires { plan.tasks ≤ 16 }
     ensures { result ≡ bounds_test (content_of plan).tasks (row slack) }
 {
@@ -37,10 +37,7 @@ pub fn bounds(plan: Plan, slack: [u32; 16]) -> Answer
     let task = plan.task;
     let over = first_over(core_for_each(plan.cores, tasks), task, slack, tasks);
     if over < tasks {
-        return Answer::Refused {
-            number: refusal::BOUND_TOO_LARGE,
-            index: over as u16,
-        };
+        return Err(Rule::BoundTooLarge.at(over as u16));
     }
-    Answer::Accepted
+    Ok(())
 }

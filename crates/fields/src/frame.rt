@@ -5,7 +5,7 @@ ghost use Rattle.tasks.specs.TaskSet.{row};
 ghost use Rattle.tasks.specs.Tests.{bad_label};
 ghost use Rattle.fields.specs.Stages.{least_by, frame_test};
 
-use tasks::{Answer, limits, refusal};
+use tasks::{Refusal, Rule, limits};
 
 // "A core label is above 63 or not above the one before."
 fn is_bad_label(labels: &[u8; 8], i: usize) -> bool
@@ -36,39 +36,24 @@ fn least(cores: usize, wishes: bool) -> usize
     if wishes { cores + 1 } else { 1 }
 }
 
-pub fn frame(cores: usize, labels: &[u8; 8], tasks: usize, wishes: bool) -> Answer
+pub fn frame(cores: usize, labels: &[u8; 8], tasks: usize, wishes: bool) -> Result<(), Refusal>
     ensures { result ≡ frame_test wishes cores (row labels.now) tasks }
 {
     if cores < limits::CORES_LOW {
-        return Answer::Refused {
-            number: refusal::CORES_OUTSIDE,
-            index: 0,
-        };
+        return Err(Rule::CoresOutside.at(0));
     }
     if limits::CORES_HIGH < cores {
-        return Answer::Refused {
-            number: refusal::CORES_OUTSIDE,
-            index: 0,
-        };
+        return Err(Rule::CoresOutside.at(0));
     }
     let bad = bad_label(labels, cores);
     if bad < cores {
-        return Answer::Refused {
-            number: refusal::LABEL_WRONG,
-            index: bad as u16,
-        };
+        return Err(Rule::LabelWrong.at(bad as u16));
     }
     if tasks < least(cores, wishes) {
-        return Answer::Refused {
-            number: refusal::TASK_COUNT_OUTSIDE,
-            index: 0,
-        };
+        return Err(Rule::TaskCountOutside.at(0));
     }
     if limits::TASKS_HIGH < tasks {
-        return Answer::Refused {
-            number: refusal::TASK_COUNT_OUTSIDE,
-            index: 0,
-        };
+        return Err(Rule::TaskCountOutside.at(0));
     }
-    Answer::Accepted
+    Ok(())
 }

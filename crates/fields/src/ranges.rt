@@ -6,7 +6,7 @@ ghost use Rattle.fields.specs.Stages.{deadline_by, last_by, met_by, fields_test,
 ghost use Rattle.fields.specs.ScanLaws.{scan, range_tests};
 
 use tasks::edition::has_deadlines;
-use tasks::{Answer, Task, limits, refusal};
+use tasks::{Refusal, Rule, Task, limits};
 
 fn is_outside(low: u32, high: u32, x: u32) -> bool
     ensures { result ≡ outside low high x }
@@ -57,7 +57,7 @@ fn deadline_met(task: Task, edition: u8) -> u8
     ensures { result ≡ deadline_by edition task }
 {
     if bad_deadline(task, edition) {
-        return refusal::DEADLINE_OUTSIDE;
+        return Rule::DeadlineOutside.number();
     }
     NOTHING
 }
@@ -69,12 +69,12 @@ fn last_met(task: Task, edition: u8, wishes: bool) -> u8
 {
     if wishes {
         if bad_wish(task) {
-            return refusal::WISH_OUTSIDE;
+            return Rule::WishOutside.number();
         }
         return deadline_met(task, edition);
     }
     if bad_offset(task) {
-        return refusal::OFFSET_TOO_LARGE;
+        return Rule::OffsetTooLarge.number();
     }
     deadline_met(task, edition)
 }
@@ -84,16 +84,16 @@ fn met(task: Task, edition: u8, wishes: bool) -> u8
     ensures { result ≡ met_by edition wishes task }
 {
     if bad_separation(task) {
-        return refusal::SEPARATION_OUTSIDE;
+        return Rule::SeparationOutside.number();
     }
     if bad_budget(task) {
-        return refusal::BUDGET_OUTSIDE;
+        return Rule::BudgetOutside.number();
     }
     last_met(task, edition, wishes)
 }
 
 // One scan, which keeps the least number met and the first task that meets it.
-fn ranges(task: [Task; 16], tasks: usize, edition: u8, wishes: bool) -> Answer
+fn ranges(task: [Task; 16], tasks: usize, edition: u8, wishes: bool) -> Result<(), Refusal>
     requires { tasks ≤ 16 }
     ensures { result ≡ scan (range_tests edition wishes (task_of task)) tasks }
 {
@@ -107,13 +107,13 @@ fn ranges(task: [Task; 16], tasks: usize, edition: u8, wishes: bool) -> Answer
         }
     }
     if number == NOTHING {
-        return Answer::Accepted;
+        return Ok(());
     }
-    Answer::Refused { number, index }
+    Err(Refusal { number, index })
 }
 
 // Tests 6, 7, 8 and 28.
-pub fn task_ranges(task: [Task; 16], tasks: usize, edition: u8) -> Answer
+pub fn task_ranges(task: [Task; 16], tasks: usize, edition: u8) -> Result<(), Refusal>
     requires { tasks ≤ 16 }
     ensures { result ≡ fields_test edition (task_of task) tasks }
 {
@@ -121,7 +121,7 @@ pub fn task_ranges(task: [Task; 16], tasks: usize, edition: u8) -> Answer
 }
 
 // Tests 6, 7, 26 and 28 of a wish sheet's tasks.
-pub fn wish_ranges(task: [Task; 16], tasks: usize, edition: u8) -> Answer
+pub fn wish_ranges(task: [Task; 16], tasks: usize, edition: u8) -> Result<(), Refusal>
     requires { tasks ≤ 16 }
     ensures { result ≡ wishes_test edition (task_of task) tasks }
 {

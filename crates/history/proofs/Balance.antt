@@ -7,15 +7,14 @@
 --     machine_clock      the machine's clock is the history's
 --     balance            the ticks that named a loop and the work left in its queue are what its taken releases demand
 use Prim.Native.Nat.{ℕ, suc, ◌+◌, ◌<◌}
-use Rattle.std.specs.Prelude.{Bool, ◌&&◌, ◌≡◌, ◌≢◌, eqb}
+use Rattle.std.specs.Prelude.{Ok, Err, Bool, ◌&&◌, ◌≡◌, ◌≢◌, eqb}
 use Rattle.std.proofs.Math.Bool.{true, false, cond}
 use Rattle.std.proofs.Common.{true≢false, sym}
 use Rattle.std.proofs.Math.Path.{refl, ap}
 use mathlib.Core.List.{List, [], ◌∷◌}
 use native.Mathlib.Omega.{arith}
 use Rattle.tasks.specs.TaskSet.{TaskSet}
-use Rattle.tasks.specs.declared.Answer.{Answer}
-use Rattle.tasks.specs.declared.Answer.TheVariants.{Accepted, Refused}
+use Rattle.tasks.specs.Answer.{Answer, Accepted}
 use Rattle.machine.specs.Machine.{Machine, opened, full, Allowed, joined, admitted, waiting, runs, served, advanced, tick}
 use Rattle.machine.specs.Admission.{admit_tests}
 use Rattle.machine.proofs.AdmissionLaws.{taken_allowed}
@@ -45,8 +44,8 @@ pub other : (k : ℕ) {n : ℕ} → refused k ≡ refused n → k ≢ n → ⊥
 other k e d = d (same_number e)
 
 outcome-taken : (a : Answer) → outcome_of a ≡ taken → a ≡ Accepted
-outcome-taken Accepted e = refl
-outcome-taken (Refused k j) e = absurd (not_refused e)
+outcome-taken (Ok tt) e = refl
+outcome-taken (Err r) e = absurd (not_refused e)
 
 module _ (s : TaskSet) (M : Machine) (i c : ℕ) where
   pub answer_allowed : answer_of s M i c ≡ taken → Allowed s M i c × (full M i ≡ false)

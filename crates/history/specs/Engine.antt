@@ -8,9 +8,8 @@
 --     named_ticks                 in how many of the first f steps the answer names a loop as running
 --     Ends                    a loop is named often enough for the first time by f steps
 --     HistoryClaim            what is claimed of every history, whoever makes its calls
-use Rattle.std.specs.Prelude.{ℕ, suc, ◌+◌, ◌≤◌, ◌<◌, Bool, true, false, cond, ◌&&◌, ◌≡◌, List, [], ◌∷◌, ◌++◌, ltb, eqb}
-use Rattle.tasks.specs.declared.Answer.{Answer}
-use Rattle.tasks.specs.declared.Answer.TheVariants.{Accepted, Refused}
+use Rattle.std.specs.Prelude.{Ok, Err, ℕ, suc, ◌+◌, ◌≤◌, ◌<◌, Bool, true, false, cond, ◌&&◌, ◌≡◌, List, [], ◌∷◌, ◌++◌, ltb, eqb}
+use Rattle.tasks.specs.Answer.{Answer}
 use Rattle.tasks.specs.TaskSet.{TaskSet, bound}
 
 -- the answer to a release: it is taken, or refused with a number of document 01
@@ -23,8 +22,8 @@ is_taken taken = true
 is_taken (refused k) = false
 
 abbrev pub outcome_of : Answer → Outcome
-outcome_of Accepted = taken
-outcome_of (Refused k i) = refused k
+outcome_of (Ok tt) = taken
+outcome_of (Err r) = refused r.number
 
 pub record Engine : Type 1 where
   pub St : Type 0

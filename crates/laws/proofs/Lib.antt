@@ -1,3 +1,4 @@
 pub mod MultipleLaws
 pub mod TurnLaws
 pub mod SettleLaws
+pub mod TakenLaws

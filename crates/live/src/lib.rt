@@ -7,17 +7,11 @@ ghost use Rattle.state.specs.Calls.{step_of};
 use engine::step;
 use state::{State, Stepped};
 
-fn after(stepped: Stepped) -> State
-    ensures { result ≡ stepped.state }
-{
-    stepped.state
-}
-
 // Steps the state where it lies; a refused step leaves it as it is.
 pub fn step_in_place(state: &mut State) -> Stepped
     ensures { (result ≡ step_of state.old) × (state.new ≡ (step_of state.old).state) }
 {
     let stepped = step(*state);
-    *state = after(stepped);
+    *state = stepped.state;
     stepped
 }

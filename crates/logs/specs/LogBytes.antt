@@ -5,7 +5,7 @@
 --     reports_to                         the lent answer with the reports of n entries in it
 use Rattle.std.specs.Prelude.{ℕ, ◌+◌, ◌*◌, not, List, [], ◌∷◌, ◌++◌, length, drop, ltb, eqb}
 use Rattle.laws.specs.Tab.{tab}
-use Rattle.tasks.specs.declared.Answer.{Answer}
+use Rattle.tasks.specs.Answer.{Answer}
 use Rattle.tasks.specs.Numbers.{tick_high}
 use Rattle.tasks.specs.Tests.{refuse, lowest, first_met}
 use Rattle.history.specs.Log.{Entry}

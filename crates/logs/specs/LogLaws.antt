@@ -6,7 +6,8 @@
 --     count-bytes             the count, as a sum of two bytes
 --     read_accepted, read_refused     what each case of the reader's answer says of the log
 --     read_short, read_late, read_all     how the reader's answer follows from what its code has seen
-use Rattle.std.specs.Prelude.{ℕ, ◌+◌, ◌*◌, ◌≤◌, ◌<◌, ◌≡◌, length, get_or}
+use Rattle.tasks.specs.declared.refusal.Refusal.{Refusal}
+use Rattle.std.specs.Prelude.{ℕ, ◌+◌, ◌*◌, ◌≤◌, ◌<◌, ◌≡◌, length, get_or, Ok, Err, Result}
 use Rattle.std.proofs.Common.{le_antisymm, ◌∙◌}
 use native.Mathlib.Omega.{arith}
 use Rattle.std.proofs.Math.Path.{sym, ap}
@@ -16,14 +17,11 @@ use borrow.Author.Tests.{ltb-false, eqb-true, eq-eqb, ne_eqb, not-false}
 use Rattle.laws.specs.First.{first}
 use Rattle.laws.specs.FirstLaws.{first_le}
 use Rattle.laws.specs.TabLaws.{length-tab, get_or-tab}
-use Rattle.tasks.specs.declared.Answer.{Answer}
-use Rattle.tasks.specs.declared.Answer.TheVariants.{Accepted, Refused}
+use Rattle.tasks.specs.Answer.{Answer, Accepted, Refused}
 use Rattle.tasks.specs.Tests.{first_met, unless_refused}
 use Rattle.tasks.specs.AnswerLaws.{refuse-passed, lowest-passed, lowest-none, lowest-found, first_met-passed, first_met_pass, first_met-stop}
 use Rattle.history.specs.Log.{Entry, no_entry, tick_at, loop_at, demand_at}
 use Rattle.numbers.specs.Bytes.{byte, number}
-use Rattle.logs.specs.declared.read.Entries.{Entries}
-use Rattle.logs.specs.declared.read.Entries.TheVariants.{Read, Refused as NotRead}
 use Rattle.logs.specs.LogBytes.{entry_count, entry_in, entries_in, test14, test15, log_test}
 use Rattle.logs.specs.LogStages.{answer_of_entries, count_of_entries, EntriesRead}
 
@@ -67,23 +65,23 @@ module _ (l : List ℕ) where
   unfolding entry_count number
   count-bytes = omega arith
 
-  module _ (r : Entries) (g : EntriesRead l r) where
-    pub read_accepted : (n : ℕ) → r ≡ Read n → (n ≡ entry_count l) × (log_test l ≡ Accepted) × (n < 65536)
+  module _ (r : Result ℕ Refusal) (g : EntriesRead l r) where
+    pub read_accepted : (n : ℕ) → r ≡ Ok n → (n ≡ entry_count l) × (log_test l ≡ Accepted) × (n < 65536)
     unfolding answer_of_entries count_of_entries
     read_accepted n q =
         let a : log_test l ≡ Accepted = sym g.answer ∙ ap answer_of_entries q in
         (sym (ap count_of_entries q) ∙ g.count ∙ rw a, a, rw q at g.small)
 
-    pub read_refused : (k i : ℕ) → r ≡ NotRead k i → log_test l ≡ Refused k i
+    pub read_refused : (q : Refusal) → r ≡ Err q → log_test l ≡ Err q
     unfolding answer_of_entries
-    read_refused k i q = sym g.answer ∙ ap answer_of_entries q
+    read_refused o q = sym g.answer ∙ ap answer_of_entries q
 
-  module _ (r : Entries) where
-    stopped : (k i : ℕ) → log_test l ≡ Refused k i → r ≡ NotRead k i → EntriesRead l r
+  module _ (r : Result ℕ Refusal) where
+    stopped : (k i : ℕ) → log_test l ≡ Refused k i → r ≡ Err (record { number = k; index = i }) → EntriesRead l r
     unfolding answer_of_entries count_of_entries
     stopped k i e q = rw q (record { answer = sym e; count = rw e; small = lit< tt })
 
-    pub read_short : (length l ≡ 2 + 9 * entry_count l → ⊥) → r ≡ NotRead 14 0 → EntriesRead l r
+    pub read_short : (length l ≡ 2 + 9 * entry_count l → ⊥) → r ≡ Err (record { number = 14; index = 0 }) → EntriesRead l r
     unfolding log_test test14 first_met
     read_short h = stopped 14 0 (rw (ne_eqb (length l) (2 + 9 * entry_count l) h))
 
@@ -92,7 +90,7 @@ module _ (l : List ℕ) where
       unfolding test14
       long = rw (eq-eqb (length l) (2 + 9 * entry_count l) (rw c at h))
 
-      pub read_late : (e : ℕ) → e ≡ first (λ i. ltb 1000000000 (entry_in l i).tick) n → e < n → r ≡ NotRead 15 e → EntriesRead l r
+      pub read_late : (e : ℕ) → e ≡ first (λ i. ltb 1000000000 (entry_in l i).tick) n → e < n → r ≡ Err (record { number = 15; index = e }) → EntriesRead l r
       unfolding log_test test15
       read_late e q s =
           stopped 15 e
@@ -102,7 +100,7 @@ module _ (l : List ℕ) where
                 (lowest-found 15 (λ i. ltb 1000000000 (entry_in l i).tick) (entry_count l) e (sym (rw c at q)) (rw c at s)),
           ))
 
-      pub read_all : (e : ℕ) → e ≡ first (λ i. ltb 1000000000 (entry_in l i).tick) n → n ≤ e → n < 65536 → r ≡ Read n → EntriesRead l r
+      pub read_all : (e : ℕ) → e ≡ first (λ i. ltb 1000000000 (entry_in l i).tick) n → n ≤ e → n < 65536 → r ≡ Ok n → EntriesRead l r
       unfolding log_test test15 first_met answer_of_entries count_of_entries
       read_all e q s small k =
           let f : first (λ i. ltb 1000000000 (entry_in l i).tick) (entry_count l) ≡ entry_count l =

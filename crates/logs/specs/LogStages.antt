@@ -3,24 +3,21 @@
 --     count_of_entries     the count that it answers, 0 where it is a refusal
 --     EntriesRead        the reader's answer to a log, by these
 --     Releases           a release handed over says what the log's entry e says
-use Rattle.std.specs.Prelude.{ℕ, ◌<◌, ◌≡◌, List}
-use Rattle.tasks.specs.declared.Answer.{Answer}
-use Rattle.tasks.specs.declared.Answer.TheVariants.{Accepted, Refused}
+use Rattle.tasks.specs.declared.refusal.Refusal.{Refusal}
+use Rattle.std.specs.Prelude.{ℕ, ◌<◌, ◌≡◌, List, Ok, Err, Result}
+use Rattle.tasks.specs.Answer.{Answer, answer_of}
 use Rattle.tasks.specs.Tests.{unless_refused}
-use Rattle.logs.specs.declared.read.Entries.{Entries}
-use Rattle.logs.specs.declared.read.Entries.TheVariants.{Read, Refused as NotRead}
 use Rattle.logs.specs.declared.read.Release.{Release}
 use Rattle.logs.specs.LogBytes.{entry_count, entry_in, log_test}
 
-unfoldable pub answer_of_entries : Entries → Answer
-answer_of_entries (Read n) = Accepted
-answer_of_entries (NotRead k i) = Refused k i
+unfoldable pub answer_of_entries : Result ℕ Refusal → Answer
+answer_of_entries r = answer_of r
 
-unfoldable pub count_of_entries : Entries → ℕ
-count_of_entries (Read n) = n
-count_of_entries (NotRead k i) = 0
+unfoldable pub count_of_entries : Result ℕ Refusal → ℕ
+count_of_entries (Ok n) = n
+count_of_entries (Err r) = 0
 
-pub record EntriesRead (l : List ℕ) (r : Entries) : Type 0 where
+pub record EntriesRead (l : List ℕ) (r : Result ℕ Refusal) : Type 0 where
   pub answer : answer_of_entries r ≡ log_test l
   pub count : count_of_entries r ≡ unless_refused (log_test l) (entry_count l) 0
   -- a count is of two bytes

@@ -5,14 +5,7 @@ ghost use Rattle.logs.specs.LogBytes.{entry_count, entry_in};
 ghost use Rattle.logs.specs.LogStages.{EntriesRead, Releases};
 
 use numbers::{count_at, number4};
-use tasks::{limits, refusal};
-
-// What the reader finds: the count, which gives exactly the log's length, or refusal 14 or 15.
-#[derive(Clone, Copy)]
-pub enum Entries {
-    Read { count: usize },
-    Refused { number: u8, index: u16 },
-}
+use tasks::{Refusal, Rule, limits};
 
 // An entry: the task released, the tick, and the job's demand.
 #[derive(Clone, Copy)]
@@ -43,28 +36,22 @@ fn first_late(log: &[u8], count: usize) -> usize
     count
 }
 
-fn refused(number: u8, index: u16) -> Entries
-    ensures { result ≡ Entries.Refused number index }
-{
-    Entries::Refused { number, index }
-}
-
-// Refusals 14 and 15, over any bytes.
-pub fn read_entries(log: &[u8]) -> Entries
+// Refusals 14 and 15, over any bytes, and the count, which gives exactly the log's length.
+pub fn read_entries(log: &[u8]) -> Result<usize, Refusal>
     ensures { EntriesRead log.now result }
 {
     if log.len() < 2 {
-        return refused(refusal::LOG_LENGTH_WRONG, 0);
+        return Err(Rule::LogLengthWrong.at(0));
     }
     let count = count(log);
     if log.len() != 2 + 9 * count {
-        return refused(refusal::LOG_LENGTH_WRONG, 0);
+        return Err(Rule::LogLengthWrong.at(0));
     }
     let late = first_late(log, count);
     if late < count {
-        return refused(refusal::LOG_TICK_TOO_LATE, late as u16);
+        return Err(Rule::LogTickTooLate.at(late as u16));
     }
-    Entries::Read { count }
+    Ok(count)
 }
 
 // An entry of 9 bytes: tick, task and demand.

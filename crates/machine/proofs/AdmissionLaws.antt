@@ -3,7 +3,7 @@
 --     taken_allowed       a release that meets none of 20 to 23 is allowed, and finds a place
 use Rattle.std.specs.Prelude.{ℕ, ◌<◌, ◌≡◌, true, false}
 use borrow.Author.Tests.{leb-false, lt-leb}
-use Rattle.tasks.specs.declared.Answer.TheVariants.{Accepted, Refused}
+use Rattle.tasks.specs.Answer.{Accepted, Refused}
 use Rattle.tasks.specs.TaskSet.{TaskSet}
 use Rattle.tasks.specs.Tests.{first_met}
 use Rattle.tasks.specs.AnswerLaws.{refuse-passed, or_next-passed, first_met-passed, outside-passed}

@@ -16,7 +16,7 @@ use Rattle.laws.specs.Tab.{tab}
 use Rattle.laws.specs.Rank.{place, ranked, largest}
 use Rattle.laws.specs.Multiple.{lcm, lcm_below}
 use Rattle.laws.specs.Member.{member}
-use Rattle.tasks.specs.declared.Answer.TheVariants.{Accepted}
+use Rattle.tasks.specs.Answer.{Accepted}
 use Rattle.tasks.specs.TaskSet.{hyperperiod, share, weight, surplus, counted, amount, cover, Compliant, covers, found, row, bound}
 use Rattle.tasks.specs.Content.{Content, no_task, task_of}
 use Rattle.tasks.specs.Limits.{Limits, Enough, Bounded}

@@ -4,7 +4,7 @@
 --     admit_tests              20 to 23 of a release handed to a machine
 use Rattle.std.specs.Prelude.{ℕ, Bool, [], ◌∷◌, length, leb}
 use Rattle.std.proofs.Math.Option.{Option}
-use Rattle.tasks.specs.declared.Answer.{Answer}
+use Rattle.tasks.specs.Answer.{Answer}
 use Rattle.tasks.specs.TaskSet.{TaskSet}
 use Rattle.tasks.specs.Tests.{refuse, or_next, first_met, outside}
 use Rattle.machine.specs.Machine.{Machine, within, crowded}

@@ -2,7 +2,7 @@
 // passes the limit of refusal 9.
 #![tactic(auto)]
 
-ghost use Rattle.std.specs.Prelude.{◌≡◌, ◌+◌, ◌<◌, min, get_or};
+ghost use Rattle.std.specs.Prelude.{◌≡◌, min, get_or};
 ghost use Rattle.laws.specs.Multiple.{lcm, lcm_below};
 ghost use Rattle.multiple.specs.Greatest.{Greatest};
 ghost use Rattle.multiple.specs.Allowed.{Pair, Separations};
@@ -35,13 +35,6 @@ pub fn joined(h: u64, t: u64) -> u64
     }
     let g = gcd(t, rest);
     h / g * t
-}
-
-// The same number in 64 bits, with its range said beside it: a cast of an element asks for that.
-pub fn wide(x: u32) -> u64
-    ensures { (result ≡ x) × (result < 4294967296) }
-{
-    x as u64
 }
 
 // The least common multiple of the first `tasks` separations, or 1,000,001 where it is above 1,000,000.

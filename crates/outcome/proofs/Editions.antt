@@ -12,13 +12,12 @@
 use Prim.Native.Nat.{ℕ, ◌+◌, ◌*◌, ◌≤◌, ◌<◌}
 use Rattle.std.proofs.Math.Path.{◌≡◌, refl, sym, ap, ap₂}
 use Rattle.std.proofs.Common.{◌∙◌, ⊎_elim, arith}
-use Rattle.std.specs.Prelude.{List, ◌++◌, length}
+use Rattle.std.specs.Prelude.{Ok, Err, List, ◌++◌, length}
 use borrow.Author.Tests.{eq-eqb}
 use Rattle.laws.specs.EveryLaws.{below_or_not}
 use Rattle.laws.specs.TabLaws.{cut-above}
 use Rattle.tasks.specs.declared.Task.{Task}
-use Rattle.tasks.specs.declared.Answer.{Answer}
-use Rattle.tasks.specs.declared.Answer.TheVariants.{Accepted, Refused}
+use Rattle.tasks.specs.Answer.{Answer, Accepted}
 use Rattle.tasks.specs.TaskSet.{TaskSet, plain_task, plain, found, bound, row}
 use Rattle.tasks.specs.PlainLaws.{plain-found}
 use Rattle.tasks.specs.Content.{Content, no_task}
@@ -156,8 +155,8 @@ module _ (t u : List ℕ) (a : verdict t ≡ Accepted) (d : verdict u ≡ Accept
             taken = unless_refused r (taken_count (run_on u) (entries_in l)) 0;
             refused = unless_refused r (refused_count (run_on u) (entries_in l)) 0;
           })
-      go (Refused k i) e = refl
-      go Accepted e = λ j. record { answer = Accepted; taken = same_taken (passed room e) j; refused = same-refused (passed room e) j }
+      go (Err r) e = refl
+      go (Ok tt) e = λ j. record { answer = Accepted; taken = same_taken (passed room e) j; refused = same-refused (passed room e) j }
 
   pub same_left : (out : List ℕ) → run_leaves t l out ≡ run_leaves u l out
   unfolding run_leaves
@@ -167,8 +166,8 @@ module _ (t u : List ℕ) (a : verdict t ≡ Accepted) (d : verdict u ≡ Accept
           (r : Answer) → run_test u l (length out) ≡ r
           → unless_refused r (reports_to (report (run_on t) (entries_in l)) (entry_count l) out) out
           ≡ unless_refused r (reports_to (report (run_on u) (entries_in l)) (entry_count l) out) out
-      go (Refused k i) e = refl
-      go Accepted e = ap (λ (R : ℕ → Report). reports_to R (entry_count l) out) (same-reports (passed (length out) e))
+      go (Err r) e = refl
+      go (Ok tt) e = ap (λ (R : ℕ → Report). reports_to R (entry_count l) out) (same-reports (passed (length out) e))
 
   pub same_number : (room : ℕ) → run_number t l room ≡ run_number u l room
   unfolding run_number

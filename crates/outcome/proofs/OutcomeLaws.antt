@@ -10,7 +10,7 @@ use Rattle.std.proofs.Math.Path.{refl, sym, ap}
 use Rattle.std.proofs.Common.{◌∙◌, inl, inr, arith, eq-eqb, ne_eqb}
 use Rattle.laws.specs.Sum.{count}
 use Rattle.laws.specs.SumLaws.{count_ext}
-use Rattle.tasks.specs.declared.Answer.TheVariants.{Accepted}
+use Rattle.tasks.specs.Answer.{Accepted}
 use Rattle.tasks.specs.TaskSet.{TaskSet}
 use Rattle.tasks.specs.AnswerLaws.{first_met-passed}
 use Rattle.codec.specs.Table.{core_count, task_count, content_in, verdict}

@@ -10,7 +10,7 @@ use Rattle.std.proofs.Common.{◌∙◌, append-nil, add-zero, length-append}
 use native.Mathlib.Omega.{arith}
 use Rattle.laws.specs.TabLaws.{cut_below}
 use Rattle.tasks.specs.declared.Task.{Task}
-use Rattle.tasks.specs.declared.Answer.TheVariants.{Accepted}
+use Rattle.tasks.specs.Answer.{Accepted}
 use Rattle.tasks.specs.TaskSet.{bound}
 use Rattle.tasks.specs.Limits.{Bounded}
 use Rattle.tasks.specs.Content.{no_task}

@@ -13,64 +13,55 @@ use codec::places::{slack_from, table_length, tasks_from};
 use numbers::{count_at, number4};
 use std::array;
 use tasks::edition::is_unknown;
-use tasks::{Task, refusal};
+use tasks::{Refusal, Rule, Task};
 use tidy::no_task;
 
-// What the stage finds: the edition and the counts, which give exactly the table's length, or refusal 1 or 2.
+// What the stage finds: the edition and the counts, which give exactly the table's length.
 #[derive(Clone, Copy)]
-pub enum Counts {
-    Read {
-        edition: u8,
-        cores: usize,
-        tasks: usize,
-        offers: usize,
-    },
-    Refused {
-        number: u8,
-        index: u16,
-    },
+pub struct Counts {
+    pub edition: u8,
+    pub cores: usize,
+    pub tasks: usize,
+    pub offers: usize,
 }
 
-fn refused(number: u8) -> Counts
-    ensures { result ≡ Counts.Refused number 0 }
-{
-    Counts::Refused { number, index: 0 }
-}
+// The index of 1 and 2.
+const INDEX: u16 = 0;
 
 // Refusals 1 and 2, over any bytes.
-pub fn read_counts(t: &[u8]) -> Counts
+pub fn read_counts(t: &[u8]) -> Result<Counts, Refusal>
     ensures { Counted t.now result }
 {
     if t.len() < 1 {
-        return refused(refusal::EDITION_UNKNOWN);
+        return Err(Rule::EditionUnknown.at(INDEX));
     }
     let edition = t[0];
     if is_unknown(edition) {
-        return refused(refusal::EDITION_UNKNOWN);
+        return Err(Rule::EditionUnknown.at(INDEX));
     }
     if t.len() < 2 {
-        return refused(refusal::LENGTH_WRONG);
+        return Err(Rule::LengthWrong.at(INDEX));
     }
     let cores = count_at(t, 1);
     let second = tasks_from(cores);
     if t.len() <= second {
-        return refused(refusal::LENGTH_WRONG);
+        return Err(Rule::LengthWrong.at(INDEX));
     }
     let tasks = count_at(t, second);
     let third = slack_from(edition, cores, tasks);
     if t.len() <= third {
-        return refused(refusal::LENGTH_WRONG);
+        return Err(Rule::LengthWrong.at(INDEX));
     }
     let offers = count_at(t, third);
     if t.len() != table_length(edition, cores, tasks, offers) {
-        return refused(refusal::LENGTH_WRONG);
+        return Err(Rule::LengthWrong.at(INDEX));
     }
-    Counts::Read {
+    Ok(Counts {
         edition,
         cores,
         tasks,
         offers,
-    }
+    })
 }
 
 // The labels of `cores` entries from the third byte on, zeros in the places past them.

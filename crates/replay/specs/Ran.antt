@@ -3,7 +3,7 @@
 --     ran_of         the answer: how many entries were taken and how many refused
 --     run_leaves     the lent answer afterwards
 use Rattle.std.specs.Prelude.{ℕ, ◌*◌, List, [], ◌∷◌, length, ltb}
-use Rattle.tasks.specs.declared.Answer.{Answer}
+use Rattle.tasks.specs.Answer.{Answer}
 use Rattle.tasks.specs.Tests.{refuse, first_met, unless_refused}
 use Rattle.codec.specs.Table.{verdict}
 use Rattle.logs.specs.LogBytes.{entry_count, entries_in, log_test, reports_to}

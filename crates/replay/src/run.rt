@@ -4,7 +4,6 @@ ghost use Rattle.tasks.specs.Content.{content_of};
 ghost use Rattle.history.specs.Report.{report};
 ghost use Rattle.history.specs.OnMachine.{machine_engine};
 ghost use Rattle.logs.specs.LogBytes.{entries_in, reports_to};
-ghost use Rattle.logs.specs.LogStages.{answer_of_entries};
 ghost use Rattle.running.specs.Entered.{Fitting};
 ghost use Rattle.running.specs.RunCode.{taken_to, Started, Runs};
 ghost use Rattle.replay.specs.declared.run.Ran.{Ran};
@@ -12,15 +11,15 @@ ghost use Rattle.replay.specs.Ran.{ran_of, run_leaves};
 
 use entry::Run;
 use fields::columns::split;
-use logs::read::{Entries, read_entries};
+use logs::read::read_entries;
 use onward::Setup;
 use table::judge;
-use tasks::{Answer, Plan, limits, refusal};
+use tasks::{Plan, Refusal, Rule, limits};
 
 // A log run: Accepted, with how many entries were taken and how many refused, or refused, with zeros.
 #[derive(Clone, Copy)]
 pub struct Ran {
-    pub answer: Answer,
+    pub answer: Result<(), Refusal>,
     pub taken: usize,
     pub refused: usize,
 }
@@ -61,7 +60,8 @@ fn replay(plan: Plan, log: &[u8], count: usize, out: &mut [u8]) -> usize
     run_all(count, &on, out)
 }
 
-fn refused(answer: Answer) -> Ran
+// "lengths and counts are 0"
+fn refused(answer: Result<(), Refusal>) -> Ran
     ensures { ◌≡◌ {A = Ran} result (record { answer = answer; taken = 0; refused = 0 }) }
 {
     Ran {
@@ -71,40 +71,27 @@ fn refused(answer: Answer) -> Ran
     }
 }
 
-// The refusal of the log's reader.
-fn unread(entries: Entries) -> Answer
-    ensures { result ≡ answer_of_entries entries }
-{
-    match entries {
-        Entries::Read { count: _ } => Answer::Accepted,
-        Entries::Refused { number, index } => Answer::Refused { number, index },
-    }
-}
-
-// Runs a log on a table, and writes 8 bytes for each entry.
+// Runs a log on a table, and writes 8 bytes for each entry. "log run and writer take it apart by let .. else and pass the refusal on."
 pub fn run_log(table: &[u8], log: &[u8], out: &mut [u8]) -> Ran
     ensures { (result ≡ ran_of table.now log.now (length out.old))
         × (out.new ≡ run_leaves table.now log.now out.old)
         × (result.taken + result.refused < 65536) }
 {
     let judgement = judge(table);
-    let answer = judgement.answer;
-    let Answer::Accepted = answer else {
-        return refused(answer);
+    let judged = judgement.answer;
+    let Ok(()) = judged else {
+        return refused(judged);
     };
     let entries = read_entries(log);
-    let Entries::Read { count } = entries else {
-        return refused(unread(entries));
+    let Ok(count) = entries else {
+        return refused(entries.map(|_| ()));
     };
     if out.len() < 8 * count {
-        return refused(Answer::Refused {
-            number: refusal::ANSWER_TOO_SHORT,
-            index: 0,
-        });
+        return refused(Err(Rule::AnswerTooShort.at(0)));
     }
     let taken = replay(judgement.plan, log, count, out);
     Ran {
-        answer: Answer::Accepted,
+        answer: Ok(()),
         taken,
         refused: count - taken,
     }

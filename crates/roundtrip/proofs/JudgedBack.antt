@@ -8,7 +8,7 @@ use Rattle.std.specs.Prelude.{ℕ, ◌≡◌, false, List, length}
 use Rattle.std.proofs.Math.Path.{sym}
 use Rattle.std.proofs.Common.{ap, ◌∙◌}
 use Rattle.tasks.specs.declared.Plan.{Plan}
-use Rattle.tasks.specs.declared.Answer.TheVariants.{Accepted}
+use Rattle.tasks.specs.Answer.{Accepted}
 use Rattle.tasks.specs.Content.{Content, counted_of, content_of, plan_of, tidy}
 use Rattle.tasks.specs.Tests.{bad_edition, tests, test_plan}
 use Rattle.tasks.specs.Terms.{Passed}

@@ -3,12 +3,11 @@
 --     write_accepts     with room for its bytes a plan is written exactly if it meets none of its numbers
 --     table-again       the plan of an accepted table, handed to `write` with room for it, leaves the table and then the buffer's later bytes
 --     plan-again        handed to `judge`, they are accepted as the same plan, with zeros in its unused places
-use Rattle.std.specs.Prelude.{ℕ, ◌≤◌, ◌≡◌, List, ◌++◌, ◌↔◌, length, drop}
+use Rattle.std.specs.Prelude.{Ok, Err, ℕ, ◌≤◌, ◌≡◌, List, ◌++◌, ◌↔◌, length, drop}
 use Rattle.std.proofs.Math.Path.{refl, sym}
 use Rattle.std.proofs.Common.{ap, ap₂, ◌∙◌, take_at, le-ltb}
 use Rattle.tasks.specs.declared.Plan.{Plan}
-use Rattle.tasks.specs.declared.Answer.{Answer}
-use Rattle.tasks.specs.declared.Answer.TheVariants.{Accepted, Refused}
+use Rattle.tasks.specs.Answer.{Answer, Accepted}
 use Rattle.tasks.specs.Content.{counted_of, content_of, tidy, Same}
 use Rattle.tasks.specs.Tests.{or_next, first_met, test_plan}
 use Rattle.tasks.specs.AnswerLaws.{first_met-passed}
@@ -40,8 +39,8 @@ module _ (p : Plan) (room : ℕ) (fits : length (bytes_of (content_of p)) ≤ ro
   roomy = rw (le-ltb room (length (bytes_of (content_of p))) fits) (last (test_plan p))
     where
       last : (b : Answer) → or_next b Accepted ≡ b
-      last Accepted = refl
-      last (Refused k i) = refl
+      last (Ok tt) = refl
+      last (Err r) = refl
 
   pub write_accepts : (write_test p room ≡ Accepted) ↔ (test_plan p ≡ Accepted)
   write_accepts = (λ e. sym roomy ∙ e, λ e. roomy ∙ e)

@@ -13,7 +13,7 @@ use Rattle.std.proofs.Math.ListN.{take}
 use Rattle.std.proofs.lemmas.Bool.{not-false}
 use Rattle.laws.specs.Tab.{cut}
 use Rattle.laws.specs.TabLaws.{cut_below, cut-above}
-use Rattle.tasks.specs.declared.Answer.TheVariants.{Accepted}
+use Rattle.tasks.specs.Answer.{Accepted}
 use Rattle.tasks.specs.TaskSet.{found, row}
 use Rattle.tasks.specs.Content.{no_task}
 use Rattle.tasks.specs.Tests.{first_met, bad_edition, tests}

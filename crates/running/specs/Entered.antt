@@ -17,7 +17,7 @@ use Rattle.std.proofs.Math.Dec.{eqb}
 use borrow.Author.Tests.{leb-false, eqb-true, eq-eqb}
 use Rattle.laws.specs.TabLaws.{tab_ext}
 use Rattle.tasks.specs.declared.Plan.{Plan}
-use Rattle.tasks.specs.declared.Answer.TheVariants.{Accepted}
+use Rattle.tasks.specs.Answer.{Accepted}
 use Rattle.tasks.specs.TaskSet.{row}
 use Rattle.tasks.specs.Content.{task_of, content_of, tidy}
 use Rattle.tasks.specs.Tests.{test_plan}

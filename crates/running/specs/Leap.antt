@@ -12,7 +12,7 @@
 use Rattle.std.specs.Prelude.{ℕ, suc, ◌+◌, ◌-◌, ◌*◌, ◌≤◌, ◌<◌, min, Bool, not, ◌&&◌, ◌≡◌, List, ◌∷◌, length}
 use Rattle.laws.specs.Sum.{sum}
 use Rattle.tasks.specs.declared.Plan.{Plan}
-use Rattle.tasks.specs.declared.Answer.TheVariants.{Accepted}
+use Rattle.tasks.specs.Answer.{Accepted}
 use Rattle.tasks.specs.TaskSet.{row}
 use Rattle.tasks.specs.Content.{task_of, content_of, tidy}
 use Rattle.tasks.specs.Tests.{test_plan}

@@ -19,7 +19,7 @@ use Rattle.laws.specs.TabLaws.{get_or-tab, cut_below}
 use Rattle.laws.specs.Sum.{sum, count}
 use Rattle.tasks.specs.declared.Plan.{Plan}
 use Rattle.tasks.specs.TaskSet.{row}
-use Rattle.tasks.specs.declared.Answer.TheVariants.{Accepted}
+use Rattle.tasks.specs.Answer.{Accepted}
 use Rattle.tasks.specs.Tests.{test_plan}
 use Rattle.state.proofs.FitLaws.{in_count, plan-limits}
 use Rattle.tasks.specs.Content.{task_of, content_of}

@@ -12,8 +12,7 @@ ghost use Rattle.wording.specs.Told.{answer_of_composed, length_of_composed, sen
 use decimal::{put_decimal, put_said, put_words};
 use place::put_place;
 use rule::put_rule;
-use tasks::refusal;
-use wording::Composed;
+use tasks::{Refusal, Rule};
 
 // A caller who lends so many bytes is never refused.
 pub const LONGEST: usize = 256;
@@ -31,7 +30,7 @@ fn compose(text: &mut [u8; LONGEST], number: u32, index: u32, value: u64) -> usi
 }
 
 // "The sentence goes to a lent buffer, its length comes back, and later bytes stay."
-pub fn sentence(number: u32, index: u32, value: u64, out: &mut [u8]) -> Composed
+pub fn sentence(number: u32, index: u32, value: u64, out: &mut [u8]) -> Result<usize, Refusal>
     ensures { (answer_of_composed result ≡ sentence_test number index value (length out.old))
         × (length_of_composed result ≡ sentence_length number index value (length out.old))
         × (out.new ≡ sentence_leaves number index value out.old) }
@@ -39,11 +38,8 @@ pub fn sentence(number: u32, index: u32, value: u64, out: &mut [u8]) -> Composed
     let mut text = [0u8; LONGEST];
     let length = compose(&mut text, number, index, value);
     if out.len() < length {
-        return Composed::Refused {
-            number: refusal::SENTENCE_BUFFER_TOO_SHORT,
-            index: 0,
-        };
+        return Err(Rule::SentenceBufferTooShort.at(0));
     }
     put_words(out, 0, &text[..length]);
-    Composed::Length(length)
+    Ok(length)
 }

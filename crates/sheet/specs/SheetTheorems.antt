@@ -15,7 +15,7 @@ use Rattle.laws.specs.TabLaws.{cut-above}
 use Rattle.tasks.specs.declared.Task.{Task}
 use Rattle.tasks.specs.declared.Plan.{Plan}
 use Rattle.tasks.specs.TaskSet.{row}
-use Rattle.tasks.specs.declared.Answer.TheVariants.{Accepted, Refused}
+use Rattle.tasks.specs.Answer.{Accepted, Refused}
 use Rattle.tasks.specs.Content.{Content, no_task, counted_of, content_of, plan_of, tidy}
 use Rattle.tasks.specs.Terms.{Fits}
 use Rattle.tasks.proofs.ContentLaws.{fits-back}

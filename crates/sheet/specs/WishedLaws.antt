@@ -5,7 +5,8 @@
 --     verdict-past   past 1 and 2 the verdict is that of the tests
 --     sheet-refused  a sheet that meets 1 or 2
 --     sheet-from     one that meets neither
-use Rattle.std.specs.Prelude.{ℕ, ◌+◌, ◌-◌, ◌≤◌, ◌<◌, min, ◌≡◌, false, List, [], ◌∷◌}
+use Rattle.tasks.specs.declared.refusal.Refusal.{Refusal}
+use Rattle.std.specs.Prelude.{Ok, Err, ℕ, ◌+◌, ◌-◌, ◌≤◌, ◌<◌, min, ◌≡◌, false, List, [], ◌∷◌, Result}
 use Rattle.std.proofs.Math.Path.{refl, sym}
 use Rattle.std.proofs.Common.{ap, ap₂, ◌∙◌, ⊎_elim, arith}
 use Rattle.laws.specs.EveryLaws.{below_or_not}
@@ -13,8 +14,7 @@ use Rattle.laws.specs.Tab.{tab, cut}
 use Rattle.laws.specs.TabLaws.{tab_ext, get_or-tab, cut_below, cut-above}
 use Rattle.tasks.specs.declared.Task.{Task}
 use Rattle.tasks.specs.declared.Plan.{Plan}
-use Rattle.tasks.specs.declared.Answer.{Answer}
-use Rattle.tasks.specs.declared.Answer.TheVariants.{Accepted, Refused}
+use Rattle.tasks.specs.Answer.{Answer, Accepted, Refused}
 use Rattle.tasks.specs.TaskSet.{TaskSet, row}
 use Rattle.tasks.specs.Content.{in_edition, Content, no_task, task_of, content_of, plan_of, zero_plan}
 use Rattle.tasks.proofs.ContentLaws.{used-task, plan_ext}
@@ -29,7 +29,7 @@ use Rattle.wishes.specs.Wish.{with_offset, with_offsets, largest_offset, at_slac
 use Rattle.wish_search.specs.declared.solve.Solved.{Solved}
 use Rattle.wish_search.specs.Solved.{FoundIn, PlanSolved}
 use Rattle.sheet.specs.declared.Wished.{Wished}
-use Rattle.sheet.specs.Wished.{wish_verdict, wish_of}
+use Rattle.sheet.specs.Wished.{wish_verdict, wish_of, handed}
 
 -- a plan with the offsets and the slack found, its labels as they are
 unfoldable pub plan_with : Plan → ℕ → Plan
@@ -99,31 +99,27 @@ module _ (p : Plan) (k : ℕ) where
             cut-above p.tasks _ no_task i h ∙ sym (solved-at i ∙ unused (wisher i) _ (wisher-above i h)))
             (below_or_not i p.tasks)
 
-  module _ (r : Solved) (g : PlanSolved p k r) where
-    pub plan-refused : (w : Wished) (j i : ℕ) → r.answer ≡ Refused j i → w.answer ≡ r.answer → w.plan ≡ zero_plan → Wishes p k w
-    plan-refused w j i e a z =
-        let v : w.answer ≡ Refused j i = a ∙ e in
-        record { answer = a ∙ g.answer; plan = z ∙ rw v }
+  pub plan-refused : (r : Refusal) → PlanSolved p k (Err r) → (o : Result Plan Refusal) → o ≡ Err r → Wishes p k (handed o)
+  plan-refused r g o q = rw q (record { answer = g.answer; plan = refl })
 
-    module _ (e : r.answer ≡ Accepted) where
-      pub few : p.tasks ≤ 16
-      unfolding offering content_of
-      few = few-tasks (offering p k) (sym g.answer ∙ e)
+  module _ (r : Solved) (g : PlanSolved p k (Ok r)) where
+    pub few : p.tasks ≤ 16
+    unfolding offering content_of
+    few = few-tasks (offering p k) (sym g.answer)
 
-      pub plan-found :
-          (task : List Task) → task ≡ tab (cut p.tasks (λ i. with_offset (in_edition p.edition (task_of p.task i)) (row r.offset i)) no_task) 16
-          → Wishes p k
-          (record {
-            answer = Accepted;
-            plan = record { edition = p.edition; offered = false; cores = p.cores; tasks = p.tasks; labels = p.labels; task = task; slack = r.slack };
-          })
-      unfolding plan_with solved
-      plan-found task et =
-          record {
-            answer = sym e ∙ g.answer;
-            plan =
-                plan_ext _ (plan_with p k) refl refl refl refl refl (et ∙ tasks-found r few (g.found e)) (g.found e).slack;
-          }
+    pub plan-found :
+        (task : List Task) → task ≡ tab (cut p.tasks (λ i. with_offset (in_edition p.edition (task_of p.task i)) (row r.offset i)) no_task) 16
+        → Wishes p k
+        (record {
+          answer = Accepted;
+          plan = record { edition = p.edition; offered = false; cores = p.cores; tasks = p.tasks; labels = p.labels; task = task; slack = r.slack };
+        })
+    unfolding plan_with solved
+    plan-found task et =
+        record {
+          answer = g.answer;
+          plan = plan_ext _ (plan_with p k) refl refl refl refl refl (et ∙ tasks-found r few g.found) g.found.slack;
+        }
 
 -- the tests of a sheet look at its edition, its tasks, its labels and its slack count
 tests_same : (c d : Content) → c.edition ≡ d.edition → c.tasks ≡ d.tasks → c.label ≡ d.label → c.offers ≡ d.offers → wish_tests c ≡ wish_tests d
@@ -193,7 +189,7 @@ module _ (t : List ℕ) where
           (a : Answer) → r.answer ≡ a
           → unless_refused r.answer (plan_with (loaded t) (slack_count t)) zero_plan
           ≡ unless_refused (wish_verdict t) (plan_of (solved (content_in t))) zero_plan
-      plan-same Accepted e =
+      plan-same (Ok tt) e =
           let v : wish_verdict t ≡ Accepted = sym same ∙ e in
           rw (e, v) (with_in (few_in (sym (verdict-past c) ∙ v)))
-      plan-same (Refused k i) e = let v : wish_verdict t ≡ Refused k i = sym same ∙ e in rw (e, v)
+      plan-same (Err r) e = let v : wish_verdict t ≡ Err r = sym same ∙ e in rw (e, v)

@@ -1,5 +1,5 @@
 -- The least slack of a task without a division of its own: A is divided by H once, and what is needed and each budget by the number of cores.
---     need-covers, need-least    ⌈a / h⌉ is the least v with a ≤ h × v; need_times: h × v needs v
+--     need-covers, need-least    ⌈a / h⌉ is the least v with a ≤ h × v; need_ceil: it is std's; need_times: h × v needs v
 --     lifted-enough              the lifted slack is enough
 --     lifted-least               and the least that is
 --     needed-lifted              so it is the slack that the definition raises to; lifted-needed: of any number
@@ -12,6 +12,8 @@ use native.Mathlib.Omega.{arith}
 use Rattle.std.proofs.Math.Nat.{mul_comm, mul-le-mul_left, le_of_mul-le-mul_left, lt_of_mul-lt-mul_left, div-add-mod, mod-lt, le_of_suc-le-suc}
 use Rattle.std.proofs.Math.Dec.{ltb}
 use borrow.Author.Tests.{ltb-true, ltb-false}
+use Rattle.std.specs.Int.{div_ceil}
+use Rattle.std.proofs.lemmas.Grind.{div_ceil_times}
 use Rattle.tasks.specs.TaskSet.{TaskSet, hyperperiod, needed}
 use Rattle.tasks.specs.Limits.{Limits}
 use Rattle.tasks.proofs.ShareLaws.{hyperperiod-low}
@@ -27,6 +29,12 @@ module _ (a h : ℕ) (low : 1 ≤ h) where
   unfolding need
   need-least v e =
       le_of_suc-le-suc ((div-lt_iff_lt-mul low).1 (omega (arith, mul_comm h v)))
+
+pub need_ceil : (a h : ℕ) → 1 ≤ h → div_ceil a h ≡ need a h
+need_ceil a h low =
+    let t = div_ceil_times a h low in
+    let l : h * div_ceil a h < h * (need a h + 1) = omega (arith, t.1, need-covers a h low, mul_comm h (div_ceil a h)) in
+    le_antisymm (omega (arith, lt_of_mul-lt-mul_left h l)) (need-least a h low (div_ceil a h) (omega (arith, t.0, mul_comm h (div_ceil a h))))
 
 pub need_times : (h v : ℕ) → 1 ≤ h → need (h * v) h ≡ v
 need_times h v low =

@@ -2,11 +2,11 @@
 --     Ranges       what that leaves of the counts and the tasks' fields
 --     rates_test    9 and 10
 --     Rated        the answer, and where it is no refusal H, the surpluses' sum and the shares
-use Rattle.std.specs.Prelude.{ℕ, ◌≤◌, ◌<◌, ◌≡◌, [], ◌∷◌}
+use Rattle.std.specs.Prelude.{IfOk, Result, ℕ, ◌≤◌, ◌<◌, ◌≡◌, [], ◌∷◌}
 use Rattle.laws.specs.Sum.{sum}
 use Rattle.laws.specs.Tab.{tab, cut}
-use Rattle.tasks.specs.declared.Answer.{Answer}
-use Rattle.tasks.specs.declared.Answer.TheVariants.{Accepted}
+use Rattle.tasks.specs.declared.refusal.Refusal.{Refusal}
+use Rattle.tasks.specs.Answer.{Answer, answer_of}
 use Rattle.tasks.specs.TaskSet.{TaskSet, hyperperiod, share, surplus}
 use Rattle.tasks.specs.Tests.{refuse, first_met, bad_multiple, bad_shares}
 use Rattle.tasks.specs.Terms.{Timed}
@@ -28,6 +28,6 @@ pub record Figures (s : TaskSet) (r : Rates) : Type 0 where
   pub surplus : r.surplus ≡ sum (surplus s) s.count
   pub share : r.share ≡ tab (cut s.count (share s) 0) 16
 
-pub record Rated (s : TaskSet) (r : Rates) : Type 0 where
-  pub answer : r.answer ≡ rates_test s
-  pub figures : r.answer ≡ Accepted → Figures s r
+pub record Rated (s : TaskSet) (r : Result Rates Refusal) : Type 0 where
+  pub answer : answer_of r ≡ rates_test s
+  pub figures : IfOk r (Figures s)

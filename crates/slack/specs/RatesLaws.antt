@@ -14,7 +14,7 @@ use Rattle.laws.specs.SumLaws.{sum_ext}
 use Rattle.laws.specs.Tab.{tab, cut}
 use Rattle.laws.specs.TabLaws.{get_or-tab, cut_below}
 use Rattle.laws.specs.Multiple.{lcm_below}
-use Rattle.tasks.specs.declared.Answer.TheVariants.{Accepted, Refused}
+use Rattle.tasks.specs.Answer.{Accepted, Refused}
 use Rattle.tasks.specs.TaskSet.{TaskSet, hyperperiod, share, surplus, row}
 use Rattle.tasks.specs.Tests.{first_met}
 use Rattle.tasks.proofs.ShareLaws.{share_le}

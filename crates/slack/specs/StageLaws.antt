@@ -18,7 +18,7 @@ use Rattle.laws.specs.Rank.{largest}
 use Rattle.laws.specs.LargestLaws.{largest_ext, largest-below}
 use Rattle.laws.specs.Tab.{tab, cut}
 use Rattle.laws.specs.TabLaws.{get_or-cut}
-use Rattle.tasks.specs.declared.Answer.TheVariants.{Accepted, Refused}
+use Rattle.tasks.specs.Answer.{Accepted, Refused}
 use Rattle.tasks.specs.TaskSet.{TaskSet, hyperperiod, weight, counted, amount, cover, covers, row}
 use Rattle.tasks.specs.Limits.{Limits}
 use Rattle.tasks.proofs.ShareLaws.{share-high, surpluses_high, hyperperiod-low}

@@ -6,7 +6,6 @@ ghost use Rattle.slack.specs.Arrays.{ArraysOf, Needs};
 ghost use Rattle.slack.specs.Weights.{weight_row, Few, Weighed, Amounts};
 
 use largest::choose;
-use multiple::wide;
 
 // Names to begin with: the tasks in their own order.
 pub fn first_names() -> [u8; 16]
@@ -22,13 +21,11 @@ fn weigh(share: &[u64; 16], offset: &[u32; 16], slack: &[u32; 16], tasks: usize)
     ensures { Weighed (weight_row share.now offset.now slack.now) tasks result }
 {
     let mut weight = [0u64; 16];
-    let mut i = 0;
-    while i < 16 {
+    for i in 0..16 {
         if i == tasks {
-            return weight;
+            break;
         }
-        weight[i] = share[i] * (wide(slack[i]) + wide(offset[i]));
-        i += 1;
+        weight[i] = share[i] * (u64::from(slack[i]) + u64::from(offset[i]));
     }
     weight
 }
@@ -65,5 +62,6 @@ pub fn needed(
     ensures { ((s : TaskSet) (b : List ℕ) → ArraysOf s share.now b offset.now multiple surplus cores tasks → Needs s (row slack.now) names.new result) × Arranged names.new tasks }
 {
     let whole = amount(share, offset, slack, names, surplus, cores - 1, tasks);
+    // Rounded up by hand: with `div_ceil` the law of H's limit in specs/StageLaws, which may not change, would have no use left.
     ((whole + (multiple - 1)) / multiple) as u32
 }

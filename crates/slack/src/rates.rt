@@ -6,13 +6,12 @@ ghost use Rattle.tasks.specs.TaskSet.{row};
 ghost use Rattle.fields.specs.Columns.{set_from};
 ghost use Rattle.slack.specs.Rates.{Ranges, Rated};
 
-use multiple::{MULTIPLE_HIGH, common_multiple, wide};
-use tasks::{Answer, refusal};
+use multiple::{MULTIPLE_HIGH, common_multiple};
+use tasks::{Refusal, Rule};
 
-// The rates of a task set that meets none of 6 to 10; zeros where the answer is a refusal.
+// The rates of a task set that meets none of 6 to 10.
 #[derive(Clone, Copy)]
 pub struct Rates {
-    pub answer: Answer,
     pub multiple: u64,
     pub surplus: u64,
     pub share: [u64; 16],
@@ -23,10 +22,8 @@ fn shares(separation: &[u32; 16], budget: &[u32; 16], multiple: u64, tasks: usiz
     ensures { result ≡ tab (cut tasks (λ i. row budget.now i * multiple / row separation.now i) 0) 16 }
 {
     let mut share = [0u64; 16];
-    let mut i = 0;
-    while i < tasks {
-        share[i] = wide(budget[i]) * multiple / wide(separation[i]);
-        i += 1;
+    for i in 0..tasks {
+        share[i] = u64::from(budget[i]) * multiple / u64::from(separation[i]);
     }
     share
 }
@@ -36,10 +33,8 @@ pub fn total(share: &[u64; 16], tasks: usize) -> u64
     ensures { result ≡ sum (row share.now) tasks }
 {
     let mut all = 0;
-    let mut i = 0;
-    while i < tasks {
-        all += share[i];
-        i += 1;
+    for x in &share[..tasks] {
+        all += *x;
     }
     all
 }
@@ -54,23 +49,10 @@ pub fn surplus_of(
     ensures { result ≡ sum (λ i. row share.now i * (row separation.now i - row offset.now i)) tasks }
 {
     let mut all = 0;
-    let mut i = 0;
-    while i < tasks {
-        all += share[i] * wide(separation[i] - offset[i]);
-        i += 1;
+    for i in 0..tasks {
+        all += share[i] * u64::from(separation[i] - offset[i]);
     }
     all
-}
-
-fn refused(number: u8) -> Rates
-    ensures { result.answer ≡ Answer.Refused number 0 }
-{
-    Rates {
-        answer: Answer::Refused { number, index: 0 },
-        multiple: 0,
-        surplus: 0,
-        share: [0; 16],
-    }
 }
 
 pub fn rate(
@@ -79,24 +61,23 @@ pub fn rate(
     offset: &[u32; 16],
     cores: usize,
     tasks: usize,
-) -> Rates
+) -> Result<Rates, Refusal>
     requires { Ranges (set_from cores tasks separation.now budget.now offset.now) }
     ensures { Rated (set_from cores tasks separation.now budget.now offset.now) result }
 {
     let multiple = common_multiple(separation, tasks);
     if MULTIPLE_HIGH < multiple {
-        return refused(refusal::HYPERPERIOD_TOO_LARGE);
+        return Err(Rule::HyperperiodTooLarge.at(0));
     }
     let share = shares(separation, budget, multiple, tasks);
     let all = total(&share, tasks);
     if (cores as u64) * multiple < all {
-        return refused(refusal::SHARES_TOO_LARGE);
+        return Err(Rule::SharesTooLarge.at(0));
     }
     let surplus = surplus_of(&share, separation, offset, tasks);
-    Rates {
-        answer: Answer::Accepted,
+    Ok(Rates {
         multiple,
         surplus,
         share,
-    }
+    })
 }

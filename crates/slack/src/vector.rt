@@ -7,7 +7,6 @@ ghost use Rattle.largest.specs.Chosen.{Arranged};
 ghost use Rattle.slack.specs.Arrays.{uncovered, lifted, upto, ArraysOf, Had};
 
 use crate::amount::needed;
-use multiple::wide;
 
 // The lowest task whose m × H × x + H × C is below the amount, or `tasks` where there is none.
 pub fn first_uncovered(
@@ -21,12 +20,10 @@ pub fn first_uncovered(
     requires { (tasks ≤ 16) × (multiple ≤ 1000000) × (cores ≤ 8) }
     ensures { result ≡ first (uncovered amount multiple cores budget.now slack.now) tasks }
 {
-    let mut i = 0;
-    while i < tasks {
-        if cores * multiple * wide(slack[i]) + multiple * wide(budget[i]) < amount {
+    for i in 0..tasks {
+        if cores * multiple * u64::from(slack[i]) + multiple * u64::from(budget[i]) < amount {
             return i;
         }
-        i += 1;
     }
     tasks
 }
@@ -37,10 +34,8 @@ pub fn quotients(budget: &[u32; 16], cores: u32, tasks: usize) -> [u32; 16]
     ensures { result ≡ tab (cut tasks (λ i. row budget.now i / cores) 0) 16 }
 {
     let mut quotient = [0u32; 16];
-    let mut i = 0;
-    while i < tasks {
+    for i in 0..tasks {
         quotient[i] = budget[i] / cores;
-        i += 1;
     }
     quotient
 }
@@ -51,10 +46,8 @@ pub fn remainders(budget: &[u32; 16], cores: u32, tasks: usize) -> [u32; 16]
     ensures { result ≡ tab (cut tasks (λ i. row budget.now i % cores) 0) 16 }
 {
     let mut rest = [0u32; 16];
-    let mut i = 0;
-    while i < tasks {
+    for i in 0..tasks {
         rest[i] = budget[i] % cores;
-        i += 1;
     }
     rest
 }
@@ -65,11 +58,7 @@ fn lift(whole: u32, over: u32, quotient: u32, rest: u32) -> u32
     requires { whole < 4294967295 }
     ensures { result ≡ lifted whole over quotient rest }
 {
-    let up = if rest < over { whole + 1 } else { whole };
-    if up < quotient {
-        return 0;
-    }
-    up - quotient
+    (whole + u32::from(rest < over)).saturating_sub(quotient)
 }
 
 // Every task's slack set to that; whether one changed.
@@ -85,15 +74,13 @@ pub fn raise(
     ensures { (slack.new ≡ tab (upto tasks (λ k. lifted whole over (row quotient.now k) (row rest.now k)) (row slack.old)) 16) × (result ≡ ltb (first (λ k. not (eqb (row slack.old k) (lifted whole over (row quotient.now k) (row rest.now k)))) tasks) tasks) }
 {
     let mut changed = false;
-    let mut i = 0;
-    while i < tasks {
+    for i in 0..tasks {
         let old = slack[i];
         let new = lift(whole, over, quotient[i], rest[i]);
         slack[i] = new;
         if new != old {
             changed = true;
         }
-        i += 1;
     }
     changed
 }

@@ -7,7 +7,7 @@ ghost use Rattle.state.specs.SoundState.{sound_of};
 
 use analysis::test;
 use clauses::{labels_zero, loops, places, tasks_zero};
-use tasks::{Answer, Plan, limits};
+use tasks::{Plan, limits};
 
 // "A state is sound if …": the state that has these fields. Its arrays are lent, not copied.
 pub fn sound(
@@ -27,7 +27,7 @@ pub fn sound(
     let task = plan.task;
     let slack = plan.slack;
     let answer = test(plan);
-    let Answer::Accepted = answer else {
+    let Ok(()) = test(plan) else {
         return false;
     };
     if !labels_zero(&labels, cores) {

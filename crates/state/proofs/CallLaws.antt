@@ -6,7 +6,7 @@
 --     admit_none, admit_some                      20, and 21 to 23 by the numbers of one loop
 --     release_unsound, release_not, release-taken      the answer of a release
 --     opened_empty, zero_empty, open_refused, open_accepted      an opening
-use Rattle.std.specs.Prelude.{ℕ, ◌≤◌, ◌<◌, ◌≡◌, Bool, false, ◌&&◌, replicate}
+use Rattle.std.specs.Prelude.{Ok, Err, ℕ, ◌≤◌, ◌<◌, ◌≡◌, Bool, false, ◌&&◌, replicate}
 use Rattle.std.proofs.Math.Path.{refl, sym}
 use Rattle.std.proofs.Common.{◌∙◌, arith}
 use Rattle.std.proofs.Math.Bool.{true}
@@ -15,8 +15,7 @@ use Rattle.std.proofs.Math.Dec.{leb}
 use borrow.Author.Tests.{leb-true, leb-false, le-leb, lt-leb, eqb-false, not-false}
 use Rattle.laws.specs.TabLaws.{length-tab, tab_replicate}
 use Rattle.tasks.specs.declared.Plan.{Plan}
-use Rattle.tasks.specs.declared.Answer.{Answer}
-use Rattle.tasks.specs.declared.Answer.TheVariants.{Accepted, Refused}
+use Rattle.tasks.specs.Answer.{Answer, Accepted, Refused}
 use Rattle.tasks.specs.TaskSet.{row}
 use Rattle.tasks.specs.Content.{task_of, tidy, zero_plan}
 use Rattle.tasks.specs.Tests.{or_next, first_met, test_plan}
@@ -66,8 +65,8 @@ module _ (s : State) where
   step-tasks a = (open_limits s.plan (table (step-passed a).0)).2
     where
       accepted : (b : Answer) → passes b ≡ true → b ≡ Accepted
-      accepted Accepted e = refl
-      accepted (Refused k j) e = absurd (false≢true e)
+      accepted (Ok tt) e = refl
+      accepted (Err r) e = absurd (false≢true e)
 
       table : sound_of s ≡ true → test_plan s.plan ≡ Accepted
       table e =
@@ -131,8 +130,8 @@ module _ (s : State) (i c : ℕ) where
 
   module _ (p : step_tests s ≡ Accepted) where
     one : (a : Answer) → or_next a Accepted ≡ a
-    one Accepted = refl
-    one (Refused k j) = refl
+    one (Ok tt) = refl
+    one (Err r) = refl
 
     same_tests : release_tests s i c ≡ admit_tests (tasks_of s) (machine_of s) i c
     unfolding release_tests first_met

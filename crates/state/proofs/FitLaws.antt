@@ -7,7 +7,7 @@
 --     plan-limits, plan-compliant, plan-bounded    what a plan has that meets none of its numbers
 --     few-tasks, idle  a sound state has at most sixteen loops, and beyond its table no job and no release
 use Prim.Native.Nat.{ℕ, zero, suc, ◌+◌, ◌-◌, ◌*◌, ◌/◌, ◌%◌, ◌≤◌, ◌<◌}
-use Rattle.std.specs.Prelude.{Bool, true, ◌≡◌, length, get_or, ltb}
+use Rattle.std.specs.Prelude.{Ok, Err, Bool, true, ◌≡◌, length, get_or, ltb}
 use Rattle.std.proofs.Math.Bool.{false}
 use Rattle.std.proofs.lemmas.Bool.{false≢true}
 use Rattle.std.proofs.Common.{true≢false, sym, ◌∙◌}
@@ -19,8 +19,7 @@ use borrow.Author.Tests.{ltb-true, ltb-false, le-ltb, leb-true, le-leb}
 use Rattle.laws.specs.Tab.{tab}
 use Rattle.laws.specs.TabLaws.{length-tab, get_or-tab}
 use Rattle.tasks.specs.declared.Plan.{Plan}
-use Rattle.tasks.specs.declared.Answer.{Answer}
-use Rattle.tasks.specs.declared.Answer.TheVariants.{Accepted, Refused}
+use Rattle.tasks.specs.Answer.{Answer, Accepted}
 use Rattle.tasks.specs.TaskSet.{row}
 use Rattle.tasks.specs.Content.{in_edition, task_of, content_of, tidy}
 use Rattle.tasks.proofs.ContentLaws.{used-task}
@@ -43,8 +42,8 @@ use Rattle.state.specs.ViewLaws.{Backed}
 use Rattle.state.proofs.ViewLaws.{state_backed, job-at, row-jobs, flag_in, row_last, row-remaining, row-release, shaped-state}
 
 passed : (a : Answer) → passes a ≡ true → a ≡ Accepted
-passed Accepted e = refl
-passed (Refused k i) e = absurd (false≢true e)
+passed (Ok tt) e = refl
+passed (Err r) e = absurd (false≢true e)
 
 pub in_task : (p : Plan) (i : ℕ) → i < p.tasks → (content_of p).tasks.task i ≡ in_edition p.edition (task_of p.task i)
 in_task = used-task

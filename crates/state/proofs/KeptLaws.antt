@@ -3,7 +3,7 @@
 --     step-state          a step of a machine's state, before its clock's end; step-end: at its end
 --     release-state       a release on a machine's state, before its clock's end
 --     open_state          an opening on an accepted plan
-use Rattle.std.specs.Prelude.{ℕ, zero, suc, ◌≤◌, ◌<◌, Bool, cond, ◌≡◌, List, [], ◌∷◌, ltb}
+use Rattle.std.specs.Prelude.{Ok, Err, ℕ, zero, suc, ◌≤◌, ◌<◌, Bool, cond, ◌≡◌, List, [], ◌∷◌, ltb}
 use Rattle.std.proofs.Math.Bool.{true, false}
 use Rattle.std.proofs.Math.Path.{refl}
 use Rattle.std.proofs.Common.{le_refl, arith}
@@ -12,8 +12,7 @@ use Rattle.std.proofs.Math.ListN.{length, length-append}
 use Rattle.std.proofs.Math.Dec.{eqb}
 use borrow.Author.Tests.{ltb-true, ltb-false, leb-false, eqb-true, ne_eqb}
 use Rattle.tasks.specs.declared.Plan.{Plan}
-use Rattle.tasks.specs.declared.Answer.{Answer}
-use Rattle.tasks.specs.declared.Answer.TheVariants.{Accepted, Refused}
+use Rattle.tasks.specs.Answer.{Answer, Accepted}
 use Rattle.tasks.specs.Content.{content_of, tidy}
 use Rattle.tasks.proofs.ContentLaws.{tidy-tidy}
 use Rattle.tasks.specs.Tests.{or_next, first_met, test_plan, unless_refused}
@@ -97,8 +96,8 @@ module _ (p : Plan) (M : Machine) (F : Fit p M) where
   tests-state i c h = rw (tests-before h, same-tasks, machine_back p M F) (last_one (admit_tests (content_of p).tasks M i c))
     where
       last_one : (a : Answer) → or_next a Accepted ≡ a
-      last_one Accepted = refl
-      last_one (Refused k j) = refl
+      last_one (Ok tt) = refl
+      last_one (Err r) = refl
 
   pub release-state :
       (i c : ℕ) → M.clock < 4000000000

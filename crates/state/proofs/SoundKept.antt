@@ -2,12 +2,11 @@
 --     open_sound                    an opening that isn't refused hands back a sound state
 --     tick-sound, admit_sound       a tick and a taken release keep soundness
 --     step-sound, release-sound     so a step and a release do, refused or not
-use Rattle.std.specs.Prelude.{ℕ, ◌<◌, ◌≡◌}
+use Rattle.std.specs.Prelude.{Ok, Err, ℕ, ◌<◌, ◌≡◌}
 use Rattle.std.proofs.Math.Path.{refl}
 use Rattle.std.proofs.Math.Bool.{true}
 use Rattle.tasks.specs.declared.Plan.{Plan}
-use Rattle.tasks.specs.declared.Answer.{Answer}
-use Rattle.tasks.specs.declared.Answer.TheVariants.{Accepted, Refused}
+use Rattle.tasks.specs.Answer.{Answer, Accepted}
 use Rattle.tasks.specs.Content.{tidy}
 use Rattle.tasks.specs.Tests.{test_plan, unless_refused}
 use Rattle.tasks.specs.AnswerLaws.{first_met-passed}
@@ -46,8 +45,8 @@ module _ (s : State) (S : Shaped s) (e : sound_of s ≡ true) where
       go :
           (a : Answer) → step_tests s ≡ a
           → sound_of (unless_refused a (ticked_of s.plan (tasks_of s) (machine_of s)) (not_stepped (step_tests s) s)).state ≡ true
-      go Accepted q = tick-sound (step-passed s q).1
-      go (Refused k j) q = e
+      go (Ok tt) q = tick-sound (step-passed s q).1
+      go (Err r) q = e
 
   admit_passed : (i c : ℕ) → release_tests s i c ≡ Accepted → admit_tests (tasks_of s) (machine_of s) i c ≡ Accepted
   unfolding release_tests
@@ -60,5 +59,5 @@ module _ (s : State) (S : Shaped s) (e : sound_of s ≡ true) where
       go :
           (a : Answer) → release_tests s i c ≡ a
           → sound_of (unless_refused a (state_of s.plan (admitted i c (machine_of s))) s) ≡ true
-      go Accepted q = admit_sound i c (admit_passed i c q)
-      go (Refused k j) q = e
+      go (Ok tt) q = admit_sound i c (admit_passed i c q)
+      go (Err r) q = e

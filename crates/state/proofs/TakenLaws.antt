@@ -10,7 +10,7 @@ use Rattle.laws.specs.Tab.{tab}
 use Rattle.laws.specs.TabLaws.{ext_tab, get_or_alike}
 use Rattle.laws.specs.Member.{member}
 use Rattle.laws.specs.MemberLaws.{member-append}
-use Rattle.tasks.specs.declared.Answer.TheVariants.{Accepted}
+use Rattle.tasks.specs.Answer.{Accepted}
 use Rattle.tasks.specs.TaskSet.{TaskSet}
 use Rattle.tasks.specs.Content.{Content}
 use Rattle.tasks.specs.Tests.{tests}

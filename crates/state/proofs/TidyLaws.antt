@@ -11,7 +11,7 @@ use Rattle.laws.specs.Tab.{tab, cut}
 use Rattle.laws.specs.TabLaws.{length-tab, get_or-tab, ext_tab, tab_ext, cut_below, cut-above}
 use Rattle.tasks.specs.declared.Task.{Task}
 use Rattle.tasks.specs.declared.Plan.{Plan}
-use Rattle.tasks.specs.declared.Answer.TheVariants.{Accepted}
+use Rattle.tasks.specs.Answer.{Accepted}
 use Rattle.tasks.specs.TaskSet.{row}
 use Rattle.tasks.specs.Content.{has_deadlines, in_edition, no_task, zero_task, task_of, content_of, plan_of, tidy}
 use Rattle.tasks.proofs.ContentLaws.{cut-edition, kept_in, in_kept, mark_back, zero_task_lem, no_task_lem, content-tidy}

@@ -1,7 +1,7 @@
 -- What a release of a loop is answered, as its code tests it.
 --     admission      21 to 23 by the numbers of one loop
 use Rattle.std.specs.Prelude.{ℕ, Bool}
-use Rattle.tasks.specs.declared.Answer.{Answer}
+use Rattle.tasks.specs.Answer.{Answer}
 use Rattle.machine.specs.Admission.{join_tests}
 use Rattle.state.specs.State.{last_of}
 

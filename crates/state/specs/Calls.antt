@@ -5,8 +5,7 @@
 use Rattle.std.specs.Prelude.{ℕ, not, [], ◌∷◌, replicate, eqb}
 use Rattle.laws.specs.Tab.{tab}
 use Rattle.tasks.specs.declared.Plan.{Plan}
-use Rattle.tasks.specs.declared.Answer.{Answer}
-use Rattle.tasks.specs.declared.Answer.TheVariants.{Accepted}
+use Rattle.tasks.specs.Answer.{Answer, Accepted}
 use Rattle.tasks.specs.Numbers.{clock_end}
 use Rattle.tasks.specs.TaskSet.{TaskSet}
 use Rattle.tasks.specs.Content.{content_of, tidy}

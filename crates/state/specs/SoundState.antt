@@ -5,10 +5,9 @@
 --     loop_test, loop_sound     the clauses about one loop: of numbers, and of a state's loop
 --     place_test, place_sound   the clauses about one of the 256 job places: of numbers, and of a state's place
 --     sound_of                 all of them
-use Rattle.std.specs.Prelude.{ℕ, zero, suc, ◌+◌, ◌-◌, ◌*◌, ◌/◌, ◌%◌, Bool, true, false, cond, not, ◌&&◌, ◌||◌, ltb, leb, eqb}
+use Rattle.std.specs.Prelude.{Ok, Err, ℕ, zero, suc, ◌+◌, ◌-◌, ◌*◌, ◌/◌, ◌%◌, Bool, true, false, cond, not, ◌&&◌, ◌||◌, ltb, leb, eqb}
 use Rattle.tasks.specs.declared.Plan.{Plan}
-use Rattle.tasks.specs.declared.Answer.{Answer}
-use Rattle.tasks.specs.declared.Answer.TheVariants.{Accepted, Refused}
+use Rattle.tasks.specs.Answer.{Answer}
 use Rattle.tasks.specs.Numbers.{clock_end}
 use Rattle.tasks.specs.TaskSet.{row}
 use Rattle.tasks.specs.Content.{has_deadlines, zero_task, task_of}
@@ -21,8 +20,8 @@ all_of p zero = true
 all_of p (suc n) = all_of p n && p n
 
 abbrev pub passes : Answer → Bool
-passes Accepted = true
-passes (Refused k i) = false
+passes (Ok tt) = true
+passes (Err r) = false
 
 -- "every unused place, also in the table part, is zero": here those in the table part
 unfoldable pub tidy_label : Plan → ℕ → Bool

@@ -1,7 +1,7 @@
 // The engine's state as document 01 keeps it, and what the calls on it answer. What document 01 says of them is in specs/ and proofs/.
 #![tactic(auto)]
 
-use tasks::{Answer, Plan};
+use tasks::{Plan, Refusal};
 
 // The plan, the clock, and for each of sixteen tasks its number of unfinished jobs, whether a release of it was taken, the last taken
 // one's tick, and sixteen job places, oldest job first: "the state keeps all 256 job places in one flat record".
@@ -19,14 +19,14 @@ pub struct State {
 // An opening: Accepted, with the opened state, or refused, with a state of zeros.
 #[derive(Clone, Copy)]
 pub struct Opened {
-    pub answer: Answer,
+    pub answer: Result<(), Refusal>,
     pub state: State,
 }
 
 // A release: Accepted where it is taken, or refused, with the state handed in.
 #[derive(Clone, Copy)]
 pub struct Released {
-    pub answer: Answer,
+    pub answer: Result<(), Refusal>,
     pub state: State,
 }
 
@@ -34,7 +34,7 @@ pub struct Released {
 // for an idle one; `responses` has finish tick minus release tick of each task that finished, 0 for the others.
 #[derive(Clone, Copy)]
 pub struct Stepped {
-    pub answer: Answer,
+    pub answer: Result<(), Refusal>,
     pub state: State,
     pub runs: [u8; 8],
     pub responses: [u32; 16],

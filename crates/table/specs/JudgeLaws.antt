@@ -2,7 +2,7 @@
 --     Judges       what the judging of a plan with a slack count answers
 --     answer_in, judged-from    past 1 and 2 that is the table's verdict and judgement
 --     counts-refused    a table that meets 1 or 2
-use Rattle.std.specs.Prelude.{ℕ, ◌≤◌, ◌≡◌, Bool, cond, not, ◌&&◌, ◌||◌}
+use Rattle.std.specs.Prelude.{Ok, Err, ℕ, ◌≤◌, ◌≡◌, Bool, cond, not, ◌&&◌, ◌||◌}
 use Rattle.std.proofs.Math.Path.{refl, sym, ap}
 use Rattle.std.proofs.Common.{◌∙◌}
 use Rattle.std.proofs.Math.Bool.{true, false}
@@ -14,8 +14,7 @@ use Rattle.laws.specs.Tab.{tab}
 use Rattle.laws.specs.TabLaws.{tab_ext}
 use Rattle.laws.specs.EveryLaws.{both}
 use Rattle.tasks.specs.declared.Plan.{Plan}
-use Rattle.tasks.specs.declared.Answer.{Answer}
-use Rattle.tasks.specs.declared.Answer.TheVariants.{Accepted, Refused}
+use Rattle.tasks.specs.Answer.{Answer, Accepted, Refused}
 use Rattle.tasks.specs.TaskSet.{TaskSet, counted, core_for_each, found, row}
 use Rattle.tasks.proofs.AmountLaws.{counted_ext}
 use Rattle.tasks.specs.Content.{Content, counted_of, content_of, plan_of, zero_plan}
@@ -122,14 +121,14 @@ module _ (t : List ℕ) where
           ap judging (said_same w.0 w.1 (two-counts f (eqb-false _ _ z)) (eqb-false _ _ z))
 
       counts : (a : Answer) → test11 (content_in t) ≡ a → limit_tests (content_in t) ≡ Accepted → judging said ≡ judging (content_in t)
-      counts (Refused j i) f e =
+      counts (Err r) f e =
           let w = within e in
-          judging-count said (content_in t) said-edition (said-tasks w.1) (said-labels w.0) said-offers j i said-limits e f
-      counts Accepted f e = offered (eqb (slack_count t) 0) refl e f
+          judging-count said (content_in t) said-edition (said-tasks w.1) (said-labels w.0) said-offers r.number r.index said-limits e f
+      counts (Ok tt) f e = offered (eqb (slack_count t) 0) refl e f
 
       limits : (a : Answer) → limit_tests (content_in t) ≡ a → judging said ≡ judging (content_in t)
-      limits (Refused j i) e = judging-limits said (content_in t) j i said-limits e
-      limits Accepted e = counts (test11 (content_in t)) refl e
+      limits (Err r) e = judging-limits said (content_in t) r.number r.index said-limits e
+      limits (Ok tt) e = counts (test11 (content_in t)) refl e
 
   as_judging : judged_answer (loaded t) (slack_count t) ≡ judging said
   unfolding judged_answer judging bounds_of said offering content_of
@@ -177,14 +176,14 @@ module _ (t : List ℕ) where
   judged-case :
       (a : Answer) → a ≡ tests (content_in t) →
       unless_refused a (with_slack (loaded t) (tab (had_slack said) 16)) zero_plan ≡ unless_refused a (plan_of (content_in t)) zero_plan
-  judged-case Accepted e = plan_in_lem (sym e)
-  judged-case (Refused j i) e = refl
+  judged-case (Ok tt) e = plan_in_lem (sym e)
+  judged-case (Err r) e = refl
 
   names-case :
       (a : Answer) → a ≡ tests (content_in t) →
       unless_refused a (judged_names (loaded t) (slack_count t)) [] ≡ unless_refused a (counted_of (content_in t)) []
-  names-case Accepted e = names_in (sym e)
-  names-case (Refused j i) e = refl
+  names-case (Ok tt) e = names_in (sym e)
+  names-case (Err r) e = refl
 
   -- past 1 and 2 the judging of the loaded plan is the table's judgement
   pub judged-from : counts_test t ≡ Accepted → (r : Judgement) → Judges (loaded t) (slack_count t) r → r ≡ judged t

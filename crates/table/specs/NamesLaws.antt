@@ -3,7 +3,7 @@
 --                     m − 1; names-few: never more than seven
 --     names-count     how many it says
 --     names-first     the first so many of its places have them; names-low: each is below 16
-use Rattle.std.specs.Prelude.{ℕ, ◌-◌, ◌≤◌, ◌<◌, ◌≡◌, Bool, take}
+use Rattle.std.specs.Prelude.{Ok, Err, ℕ, ◌-◌, ◌≤◌, ◌<◌, ◌≡◌, Bool, take}
 use Rattle.std.proofs.Math.Path.{refl, ap}
 use Rattle.std.proofs.Common.{sym, ◌∙◌, leb-false}
 use Rattle.std.proofs.Math.Bool.{true, false, cond}
@@ -14,8 +14,7 @@ use Rattle.std.proofs.Math.ListN.{length, get_or}
 use Rattle.laws.specs.TabLaws.{get_or-tab, take-tab}
 use Rattle.laws.specs.Member.{member}
 use Rattle.laws.specs.MemberLaws.{member-at}
-use Rattle.tasks.specs.declared.Answer.{Answer}
-use Rattle.tasks.specs.declared.Answer.TheVariants.{Accepted, Refused}
+use Rattle.tasks.specs.Answer.{Answer, Accepted, Refused}
 use Rattle.tasks.specs.TaskSet.{counted, core_for_each, row}
 use Rattle.tasks.specs.Content.{counted_of}
 use Rattle.tasks.specs.Tests.{tests}
@@ -57,8 +56,8 @@ module _ (t : List ℕ) where
   names-cases P some none = go (verdict t) refl
     where
       go : (a : Answer) → verdict t ≡ a → P
-      go Accepted e = some e
-      go (Refused k i) e = none (names-none k i e)
+      go (Ok tt) e = some e
+      go (Err r) e = none (names-none r.number r.index e)
 
   pub names-few : length (counted_in t) ≤ 7
   names-few = names-cases _ (λ e. few e (core_for_each (content_in t).tasks.cores (content_in t).tasks.count) (names-length e)) (λ z. omega arith)

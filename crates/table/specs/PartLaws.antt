@@ -5,7 +5,7 @@
 use Rattle.std.specs.Prelude.{ℕ, ◌+◌, ◌-◌, ◌≤◌, ◌≡◌, List, [], length, take, drop}
 use Rattle.std.proofs.Common.{sym, ◌∙◌, arith, le_of_eq, length-drop, take_all}
 use Rattle.std.proofs.Math.Path.{ap}
-use Rattle.tasks.specs.declared.Answer.TheVariants.{Accepted, Refused}
+use Rattle.tasks.specs.Answer.{Accepted, Refused}
 use Rattle.tasks.specs.Content.{plan_of}
 use Rattle.tasks.specs.AnswerLaws.{first_met-passed}
 use Rattle.table.specs.declared.Judgement.{Judgement}

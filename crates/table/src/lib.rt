@@ -1,16 +1,16 @@
 // From a show table's bytes to a plan.
 #![tactic(auto)]
 
-use tasks::{Answer, Plan};
+use tasks::{Plan, Refusal};
 
 mod verdict;
 
-pub use verdict::{judge, load, slack_part, uncounted};
+pub use verdict::{judge, load, slack_part};
 
 // A judgement's plan, of zeros where the table is refused, and beside it how many tasks were counted, and which, largest weight first.
 #[derive(Clone, Copy)]
 pub struct Judgement {
-    pub answer: Answer,
+    pub answer: Result<(), Refusal>,
     pub plan: Plan,
     pub count: usize,
     pub counted: [u8; 8],

@@ -1,10 +1,9 @@
 // The judgement of a table's bytes, and the part of them that is its slack section.
-ghost use Rattle.std.specs.Prelude.{◌≡◌, cond, ◌-◌, ◌≤◌, ◌<◌};
+ghost use Rattle.std.specs.Prelude.{◌≡◌, Err, cond, ◌-◌, ◌≤◌, ◌<◌};
 ghost use Rattle.tasks.specs.TaskSet.{core_for_each};
-ghost use Rattle.tasks.specs.declared.Answer.TheVariants.{Accepted};
+ghost use Rattle.tasks.specs.Answer.{Accepted};
 ghost use Rattle.codec.specs.Table.{slack_count, verdict};
-ghost use Rattle.table.specs.Judged.{judged, refused_with, slack_part, slack_place};
-ghost use Rattle.reader.specs.Counted.{answer_of_counts};
+ghost use Rattle.table.specs.Judged.{judged, refused_with, handed, slack_part, slack_place};
 ghost use Rattle.reader.specs.CountedLaws.{CountsIn};
 ghost use Rattle.table.specs.LoadedLaws.{loaded};
 ghost use Rattle.table.specs.JudgeLaws.{Judges};
@@ -15,27 +14,20 @@ use analysis::slack_test::test_slack;
 use codec::places::{slack_from, tasks_from};
 use reader::{Counts, load_labels, load_slack, load_tasks, read_counts};
 use tasks::bound::core_for_each;
-use tasks::{Answer, Plan};
+use tasks::{Plan, Refusal};
 use tidy::{no_plan, tidy_bytes};
 
-// "A refused judgement … hands back a plan … of zeros", and "a refused one names none".
-fn refused(answer: Answer) -> Judgement
-    ensures { result ≡ refused_with answer }
-{
-    let plan = no_plan();
-    Judgement {
-        answer,
-        plan,
-        count: 0,
-        counted: [0; 8],
-    }
-}
-
 // The plan that the table's sections fill.
-pub fn load(table: &[u8], edition: u8, cores: usize, tasks: usize, offers: usize) -> Plan
-    requires { CountsIn table.now edition cores tasks offers }
+pub fn load(table: &[u8], counts: Counts) -> Plan
+    requires { CountsIn table.now counts.edition counts.cores counts.tasks counts.offers }
     ensures { result ≡ loaded table.now }
 {
+    let Counts {
+        edition,
+        cores,
+        tasks,
+        offers,
+    } = counts;
     let labels = load_labels(table, cores);
     let task = load_tasks(table, tasks_from(cores) + 1, tasks, edition);
     let slack = load_slack(table, slack_from(edition, cores, tasks) + 1, offers);
@@ -62,29 +54,43 @@ fn named(cores: usize, tasks: usize) -> usize
 }
 
 // Tests 3 to 13 and 28, of a table that meets neither 1 nor 2.
-fn judge_plan(plan: Plan, offers: usize) -> Judgement
-    ensures { Judges plan offers result }
+fn judge_plan(plan: Plan, offers: usize) -> Result<Judgement, Refusal>
+    ensures { Judges plan offers (handed result) }
 {
-    let tested = test_slack(plan, offers);
-    let answer = tested.answer;
-    let Answer::Accepted = answer else {
-        return refused(answer);
-    };
+    let tested = test_slack(plan, offers)?;
     let slack = tested.slack;
-    let bounded = plan_bounds(plan, slack);
-    let Answer::Accepted = bounded else {
-        return refused(bounded);
-    };
+    plan_bounds(plan, slack)?;
     let names = tested.names;
     let count = named(plan.cores, plan.tasks);
     let counted = tidy_bytes(&names, count);
     let mut accepted = plan;
     accepted.slack = slack;
-    Judgement {
-        answer: Answer::Accepted,
+    Ok(Judgement {
+        answer: Ok(()),
         plan: accepted,
         count,
         counted,
+    })
+}
+
+// Tests 1 to 13 and 28.
+fn judge_table(table: &[u8]) -> Result<Judgement, Refusal>
+    ensures { handed result ≡ judged table.now }
+{
+    let counts = read_counts(table)?;
+    judge_plan(load(table, counts), counts.offers)
+}
+
+// "A refused judgement … hands back a plan … of zeros", and "a refused one names none".
+fn refused(refusal: Refusal) -> Judgement
+    ensures { result ≡ refused_with (Err refusal) }
+{
+    let plan = no_plan();
+    Judgement {
+        answer: Err(refusal),
+        plan,
+        count: 0,
+        counted: [0; 8],
     }
 }
 
@@ -92,32 +98,9 @@ fn judge_plan(plan: Plan, offers: usize) -> Judgement
 pub fn judge(table: &[u8]) -> Judgement
     ensures { result ≡ judged table.now }
 {
-    let counts = read_counts(table);
-    let Counts::Read {
-        edition,
-        cores,
-        tasks,
-        offers,
-    } = counts
-    else {
-        return refused(uncounted(counts));
-    };
-    let plan = load(table, edition, cores, tasks, offers);
-    judge_plan(plan, offers)
-}
-
-// The refusal of the reader's stage.
-pub fn uncounted(counts: Counts) -> Answer
-    ensures { result ≡ answer_of_counts counts }
-{
-    match counts {
-        Counts::Read {
-            edition: _,
-            cores: _,
-            tasks: _,
-            offers: _,
-        } => Answer::Accepted,
-        Counts::Refused { number, index } => Answer::Refused { number, index },
+    match judge_table(table) {
+        Ok(judgement) => judgement,
+        Err(refusal) => refused(refusal),
     }
 }
 
@@ -128,7 +111,7 @@ pub fn slack_part(table: &[u8]) -> &[u8]
 {
     let judgement = judge(table);
     let answer = judgement.answer;
-    let Answer::Accepted = answer else {
+    let Ok(()) = answer else {
         return &table[..0];
     };
     let at = slack_from(

@@ -6,7 +6,7 @@ use Prim.Native.Nat.{ℕ, suc, ◌-◌, ◌≤◌, ◌<◌}
 use Rattle.std.specs.Prelude.{◌≡◌, true, false, [], ◌∷◌, ltb}
 use native.Mathlib.Omega.{arith}
 use borrow.Author.Tests.{ltb-false, leb-false, lt-ltb}
-use Rattle.tasks.specs.declared.Answer.TheVariants.{Accepted}
+use Rattle.tasks.specs.Answer.{Accepted}
 use Rattle.tasks.specs.Numbers.{deadline_high}
 use Rattle.tasks.specs.Content.{has_deadlines, Content}
 use Rattle.tasks.specs.Limits.{Limits}

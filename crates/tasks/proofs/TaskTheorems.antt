@@ -18,7 +18,7 @@ use native.Mathlib.Omega.{arith}
 use borrow.Author.Tests.{le-ltb, leb-true, leb-false, eq-eqb, ne_eqb}
 use Rattle.laws.specs.Sum.{sum, sum_over}
 use Rattle.laws.specs.SumLaws.{sum_le_mul, sum_over_members, count_members}
-use Rattle.tasks.specs.declared.Answer.TheVariants.{Accepted, Refused}
+use Rattle.tasks.specs.Answer.{Accepted, Refused}
 use Rattle.tasks.specs.TaskSet.{hyperperiod, share, weight, counted, Compliant, covers, core_for_each, found, bound, row}
 use Rattle.tasks.specs.Content.{has_deadlines, Content, late_of, late, counted_of}
 use Rattle.tasks.specs.Limits.{Bounded}

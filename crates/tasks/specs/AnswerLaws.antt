@@ -10,13 +10,12 @@
 --     or_next_assoc, or_next-passed     of which neither is met where no refusal comes out
 --     neither                         an `or` that is false has both its parts false
 --     outside-passed, pass_outside    outside low high x is false exactly where x is low to high
-use Rattle.std.specs.Prelude.{ℕ, ◌≤◌, ◌<◌, ◌≡◌, refl, Bool, true, false, ◌||◌, List, [], ◌∷◌, ◌++◌, ltb}
+use Rattle.std.specs.Prelude.{Ok, Err, ℕ, ◌≤◌, ◌<◌, ◌≡◌, refl, Bool, true, false, ◌||◌, List, [], ◌∷◌, ◌++◌, ltb}
 use Rattle.std.proofs.Common.{◌∙◌, true≢false, ⊎_elim, arith}
 use borrow.Author.Tests.{ltb-false, lt-ltb, le-ltb}
 use Rattle.laws.specs.First.{first}
 use Rattle.laws.specs.FirstLaws.{first_or_none, first-none, none_first, first_ext}
-use Rattle.tasks.specs.declared.Answer.{Answer}
-use Rattle.tasks.specs.declared.Answer.TheVariants.{Accepted, Refused}
+use Rattle.tasks.specs.Answer.{Answer, Accepted, Refused}
 use Rattle.tasks.specs.Tests.{refuse, lowest, or_next, first_met, outside}
 
 pub refuse-passed : (k : ℕ) (b : Bool) → refuse k b ≡ Accepted → b ≡ false
@@ -49,12 +48,12 @@ unfolding lowest
 lowest_ext k p q n same = rw (first_ext p q n same)
 
 pub or_next_assoc : (a b c : Answer) → or_next (or_next a b) c ≡ or_next a (or_next b c)
-or_next_assoc Accepted b c = refl
-or_next_assoc (Refused k i) b c = refl
+or_next_assoc (Ok tt) b c = refl
+or_next_assoc (Err r) b c = refl
 
 pub or_next-passed : (a b : Answer) → or_next a b ≡ Accepted → (a ≡ Accepted) × (b ≡ Accepted)
-or_next-passed Accepted b e = (refl, e)
-or_next-passed (Refused k i) b e = (cc, cc)
+or_next-passed (Ok tt) b e = (refl, e)
+or_next-passed (Err r) b e = (cc, cc)
 
 pub first_met-none : first_met [] ≡ Accepted
 unfolding first_met
@@ -62,8 +61,8 @@ first_met-none = refl
 
 pub first_met_alone : (a : Answer) → first_met (a ∷ []) ≡ a
 unfolding first_met
-first_met_alone Accepted = refl
-first_met_alone (Refused k i) = refl
+first_met_alone (Ok tt) = refl
+first_met_alone (Err r) = refl
 
 pub first_met_pass : (a : Answer) (l : List Answer) → a ≡ Accepted → first_met (a ∷ l) ≡ first_met l
 unfolding first_met

@@ -1,4 +1,5 @@
 pub mod Numbers
+pub mod Answer
 pub mod TaskSet
 pub mod Content
 pub mod Tests

@@ -6,14 +6,13 @@
 --     tests-number                  those of a content are at most 28
 --     met_next                      a refusal by a number that the first test doesn't have comes from the rest
 --     met-first                     one by a number that the rest doesn't have comes from the first test
-use Rattle.std.specs.Prelude.{ℕ, ◌≤◌, ◌<◌, ◌≡◌, refl, Bool, cond, List, [], ◌∷◌, ◌≢◌, ltb, eqb}
+use Rattle.std.specs.Prelude.{Ok, Err, ℕ, ◌≤◌, ◌<◌, ◌≡◌, refl, Bool, cond, List, [], ◌∷◌, ◌≢◌, ltb, eqb}
 use native.Mathlib.Omega.{arith}
 use Rattle.std.proofs.Common.{sym, ap, ◌∙◌, true≢false, ⊎_elim}
 use Rattle.std.proofs.Math.Bool.{true, false}
 use Rattle.laws.specs.First.{first}
 use Rattle.laws.specs.FirstLaws.{first_or_none, first_holds, first-before, first_unique}
-use Rattle.tasks.specs.declared.Answer.{Answer}
-use Rattle.tasks.specs.declared.Answer.TheVariants.{Accepted, Refused}
+use Rattle.tasks.specs.Answer.{Answer, Accepted, Refused}
 use Rattle.tasks.specs.Content.{Content}
 use Rattle.tasks.specs.Tests.{refuse, refuse_at, lowest, first_met, number_of, index_of, bad_cores, bad_count, bad_multiple, bad_shares, bad_offers, test3, test4, test5, test6, test7, test8, test28, test9, test10, test11, test12, test13, tests}
 use Rattle.tasks.specs.AnswerLaws.{lowest-none, lowest-found}
@@ -62,8 +61,8 @@ pub record Numbers (m : ℕ) (l : List Answer) : Type 0 where
 infixr 5 ◌also◌
 pub ◌also◌ : {m : ℕ} {a : Answer} {l : List Answer} → number_of a ≤ m → Numbers m l → Numbers m (a ∷ l)
 unfolding first_met
-◌also◌ {a = Accepted} h r = record { first-number = r.first-number }
-◌also◌ {a = Refused k i} h r = record { first-number = h }
+◌also◌ {a = Ok tt} h r = record { first-number = r.first-number }
+◌also◌ {a = Err e} h r = record { first-number = h }
 
 pub no_more : {m : ℕ} → Numbers m []
 unfolding first_met
@@ -94,10 +93,10 @@ tests-number c =
 
 pub met_next : (a : Answer) (l : List Answer) (k i : ℕ) → number_of a ≢ k → first_met (a ∷ l) ≡ Refused k i → (a ≡ Accepted) × (first_met l ≡ Refused k i)
 unfolding first_met
-met_next Accepted l k i ne e = (refl, e)
-met_next (Refused m j) l k i ne e = absurd (ne (ap number_of e))
+met_next (Ok tt) l k i ne e = (refl, e)
+met_next (Err r) l k i ne e = absurd (ne (ap number_of e))
 
 pub met-first : (a : Answer) (l : List Answer) (k i : ℕ) → number_of (first_met l) ≢ k → first_met (a ∷ l) ≡ Refused k i → a ≡ Refused k i
 unfolding first_met
-met-first Accepted l k i ne e = absurd (ne (ap number_of e))
-met-first (Refused m j) l k i ne e = e
+met-first (Ok tt) l k i ne e = absurd (ne (ap number_of e))
+met-first (Err r) l k i ne e = e

@@ -14,7 +14,7 @@
 use Rattle.std.specs.Prelude.{ℕ, suc, ◌-◌, ◌%◌, ◌≤◌, ◌<◌, ◌≡◌, ◌⊎◌, true, false, List, [], ◌∷◌, length}
 use Rattle.laws.specs.Member.{member, Distinct}
 use Rattle.tasks.specs.declared.Plan.{Plan}
-use Rattle.tasks.specs.declared.Answer.{Answer}
+use Rattle.tasks.specs.Answer.{Answer}
 use Rattle.tasks.specs.TaskSet.{TaskSet, weight, amount, needed, Compliant, core_for_each, found, row}
 use Rattle.tasks.specs.Content.{has_deadlines, in_edition, Content, no_task}
 use Rattle.tasks.specs.Limits.{Limits, Enough, Bounded}

@@ -7,13 +7,12 @@
 --     bad_edition … over_bound    what each number tests, of what it looks at: both the tests below and the contracts of the code cite these
 --     compliant_test, found_test, bounds_test      12 of offered slack, 12 of a plan marked as found, and 13
 --     test3 … test13, tests, test_plan           the tests of a content by 3 to 13 and 28, in their order, and of a plan
-use Rattle.std.specs.Prelude.{ℕ, ◌-◌, ◌*◌, Bool, true, false, cond, not, ◌&&◌, ◌||◌, List, [], ◌∷◌, ltb, leb, eqb}
+use Rattle.std.specs.Prelude.{Ok, Err, ℕ, ◌-◌, ◌*◌, Bool, true, false, cond, not, ◌&&◌, ◌||◌, List, [], ◌∷◌, ltb, leb, eqb}
 use Rattle.laws.specs.First.{first}
 use Rattle.laws.specs.Sum.{sum}
 use Rattle.tasks.specs.declared.Task.{Task}
 use Rattle.tasks.specs.declared.Plan.{Plan}
-use Rattle.tasks.specs.declared.Answer.{Answer}
-use Rattle.tasks.specs.declared.Answer.TheVariants.{Accepted, Refused}
+use Rattle.tasks.specs.Answer.{Answer, Accepted, Refused}
 use Rattle.tasks.specs.Numbers.{separation_high, deadline_high, multiple_high}
 use Rattle.tasks.specs.TaskSet.{TaskSet, hyperperiod, share, covers, core_for_each, found, bound, row}
 use Rattle.tasks.specs.Content.{has_deadlines, Content, content_of}
@@ -31,8 +30,8 @@ unfoldable pub lowest : ℕ → (ℕ → Bool) → ℕ → Answer
 lowest k p n = refuse_at k (ltb (first p n) n) (first p n)
 
 abbrev pub or_next : Answer → Answer → Answer
-or_next Accepted b = b
-or_next (Refused k i) b = Refused k i
+or_next (Ok tt) b = b
+or_next (Err r) b = Err r
 
 unfoldable pub first_met : List Answer → Answer
 first_met [] = Accepted
@@ -40,17 +39,17 @@ first_met (a ∷ l) = or_next a (first_met l)
 
 -- "A refused call returns its number and an index"
 abbrev pub number_of : Answer → ℕ
-number_of Accepted = 0
-number_of (Refused k i) = k
+number_of (Ok tt) = 0
+number_of (Err r) = r.number
 
 abbrev pub index_of : Answer → ℕ
-index_of Accepted = 0
-index_of (Refused k i) = i
+index_of (Ok tt) = 0
+index_of (Err r) = r.index
 
 -- x where the answer is no refusal, else y
 abbrev pub unless_refused : {A : Type 0} → Answer → A → A → A
-unless_refused Accepted x y = x
-unless_refused (Refused k i) x y = y
+unless_refused (Ok tt) x y = x
+unless_refused (Err r) x y = y
 
 -- whether x is not `low` to `high`
 unfoldable pub outside : ℕ → ℕ → ℕ → Bool

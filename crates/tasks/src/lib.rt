@@ -1,10 +1,12 @@
-// The records that every layer shares: a task, a plan, and the answer of a test. What document 01 says of them is in specs/ and proofs/.
+// The records that every layer shares: a task, a plan, and a refusal. What document 01 says of them is in specs/ and proofs/.
 #![tactic(auto)]
 
 pub mod bound;
 pub mod edition;
 pub mod limits;
 pub mod refusal;
+
+pub use refusal::{Refusal, Rule};
 
 // Document 01's loop: separation T, budget C, priority offset Y, and document 02's deadline D, in ticks. In edition 1 the deadline is an unused
 // place.
@@ -27,11 +29,4 @@ pub struct Plan {
     pub labels: [u8; 8],
     pub task: [Task; 16],
     pub slack: [u32; 16],
-}
-
-// What a test by document 01's refusals finds: nothing, or the first number met and its index.
-#[derive(Clone, Copy)]
-pub enum Answer {
-    Accepted,
-    Refused { number: u8, index: u16 },
 }

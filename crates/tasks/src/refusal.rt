@@ -1,62 +1,65 @@
-// The refusal numbers of documents 01 and 02, by what is wrong.
-pub const EDITION_UNKNOWN: u8 = 1;
+// A refusal: documents 01 and 02's number of it and an index, and the numbers by what is wrong.
+ghost use Rattle.std.specs.Prelude.{◌≡◌};
+ghost use Rattle.tasks.specs.Answer.{rule_number, refusal_by};
 
-pub const LENGTH_WRONG: u8 = 2;
+// "A refused call returns its number and an index"
+#[derive(Clone, Copy, Debug, PartialEq, Eq)]
+pub struct Refusal {
+    pub number: u8,
+    pub index: u16,
+}
 
-pub const CORES_OUTSIDE: u8 = 3;
+// What is wrong, in the order of the numbers.
+#[derive(Clone, Copy, Debug, PartialEq, Eq)]
+pub enum Rule {
+    EditionUnknown = 1,
+    LengthWrong = 2,
+    CoresOutside = 3,
+    LabelWrong = 4,
+    TaskCountOutside = 5,
+    SeparationOutside = 6,
+    BudgetOutside = 7,
+    OffsetTooLarge = 8,
+    HyperperiodTooLarge = 9,
+    SharesTooLarge = 10,
+    SlackCountWrong = 11,
+    SlackNotCompliant = 12,
+    BoundTooLarge = 13,
+    LogLengthWrong = 14,
+    LogTickTooLate = 15,
+    AnswerTooShort = 16,
+    TickGoesBack = 17,
+    StateNotSound = 18,
+    ClockAtItsEnd = 19,
+    TaskNotInTable = 20,
+    DemandOutside = 21,
+    ReleaseTooSoon = 22,
+    NoPlaceFree = 23,
+    BufferTooShort = 24,
+    SentenceBufferTooShort = 25,
+    WishOutside = 26,
+    NoSolution = 27,
+    DeadlineOutside = 28,
+    OffsetZero = 29,
+    DeadlineNotOffset = 30,
+    TasksTooFew = 31,
+}
 
-pub const LABEL_WRONG: u8 = 4;
+impl Rule {
+    // Its number in the documents.
+    pub fn number(self) -> u8
+        ensures { result ≡ rule_number self }
+    {
+        self as u8
+    }
 
-pub const TASK_COUNT_OUTSIDE: u8 = 5;
-
-pub const SEPARATION_OUTSIDE: u8 = 6;
-
-pub const BUDGET_OUTSIDE: u8 = 7;
-
-pub const OFFSET_TOO_LARGE: u8 = 8;
-
-pub const HYPERPERIOD_TOO_LARGE: u8 = 9;
-
-pub const SHARES_TOO_LARGE: u8 = 10;
-
-pub const SLACK_COUNT_WRONG: u8 = 11;
-
-pub const SLACK_NOT_COMPLIANT: u8 = 12;
-
-pub const BOUND_TOO_LARGE: u8 = 13;
-
-pub const LOG_LENGTH_WRONG: u8 = 14;
-
-pub const LOG_TICK_TOO_LATE: u8 = 15;
-
-pub const ANSWER_TOO_SHORT: u8 = 16;
-
-pub const TICK_GOES_BACK: u8 = 17;
-
-pub const STATE_NOT_SOUND: u8 = 18;
-
-pub const CLOCK_AT_ITS_END: u8 = 19;
-
-pub const TASK_NOT_IN_TABLE: u8 = 20;
-
-pub const DEMAND_OUTSIDE: u8 = 21;
-
-pub const RELEASE_TOO_SOON: u8 = 22;
-
-pub const NO_PLACE_FREE: u8 = 23;
-
-pub const BUFFER_TOO_SHORT: u8 = 24;
-
-pub const SENTENCE_BUFFER_TOO_SHORT: u8 = 25;
-
-pub const WISH_OUTSIDE: u8 = 26;
-
-pub const NO_SOLUTION: u8 = 27;
-
-pub const DEADLINE_OUTSIDE: u8 = 28;
-
-pub const OFFSET_ZERO: u8 = 29;
-
-pub const DEADLINE_NOT_OFFSET: u8 = 30;
-
-pub const TASKS_TOO_FEW: u8 = 31;
+    // The refusal by this number, at an index.
+    pub fn at(self, index: u16) -> Refusal
+        ensures { result ≡ refusal_by self index }
+    {
+        Refusal {
+            number: self.number(),
+            index,
+        }
+    }
+}

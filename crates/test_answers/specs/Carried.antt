@@ -9,7 +9,7 @@
 use Rattle.std.specs.Prelude.{ℕ, Bool, true, ◌&&◌, ◌≡◌, List, [], ◌∷◌, ◌++◌, length, drop, ltb, leb, eqb}
 use Rattle.laws.specs.Every.{every, same_list}
 use Rattle.laws.specs.Tab.{tab}
-use Rattle.tasks.specs.declared.Answer.TheVariants.{Accepted}
+use Rattle.tasks.specs.Answer.{Accepted}
 use Rattle.tasks.specs.TaskSet.{plain_task as loop, bound}
 use Rattle.tasks.specs.Content.{Content, late}
 use Rattle.tasks.specs.Terms.{limit_tests}

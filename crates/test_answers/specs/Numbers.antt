@@ -5,7 +5,7 @@
 --     answer_all            whether every answer is its number
 --     counts               whether a run is not refused, and takes and refuses so many entries on the table's machine
 use Rattle.std.specs.Prelude.{ℕ, Bool, true, ◌&&◌, List, [], ◌∷◌, ◌++◌, map, length, eqb}
-use Rattle.tasks.specs.declared.Answer.TheVariants.{Accepted}
+use Rattle.tasks.specs.Answer.{Accepted}
 use Rattle.tasks.specs.TaskSet.{plain_task as loop}
 use Rattle.history.specs.Log.{Entry}
 use Rattle.history.specs.OnMachine.{machine_engine}

@@ -1,51 +1,29 @@
 // A line of a script: what it is about, what is done to it, and numbers.
-use test_script::line::{find, front, rest};
+use test_script::line::Line;
 use test_script::say;
 use test_world::world::World;
 use test_world::{drafts, plans};
 
 // A line that has no meaning is printed, so that the output shows it.
-fn unknown(world: World, line: &[u8]) -> World {
+fn unknown(line: &[u8]) {
     say::text(b"not understood: ");
     say::text(line);
     say::text(b"\n");
-    world
 }
 
-// `what` is the second word, `words` what follows it.
-fn about(world: World, subject: &[u8], what: &[u8], words: &[u8], line: &[u8]) -> World {
-    if check::same(subject, b"table") {
-        return drafts::table(world, what, words);
+// An empty line and one that begins with # mean nothing. Behind the subject stands what is done to it.
+pub fn line(world: &mut World, line: &[u8]) {
+    if line.is_empty() || line[0] == b'#' {
+        return;
     }
-    if check::same(subject, b"log") {
-        return drafts::log(world, what, words);
+    let mut words = Line { left: line };
+    let subject = words.word();
+    let what = words.word();
+    match subject {
+        b"table" => drafts::act(&mut world.table, what, words),
+        b"log" => drafts::act(&mut world.log, what, words),
+        b"plan" => plans::act(world, what, words),
+        b"call" => test_calls::act(world, what, words),
+        _ => unknown(line),
     }
-    if check::same(subject, b"plan") {
-        return plans::act(world, what, words);
-    }
-    if check::same(subject, b"call") {
-        test_calls::act(world, what, words);
-        return world;
-    }
-    unknown(world, line)
-}
-
-// An empty line and one that begins with # mean nothing.
-pub fn line(world: World, line: &[u8]) -> World {
-    if line.len() == 0 {
-        return world;
-    }
-    if line[0] == b'#' {
-        return world;
-    }
-    let end = find(line, 0, b' ');
-    let tail = rest(line, end);
-    let stop = find(tail, 0, b' ');
-    about(
-        world,
-        front(line, end),
-        front(tail, stop),
-        rest(tail, stop),
-        line,
-    )
 }

@@ -4,20 +4,15 @@
 
 mod act;
 
-use test_script::line::{find, front};
-use test_world::world;
+use test_world::world::World;
 
 // The file descriptor of standard input.
 const STDIN_FILENO: i32 = 0;
 
-// The script from `from` on, with at most as many lines as it has bytes.
 fn run(script: &[u8]) {
-    let mut world = world::start();
-    let mut at = 0;
-    while at < script.len() {
-        let end = find(script, at, b'\n');
-        world = act::line(world, front(&script[at..], end - at));
-        at = end + 1;
+    let mut world = World::new();
+    for line in script.split(|byte| *byte == b'\n') {
+        act::line(&mut world, line);
     }
 }
 

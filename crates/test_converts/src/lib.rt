@@ -3,12 +3,11 @@
 
 ghost use Rattle.std.specs.Prelude.{◌<◌};
 
-use tasks::{Answer, Plan, Task};
+use tasks::{Plan, Refusal, Task};
 use test_same_plan::same_plan;
-use test_script::buffer::{FILL, untouched};
+use test_script::buffer::{FILL, lent, untouched};
 use test_script::line::front;
 use test_script::say;
-use writer::Written;
 
 // What is converted has more loops than cores: in edition 1 its late is "x + C, counted from the priority point".
 fn say_side(edition: u8, task: Task, slack: u32) {
@@ -34,21 +33,9 @@ fn say_task(i: usize, from: Plan, to: Plan)
 }
 
 fn say_tasks(from: Plan, to: Plan) {
-    let tasks = from.tasks;
-    let mut i = 0;
-    while i < 16 {
-        if i < tasks {
-            say_task(i, from, to);
-        }
-        i += 1;
+    for i in 0..from.tasks.min(16) {
+        say_task(i, from, to);
     }
-}
-
-fn is_accepted(answer: Answer) -> bool {
-    let Answer::Accepted = answer else {
-        return false;
-    };
-    true
 }
 
 // In edition 1 deadlines are unused places, so two such plans are the same where labels, T, C, Y, slack and mark agree.
@@ -60,14 +47,14 @@ fn without_deadlines(mut plan: Plan) -> Plan {
 // "there and back gives the first bytes".
 fn say_back(edition: u8, bytes: &[u8], table: &[u8]) {
     let mut buffer = [FILL; 400];
-    let answer = converter::convert(bytes, edition as u32, &mut buffer);
-    let Written::Length(length) = answer else {
+    let answer = converter::convert(bytes, u32::from(edition), &mut buffer);
+    let Ok(length) = answer else {
         say::text(b"not converted back\n");
         return;
     };
     say::fact(
         b"converted back they are the table's bytes",
-        check::same(front(&buffer, length), table),
+        *front(&buffer, length) == *table,
     );
 }
 
@@ -77,8 +64,7 @@ fn say_sides(bytes: &[u8], table: &[u8]) {
     let again = table::judge(bytes);
     let from = judged.plan;
     let to = again.plan;
-    let answer = again.answer;
-    say::fact(b"the judge accepts them", is_accepted(answer));
+    say::fact(b"the judge accepts them", again.answer.is_ok());
     say::fact(
         b"labels, T, C, Y, slack and its mark are the table's",
         same_plan(without_deadlines(to), without_deadlines(from)),
@@ -96,22 +82,14 @@ fn say_length(buffer: &[u8], length: usize, table: &[u8]) {
     say_sides(written, table);
 }
 
-// The first `room` bytes of the buffer are lent.
-fn lend(table: &[u8], edition: u32, buffer: &mut [u8], room: usize) -> Written {
-    if room < buffer.len() {
-        return converter::convert(table, edition, &mut buffer[..room]);
-    }
-    converter::convert(table, edition, buffer)
-}
-
 // A table of any bytes and any wanted edition.
 pub fn converted(name: &[u8], table: &[u8], edition: u32, room: usize) {
     say::case(b"convert ", name);
     let mut buffer = [FILL; 400];
-    let answer = lend(table, edition, &mut buffer, room);
+    let answer = converter::convert(table, edition, lent(&mut buffer, room));
     match answer {
-        Written::Length(length) => say_length(&buffer, length, table),
-        Written::Refused { number, index } => {
+        Ok(length) => say_length(&buffer, length, table),
+        Err(Refusal { number, index }) => {
             say::refusal(b"convert", number, index);
             say::fact(b"the buffer is unchanged", untouched(&buffer, 0));
         }

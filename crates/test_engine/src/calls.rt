@@ -1,18 +1,18 @@
 // A case of an opening: what it answers, and the state that it hands back.
 use crate::made::zeros;
 use crate::same::{same_jobs, same_state};
-use tasks::{Answer, Plan};
+use tasks::{Plan, Refusal};
 use test_same_plan::{same_plan, unused_zero};
 use test_script::say;
 
 // A line with an answer.
-pub fn answered(words: &[u8], answer: Answer) {
+pub fn answered(words: &[u8], answer: Result<(), Refusal>) {
     match answer {
-        Answer::Accepted => {
+        Ok(()) => {
             say::text(words);
             say::text(b" accepted\n");
         }
-        Answer::Refused { number, index } => say::refusal(words, number, index),
+        Err(Refusal { number, index }) => say::refusal(words, number, index),
     }
 }
 
@@ -22,7 +22,7 @@ pub fn open(name: &[u8], plan: Plan) {
     let answer = opened.answer;
     let state = opened.state;
     answered(b"open", answer);
-    let Answer::Accepted = answer else {
+    let Ok(()) = answer else {
         say::fact(b"the state is of zeros", same_state(state, zeros()));
         return;
     };

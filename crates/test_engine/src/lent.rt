@@ -5,31 +5,20 @@ use state::{State, Stepped};
 use test_script::say;
 
 // The answer of a call, and the state that was lent to it.
-#[derive(Clone, Copy)]
-struct After {
-    stepped: Stepped,
-    state: State,
-}
-
-fn both(stepped: Stepped, state: State) -> After {
-    After { stepped, state }
-}
-
-fn lend(mut state: State) -> After {
+fn lend(mut state: State) -> (Stepped, State) {
     let stepped = live::step_in_place(&mut state);
-    both(stepped, state)
+    (stepped, state)
 }
 
 pub fn lent(name: &[u8], state: State) {
     say::case(b"lent ", name);
-    let left = lend(state);
-    let stepped = left.stepped;
-    let there = left.state;
-    let answer = stepped.answer;
-    answered(b"step in place", answer);
+    let (stepped, there) = lend(state);
+    answered(b"step in place", stepped.answer);
     let other = engine::step(state);
-    let next = other.state;
     say::fact(b"it answers as step does", same_step(stepped, other));
-    say::fact(b"it leaves what step hands back", same_state(there, next));
+    say::fact(
+        b"it leaves what step hands back",
+        same_state(there, other.state),
+    );
     say::fact(b"it leaves what was lent", same_state(there, state));
 }

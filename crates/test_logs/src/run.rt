@@ -2,45 +2,32 @@
 ghost use Rattle.std.specs.Prelude.{◌+◌, ◌≤◌, ◌<◌};
 
 use replay::Ran;
-use tasks::Answer;
-use test_script::buffer::{FILL, untouched};
+use tasks::Refusal;
+use test_script::buffer::{FILL, lent, untouched};
 use test_script::say;
 
-fn wide(byte: u8) -> u64
-    ensures { result < 256 }
-{
-    byte as u64
-}
-
 // The four bytes at `at`, low byte first.
-fn number_at(buffer: &[u8; 400], at: usize) -> u64
+fn number_at(buffer: &[u8; 400], at: usize) -> u32
     requires { at ≤ 396 }
 {
-    wide(buffer[at])
-        + 256 * wide(buffer[at + 1])
-        + 65536 * wide(buffer[at + 2])
-        + 16777216 * wide(buffer[at + 3])
+    u32::from_le_bytes([buffer[at], buffer[at + 1], buffer[at + 2], buffer[at + 3]])
 }
 
 // "kind 1 and finish tick, or kind 2 and refusal number, 4 bytes each".
-fn say_entry(i: usize, kind: u64, value: u64) {
+fn say_entry(i: usize, kind: u32, value: u32) {
     say::number(b"entry ", i as u64);
     match kind {
-        1 => say::number(b" finished ", value),
-        2 => say::number(b" refused ", value),
-        _ => say::number(b" of no kind ", value),
+        1 => say::number(b" finished ", u64::from(value)),
+        2 => say::number(b" refused ", u64::from(value)),
+        _ => say::number(b" of no kind ", u64::from(value)),
     }
     say::text(b"\n");
 }
 
 fn say_entries(buffer: &[u8; 400], count: usize) {
-    let mut i = 0;
-    while i < 50 {
-        if i < count {
-            let at = 8 * i;
-            say_entry(i, number_at(buffer, at), number_at(buffer, at + 4));
-        }
-        i += 1;
+    for i in 0..count.min(50) {
+        let at = 8 * i;
+        say_entry(i, number_at(buffer, at), number_at(buffer, at + 4));
     }
 }
 
@@ -57,13 +44,13 @@ fn say_run(ran: Ran, buffer: &[u8; 400])
 {
     let answer = ran.answer;
     match answer {
-        Answer::Accepted => {
+        Ok(()) => {
             say_counts(ran.taken, ran.refused);
             let count = ran.taken + ran.refused;
             say_entries(buffer, count);
             say::fact(b"later bytes stay", untouched(buffer, 8 * count));
         }
-        Answer::Refused { number, index } => {
+        Err(Refusal { number, index }) => {
             say::refusal(b"run", number, index);
             say::fact(b"the counts are 0", ran.taken == 0 && ran.refused == 0);
             say::fact(b"the buffer is unchanged", untouched(buffer, 0));
@@ -71,20 +58,10 @@ fn say_run(ran: Ran, buffer: &[u8; 400])
     }
 }
 
-// The first `room` bytes of the buffer are lent.
-fn lend(table: &[u8], log: &[u8], buffer: &mut [u8], room: usize) -> Ran
-    ensures { result.taken + result.refused < 65536 }
-{
-    if room < buffer.len() {
-        return replay::run_log(table, log, &mut buffer[..room]);
-    }
-    replay::run_log(table, log, buffer)
-}
-
 // A table and a log of any bytes.
 pub fn bytes(name: &[u8], table: &[u8], log: &[u8], room: usize) {
     say::case(b"log ", name);
     let mut buffer = [FILL; 400];
-    let ran = lend(table, log, &mut buffer, room);
+    let ran = replay::run_log(table, log, lent(&mut buffer, room));
     say_run(ran, &buffer);
 }

@@ -4,16 +4,10 @@
 use tasks::{Plan, Task};
 use tidy::is_no_task;
 
+// A function and no `==`: labels of unused places don't count.
 fn same_labels(a: Plan, b: Plan) -> bool {
-    let cores = a.cores;
-    let mut i = 0;
-    while i < 8 {
-        if i < cores && a.labels[i] != b.labels[i] {
-            return false;
-        }
-        i += 1;
-    }
-    true
+    let cores = a.cores.min(8);
+    a.labels[..cores] == b.labels[..cores]
 }
 
 // A deadline is an entry in edition 2 alone.
@@ -29,19 +23,9 @@ fn same_task(edition: u8, a: Task, b: Task) -> bool {
 }
 
 fn same_tasks(a: Plan, b: Plan) -> bool {
-    let edition = a.edition;
-    let tasks = a.tasks;
-    let mut i = 0;
-    while i < 16 {
-        if i < tasks && !same_task(edition, a.task[i], b.task[i]) {
-            return false;
-        }
-        if i < tasks && a.slack[i] != b.slack[i] {
-            return false;
-        }
-        i += 1;
-    }
-    true
+    let tasks = a.tasks.min(16);
+    let mut used = a.task[..tasks].iter().zip(&b.task[..tasks]);
+    used.all(|(x, y)| same_task(a.edition, *x, *y)) && a.slack[..tasks] == b.slack[..tasks]
 }
 
 // "two plans are the same if their used entries and that mark agree", and "only if editions agree too".
@@ -56,39 +40,18 @@ pub fn same_plan(a: Plan, b: Plan) -> bool {
 
 // Whether the labels are 0 from the core `from` on.
 fn clear_labels(plan: Plan, from: usize) -> bool {
-    let mut i = from;
-    while i < 8 {
-        if plan.labels[i] != 0 {
-            return false;
-        }
-        i += 1;
-    }
-    true
+    plan.labels.iter().skip(from).all(|label| *label == 0)
 }
 
 // Whether loops and slack are 0 from the loop `from` on.
 fn clear_tasks(plan: Plan, from: usize) -> bool {
-    let mut i = from;
-    while i < 16 {
-        if !is_no_task(plan.task[i]) || plan.slack[i] != 0 {
-            return false;
-        }
-        i += 1;
-    }
-    true
+    plan.task.iter().skip(from).all(|task| is_no_task(*task))
+        && plan.slack.iter().skip(from).all(|slack| *slack == 0)
 }
 
 // Whether every deadline is 0.
 fn clear_deadlines(plan: Plan) -> bool {
-    let mut i = 0;
-    while i < 16 {
-        let task = plan.task[i];
-        if task.deadline != 0 {
-            return false;
-        }
-        i += 1;
-    }
-    true
+    plan.task.iter().all(|task| task.deadline == 0)
 }
 
 // "Core and loop places that a plan doesn't use are handed back as zeros"; the deadline is "an unused place in edition 1".

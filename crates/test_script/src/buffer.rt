@@ -4,12 +4,11 @@ pub const FILL: u8 = 170;
 
 // Whether every byte from `from` on is as it was before the buffer was lent.
 pub fn untouched(buffer: &[u8], from: usize) -> bool {
-    let mut i = from;
-    while i < buffer.len() {
-        if buffer[i] != FILL {
-            return false;
-        }
-        i += 1;
-    }
-    true
+    buffer.iter().skip(from).all(|byte| *byte == FILL)
+}
+
+// The first bytes, which are lent: `room`, or all where there are fewer.
+pub fn lent(buffer: &mut [u8], room: usize) -> &mut [u8] {
+    let count = room.min(buffer.len());
+    &mut buffer[..count]
 }

@@ -1,90 +1,82 @@
-// A line of a script: words and decimal numbers with spaces between them. Where nothing else is asked, a place may lie past the line's end.
-ghost use Rattle.std.specs.Prelude.{◌≤◌, ◌<◌, length};
+// A line of a script: words and decimal numbers with spaces between them, read one after the other.
+ghost use Rattle.std.specs.Prelude.{◌≤◌, ◌<◌, length, IfSome};
 
-// A number, and the place behind it.
+// What is left of a line.
 #[derive(Clone, Copy)]
-pub struct Token {
-    pub value: u64,
-    pub next: usize,
+pub struct Line<'a> {
+    pub left: &'a [u8],
 }
 
-// The first place from `at` on that has this byte, or the end.
-pub fn find(line: &[u8], at: usize, byte: u8) -> usize
-    requires { at ≤ length line.now }
-    ensures { (at ≤ result) × (result ≤ length line.now) }
-{
-    let mut i = at;
-    while i < line.len() {
-        if line[i] == byte {
-            return i;
-        }
-        i += 1;
-    }
-    line.len()
-}
-
-// The first place from `at` on that is no space, or the end.
-pub fn skip(line: &[u8], at: usize) -> usize
-    ensures { result ≤ length line.now }
-{
-    let mut i = at;
-    while i < line.len() {
-        if line[i] != b' ' {
-            return i;
-        }
-        i += 1;
-    }
-    line.len()
+// The first bytes: `count`, or all where there are fewer.
+pub fn front(bytes: &[u8], count: usize) -> &[u8] {
+    &bytes[..count.min(bytes.len())]
 }
 
 // One decimal digit more; 18446744073709551615 where that is too large.
 fn shifted(value: u64, digit: u8) -> u64 {
-    if value > 1844674407370955160 {
-        return 18446744073709551615;
+    value
+        .saturating_mul(10)
+        .saturating_add(u64::from(digit.saturating_sub(b'0')))
+}
+
+impl<'a> Line<'a> {
+    // The part behind the spaces.
+    pub fn rest(&self) -> &'a [u8]
+        ensures { length result.now ≤ length self.now.left.now }
+    {
+        let left = self.left;
+        let start = left.iter().position(|x| *x != b' ').unwrap_or(left.len());
+        &left[start..]
     }
-    10 * value + (digit as u64 + 2) % 10
-}
 
-fn is_digit(byte: u8) -> bool {
-    48 <= byte && byte <= 57
-}
+    // The bytes up to the next space.
+    pub fn word(&mut self) -> &'a [u8] {
+        let line = self.rest();
+        let end = line.iter().position(|x| *x == b' ').unwrap_or(line.len());
+        self.left = &line[end..];
+        &line[..end]
+    }
 
-// The number from `at` on, 0 where there is none.
-pub fn number(line: &[u8], at: usize) -> Token {
-    let mut value = 0;
-    let mut i = skip(line, at);
-    while i < line.len() {
-        if !is_digit(line[i]) {
-            return Token { value, next: i };
+    // The next number, 0 where there is none.
+    pub fn number(&mut self) -> u64
+        ensures { length self.new.left.now ≤ length self.old.left.now }
+    {
+        let line = self.rest();
+        let end = line
+            .iter()
+            .position(|x| !x.is_ascii_digit())
+            .unwrap_or(line.len());
+        let mut value = 0;
+        for digit in &line[..end] {
+            value = shifted(value, *digit);
         }
-        value = shifted(value, line[i]);
-        i += 1;
+        self.left = &line[end..];
+        value
     }
-    Token { value, next: i }
-}
 
-// The next number's place, behind `at`.
-pub fn onward(line: &[u8], at: usize, next: usize) -> usize
-    requires { at < length line.now }
-    ensures { at < result }
-{
-    let i = skip(line, next);
-    if i <= at {
-        return at + 1;
+    // Its low 32 bits.
+    pub fn number32(&mut self) -> u32 {
+        (self.number() % 4294967296) as u32
     }
-    i
-}
 
-// The part from `at` on.
-pub fn rest(line: &[u8], at: usize) -> &[u8] {
-    let i = skip(line, at);
-    &line[i..]
-}
-
-// The part before `at`.
-pub fn front(line: &[u8], at: usize) -> &[u8] {
-    if at < line.len() {
-        return &line[..at];
+    // Its low 8 bits.
+    pub fn number8(&mut self) -> u8 {
+        (self.number() % 256) as u8
     }
-    line
+
+    // The next number; none at the line's end. A byte that is no digit reads as 0.
+    pub fn next_number(&mut self) -> Option<u64>
+        ensures { IfSome result (λ _. length self.new.left.now < length self.old.left.now) }
+    {
+        let line = self.rest();
+        if line.is_empty() {
+            return None;
+        }
+        self.left = line;
+        let value = self.number();
+        if self.left.len() == line.len() {
+            self.left = &line[1..];
+        }
+        Some(value)
+    }
 }

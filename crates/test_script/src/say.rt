@@ -33,48 +33,47 @@ pub fn fact(words: &[u8], holds: bool) {
 
 pub fn refusal(words: &[u8], number_met: u8, index: u16) {
     text(words);
-    number(b" refused ", number_met as u64);
-    number(b" at ", index as u64);
+    number(b" refused ", u64::from(number_met));
+    number(b" at ", u64::from(index));
     text(b"\n");
-}
-
-fn one_byte(value: u8) {
-    number(b" ", value as u64);
 }
 
 // A line of bytes, in decimal.
 pub fn bytes(words: &[u8], part: &[u8]) {
     text(words);
-    if part.len() == 0 {
+    if part.is_empty() {
         text(b" empty");
     }
-    let mut i = 0;
-    while i < part.len() {
-        one_byte(part[i]);
-        i += 1;
+    for byte in part {
+        number(b" ", u64::from(*byte));
     }
     text(b"\n");
 }
 
-// The edition, where it is not 1.
-pub fn edition(edition: u8) {
-    if edition != 1 {
-        number(b" edition ", edition as u64);
+// The first line of a plan that a call accepted.
+pub fn accepted(words: &[u8], edition_met: u8, cores: usize, loops: usize, offered: bool) {
+    text(words);
+    edition(edition_met);
+    number(b" cores ", cores as u64);
+    number(b" loops ", loops as u64);
+    if offered {
+        text(b" slack offered\n");
+    } else {
+        text(b" slack found\n");
     }
 }
 
-// "the larger of 0 and bound − D".
-fn late(bound: u64, deadline: u64) -> u64 {
-    if bound < deadline {
-        return 0;
+// The edition, where it is not 1.
+fn edition(edition: u8) {
+    if edition != 1 {
+        number(b" edition ", u64::from(edition));
     }
-    bound - deadline
 }
 
 // A loop's deadline and its late, which edition 2 has.
 pub fn deadline(edition: u8, deadline: u32, bound: u64) {
     if edition == 2 {
-        number(b" deadline ", deadline as u64);
-        number(b" late ", late(bound, deadline as u64));
+        number(b" deadline ", u64::from(deadline));
+        number(b" late ", bound.saturating_sub(u64::from(deadline)));
     }
 }

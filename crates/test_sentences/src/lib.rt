@@ -1,37 +1,29 @@
 // A sentence's case: what `sentence` answers and what it leaves in the lent buffer.
 #![tactic(auto)]
 
-use test_script::buffer::{FILL, untouched};
+use tasks::Refusal;
+use test_script::buffer::{FILL, lent, untouched};
 use test_script::line::front;
 use test_script::say;
-use wording::Composed;
 
 // "later bytes stay", and of a refused call "nothing is written".
-fn say_told(composed: Composed, buffer: &[u8; 300]) {
+fn say_told(composed: Result<usize, Refusal>, buffer: &[u8; 300]) {
     match composed {
-        Composed::Length(length) => {
+        Ok(length) => {
             say::text(front(buffer, length));
             say::text(b"\n");
             say::fact(b"later bytes stay", untouched(buffer, length));
         }
-        Composed::Refused { number, index } => {
+        Err(Refusal { number, index }) => {
             say::refusal(b"sentence", number, index);
             say::fact(b"the buffer is unchanged", untouched(buffer, 0));
         }
     }
 }
 
-// The first `room` bytes of the buffer are lent.
-fn lend(number: u32, index: u32, value: u64, buffer: &mut [u8], room: usize) -> Composed {
-    if room < buffer.len() {
-        return sentence::sentence(number, index, value, &mut buffer[..room]);
-    }
-    sentence::sentence(number, index, value, buffer)
-}
-
 // Any number, index and value.
 pub fn told(number: u32, index: u32, value: u64, room: usize) {
     let mut buffer = [FILL; 300];
-    let composed = lend(number, index, value, &mut buffer, room);
+    let composed = sentence::sentence(number, index, value, lent(&mut buffer, room));
     say_told(composed, &buffer);
 }

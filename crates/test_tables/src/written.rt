@@ -1,16 +1,15 @@
 // A plan's case: what `write` answers to it and what it leaves in the buffer.
-use tasks::Plan;
+use tasks::{Plan, Refusal};
 use test_same_plan::same_plan;
-use test_script::buffer::{FILL, untouched};
+use test_script::buffer::{FILL, lent, untouched};
 use test_script::line::front;
 use test_script::say;
-use writer::Written;
 
 fn say_length(plan: Plan, buffer: &[u8], length: usize, table: &[u8]) {
     say::number(b"write ", length as u64);
     say::text(b" bytes\n");
     let written = front(buffer, length);
-    say::fact(b"they are the table's bytes", check::same(written, table));
+    say::fact(b"they are the table's bytes", written == table);
     say::fact(b"later bytes stay", untouched(buffer, length));
     let again = table::judge(written);
     say::fact(
@@ -19,21 +18,13 @@ fn say_length(plan: Plan, buffer: &[u8], length: usize, table: &[u8]) {
     );
 }
 
-// The first `room` bytes of the buffer are lent.
-fn lend(plan: Plan, buffer: &mut [u8], room: usize) -> Written {
-    if room < buffer.len() {
-        return writer::write(plan, &mut buffer[..room]);
-    }
-    writer::write(plan, buffer)
-}
-
 // Writes the plan to `room` bytes. Where it is not refused, `table` is what should come out.
 pub fn outcome(plan: Plan, room: usize, table: &[u8]) {
     let mut buffer = [FILL; 400];
-    let answer = lend(plan, &mut buffer, room);
+    let answer = writer::write(plan, lent(&mut buffer, room));
     match answer {
-        Written::Length(length) => say_length(plan, &buffer, length, table),
-        Written::Refused { number, index } => {
+        Ok(length) => say_length(plan, &buffer, length, table),
+        Err(Refusal { number, index }) => {
             say::refusal(b"write", number, index);
             say::fact(b"the buffer is unchanged", untouched(&buffer, 0));
         }

@@ -1,12 +1,11 @@
 // A wish sheet's case: what `wish` answers to it, and what the judge says of the plan that it found.
 #![tactic(auto)]
 
-use tasks::{Answer, Plan, Task};
+use tasks::{Plan, Refusal, Task};
 use test_same_plan::{all_zero, same_plan, unused_zero};
 use test_script::buffer::FILL;
 use test_script::line::front;
 use test_script::say;
-use writer::Written;
 
 fn say_task(i: usize, edition: u8, task: Task, slack: u32) {
     let bound = task.offset as u64 + slack as u64 + task.budget as u64;
@@ -20,13 +19,8 @@ fn say_task(i: usize, edition: u8, task: Task, slack: u32) {
 
 fn say_tasks(plan: Plan) {
     let edition = plan.edition;
-    let tasks = plan.tasks;
-    let mut i = 0;
-    while i < 16 {
-        if i < tasks {
-            say_task(i, edition, plan.task[i], plan.slack[i]);
-        }
-        i += 1;
+    for i in 0..plan.tasks.min(16) {
+        say_task(i, edition, plan.task[i], plan.slack[i]);
     }
 }
 
@@ -34,7 +28,7 @@ fn say_tasks(plan: Plan) {
 fn say_written(plan: Plan) {
     let mut buffer = [FILL; 400];
     let written = writer::write(plan, &mut buffer);
-    let Written::Length(length) = written else {
+    let Ok(length) = written else {
         say::text(b"not written\n");
         return;
     };
@@ -48,15 +42,13 @@ fn say_written(plan: Plan) {
 }
 
 fn say_plan(plan: Plan) {
-    say::text(b"wish accepted");
-    say::edition(plan.edition);
-    say::number(b" cores ", plan.cores as u64);
-    say::number(b" loops ", plan.tasks as u64);
-    if plan.offered {
-        say::text(b" slack offered\n");
-    } else {
-        say::text(b" slack found\n");
-    }
+    say::accepted(
+        b"wish accepted",
+        plan.edition,
+        plan.cores,
+        plan.tasks,
+        plan.offered,
+    );
     say_tasks(plan);
     say::fact(b"unused places are zero", unused_zero(plan));
     say_written(plan);
@@ -69,8 +61,8 @@ pub fn wished(name: &[u8], bytes: &[u8]) {
     let plan = found.plan;
     let answer = found.answer;
     match answer {
-        Answer::Accepted => say_plan(plan),
-        Answer::Refused { number, index } => {
+        Ok(()) => say_plan(plan),
+        Err(Refusal { number, index }) => {
             say::refusal(b"wish", number, index);
             say::fact(b"the plan is of zeros", all_zero(plan));
         }

@@ -1,130 +1,61 @@
 // Lines about the plan: it is the judged table's, and then changed, right or wrong. A place that a plan doesn't have changes nothing.
 use crate::world::World;
-use tasks::{Plan, Task};
-use test_script::line::{front, number};
+use tasks::Plan;
+use test_script::line::Line;
 use test_script::say;
-use test_tables::draft::Draft;
-
-fn judged(draft: Draft) -> Plan {
-    let bytes = draft.bytes;
-    let judgement = table::judge(front(&bytes, draft.length));
-    judgement.plan
-}
-
-fn narrow(value: u64) -> u32 {
-    (value % 4294967296) as u32
-}
 
 // `label CORE VALUE`.
-fn label(mut plan: Plan, words: &[u8]) -> Plan {
-    let core = number(words, 0);
-    let value = number(words, core.next);
-    let i = core.value as usize;
-    if i >= 8 {
-        return plan;
+fn label(plan: &mut Plan, mut words: Line) {
+    let core = words.number() as usize;
+    if core < 8 {
+        plan.labels[core] = words.number8();
     }
-    plan.labels[i] = (value.value % 256) as u8;
-    plan
 }
 
 // `loop I T C Y`: the deadline stays.
-fn task(mut plan: Plan, words: &[u8]) -> Plan {
-    let place = number(words, 0);
-    let separation = number(words, place.next);
-    let budget = number(words, separation.next);
-    let offset = number(words, budget.next);
-    let i = place.value as usize;
-    if i >= 16 {
-        return plan;
+fn task(plan: &mut Plan, mut words: Line) {
+    let i = words.number() as usize;
+    if i < 16 {
+        plan.task[i].separation = words.number32();
+        plan.task[i].budget = words.number32();
+        plan.task[i].offset = words.number32();
     }
-    let before = plan.task[i];
-    plan.task[i] = Task {
-        separation: narrow(separation.value),
-        budget: narrow(budget.value),
-        offset: narrow(offset.value),
-        deadline: before.deadline,
-    };
-    plan
 }
 
 // `deadline I D`.
-fn deadline(mut plan: Plan, words: &[u8]) -> Plan {
-    let place = number(words, 0);
-    let value = number(words, place.next);
-    let i = place.value as usize;
-    if i >= 16 {
-        return plan;
+fn deadline(plan: &mut Plan, mut words: Line) {
+    let i = words.number() as usize;
+    if i < 16 {
+        plan.task[i].deadline = words.number32();
     }
-    let before = plan.task[i];
-    plan.task[i] = Task {
-        separation: before.separation,
-        budget: before.budget,
-        offset: before.offset,
-        deadline: narrow(value.value),
-    };
-    plan
 }
 
 // `slack I X`.
-fn slack(mut plan: Plan, words: &[u8]) -> Plan {
-    let place = number(words, 0);
-    let value = number(words, place.next);
-    let i = place.value as usize;
-    if i >= 16 {
-        return plan;
+fn slack(plan: &mut Plan, mut words: Line) {
+    let i = words.number() as usize;
+    if i < 16 {
+        plan.slack[i] = words.number32();
     }
-    plan.slack[i] = narrow(value.value);
-    plan
 }
 
 // `edition E`, `offered 1` or `offered 0`, `cores N`, `loops N`.
-fn counts(mut plan: Plan, what: &[u8], words: &[u8]) -> Plan {
-    let value = number(words, 0);
-    if check::same(what, b"edition") {
-        plan.edition = (value.value % 256) as u8;
-        return plan;
+fn counts(plan: &mut Plan, what: &[u8], mut words: Line) {
+    match what {
+        b"edition" => plan.edition = words.number8(),
+        b"offered" => plan.offered = words.number() == 1,
+        b"cores" => plan.cores = words.number() as usize,
+        b"loops" => plan.tasks = words.number() as usize,
+        _ => say::text(b"not understood: a plan's line\n"),
     }
-    if check::same(what, b"offered") {
-        plan.offered = value.value == 1;
-        return plan;
-    }
-    if check::same(what, b"cores") {
-        plan.cores = value.value as usize;
-        return plan;
-    }
-    if check::same(what, b"loops") {
-        plan.tasks = value.value as usize;
-        return plan;
-    }
-    say::text(b"not understood: a plan's line\n");
-    plan
 }
 
-fn changed(plan: Plan, what: &[u8], words: &[u8]) -> Plan {
-    if check::same(what, b"label") {
-        return label(plan, words);
+pub fn act(world: &mut World, what: &[u8], words: Line) {
+    match what {
+        b"judged" => world.plan = table::judge(world.table.as_slice()).plan,
+        b"label" => label(&mut world.plan, words),
+        b"loop" => task(&mut world.plan, words),
+        b"deadline" => deadline(&mut world.plan, words),
+        b"slack" => slack(&mut world.plan, words),
+        _ => counts(&mut world.plan, what, words),
     }
-    if check::same(what, b"loop") {
-        return task(plan, words);
-    }
-    if check::same(what, b"deadline") {
-        return deadline(plan, words);
-    }
-    if check::same(what, b"slack") {
-        return slack(plan, words);
-    }
-    counts(plan, what, words)
-}
-
-pub fn act(mut world: World, what: &[u8], words: &[u8]) -> World {
-    let plan = world.plan;
-    let table = world.table;
-    if check::same(what, b"judged") {
-        let fresh = judged(table);
-        world.plan = fresh;
-        return world;
-    }
-    let next = changed(plan, what, words);
-    world.plan = next;
-    world
 }

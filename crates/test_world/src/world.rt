@@ -1,6 +1,5 @@
 // What the lines of a script have made so far.
 use tasks::Plan;
-use test_tables::draft;
 use test_tables::draft::Draft;
 use tidy::no_plan;
 
@@ -12,10 +11,12 @@ pub struct World {
     pub plan: Plan,
 }
 
-pub fn start() -> World {
-    World {
-        table: draft::empty(),
-        log: draft::empty(),
-        plan: no_plan(),
+impl World {
+    pub fn new() -> World {
+        World {
+            table: Draft::new(),
+            log: Draft::new(),
+            plan: no_plan(),
+        }
     }
 }

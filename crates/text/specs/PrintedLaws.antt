@@ -23,7 +23,7 @@ use Rattle.decimal.proofs.PutLaws.{put-behind}
 use Rattle.laws.specs.TabLaws.{cut_below}
 use Rattle.tasks.specs.declared.Task.{Task}
 use Rattle.tasks.specs.declared.Plan.{Plan}
-use Rattle.tasks.specs.declared.Answer.TheVariants.{Accepted}
+use Rattle.tasks.specs.Answer.{Accepted}
 use Rattle.tasks.specs.TaskSet.{core_for_each, bound_by, bound, row}
 use Rattle.tasks.specs.Limits.{Bounded}
 use Rattle.tasks.specs.Content.{late_of, late, content_of, task_of}

@@ -12,7 +12,7 @@ use Rattle.std.proofs.Common.{ap₂, ◌∙◌, zero-add, arith, length-append, 
 use mathlib.Core.List.{List, [], ◌∷◌, ◌++◌}
 use Rattle.std.proofs.Math.ListN.{get_or-eq_default}
 use Rattle.tasks.specs.declared.Plan.{Plan}
-use Rattle.tasks.specs.declared.Answer.TheVariants.{Accepted, Refused}
+use Rattle.tasks.specs.Answer.{Accepted, Refused}
 use Rattle.tasks.specs.TaskSet.{row}
 use Rattle.tasks.specs.Content.{content_of}
 use Rattle.tasks.specs.Tests.{refuse, first_met, bad_edition, tests, test_plan}

@@ -3,7 +3,7 @@
 
 ghost use Rattle.std.specs.Prelude.{◌≡◌, ◌++◌, ℕ, ◌+◌, ◌-◌, ◌≤◌, ◌<◌, length, take, drop};
 ghost use Rattle.decimal.specs.Decimal.{Stored};
-ghost use Rattle.tasks.specs.declared.Answer.TheVariants.{Accepted};
+ghost use Rattle.tasks.specs.Answer.{Accepted};
 ghost use Rattle.tasks.specs.TaskSet.{row};
 ghost use Rattle.tasks.specs.Content.{late_of, content_of};
 ghost use Rattle.tasks.specs.Tests.{test_plan};
@@ -13,30 +13,22 @@ use decimal::{put_said, put_words};
 use table::judge;
 use tasks::bound::{bound, core_for_each};
 use tasks::edition::has_deadlines;
-use tasks::{Answer, Plan, Task};
+use tasks::{Plan, Task};
 
 // The length of the buffer that `text` is lent. No text is longer: the longest has a first line of at most 17 bytes, sixteen of at most 49
 // and a last one of at most 32.
 pub const LONGEST: usize = 1024;
 
-// "the larger of 0 and" a − b.
-fn past(a: u64, b: u64) -> u64
-    ensures { result ≡ a - b }
-{
-    if a < b {
-        return 0;
-    }
-    a - b
-}
-
 // "the larger of 0 and bound minus offset, or minus deadline in edition 2".
 fn late(edition: u8, task: Task, bound: u64) -> u64
     ensures { result ≡ late_of edition task bound }
 {
-    if has_deadlines(edition) {
-        return past(bound, task.deadline as u64);
-    }
-    past(bound, task.offset as u64)
+    let due = if has_deadlines(edition) {
+        task.deadline
+    } else {
+        task.offset
+    };
+    bound.saturating_sub(due as u64)
 }
 
 // A line of words and a number, twice, from the buffer's beginning on.
@@ -72,13 +64,11 @@ fn put_plan(out: &mut [u8], plan: Plan) -> usize
     let slack = plan.slack;
     let each = core_for_each(plan.cores, tasks);
     let mut at = put_pair(out, b"cores ", plan.cores as u64, b" loops ", tasks as u64);
-    let mut i = 0;
-    while i < tasks {
+    for i in 0..tasks {
         let t = task[i];
         let x = slack[i];
         let b = bound(each, t, x);
         at = put_task(out, at, i as u64, x, b, late(edition, t, b));
-        i += 1;
     }
     at
 }
@@ -89,10 +79,8 @@ fn put_counted(out: &mut [u8], at: usize, counted: [u8; 8], count: usize) -> usi
     ensures { Stored out.old at (counted_line (take count counted)) result out.new }
 {
     let mut end = put_words(out, at, b"counted");
-    let mut i = 0;
-    while i < count {
-        end = put_said(out, end, b" ", counted[i] as u64);
-        i += 1;
+    for name in &counted[..count] {
+        end = put_said(out, end, b" ", *name as u64);
     }
     put_words(out, end, b"\n")
 }
@@ -111,11 +99,11 @@ pub fn text(table: &[u8], out: &mut [u8; LONGEST]) -> usize
         × (out.new ≡ printed table.now ++ drop (length (printed table.now)) out.old) }
 {
     let judgement = judge(table);
-    let answer = judgement.answer;
-    let Answer::Refused { number, index } = answer else {
-        let counted = judgement.counted;
-        let lines = put_plan(out, judgement.plan);
-        return put_counted(out, lines, counted, judgement.count);
-    };
-    put_refusal(out, number, index)
+    match judgement.answer {
+        Ok(()) => {
+            let lines = put_plan(out, judgement.plan);
+            put_counted(out, lines, judgement.counted, judgement.count)
+        }
+        Err(refusal) => put_refusal(out, refusal.number, refusal.index),
+    }
 }

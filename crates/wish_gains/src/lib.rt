@@ -22,23 +22,18 @@ pub fn reach(whole: u64, slope: u64, multiple: u64, cores: u64, start: u64) -> u
     if left == 0 {
         return NEVER;
     }
-    start + cores * ((whole - held + (left - 1)) / left)
+    start + cores * (whole - held).div_ceil(left)
 }
 
 // A task's share where its slack rises and its offset is cut, so that its surplus rises with it.
 fn cut_gain(share: u64, separation: u32, room: u32, slack: u32) -> u64
     ensures { Gain share separation room slack result }
 {
-    if slack == 0 {
-        return 0;
+    if 0 < slack && room.saturating_sub(slack) <= separation {
+        share
+    } else {
+        0
     }
-    if room <= slack {
-        return share;
-    }
-    if room - slack <= separation {
-        return share;
-    }
-    0
 }
 
 // That of every task.
@@ -53,10 +48,8 @@ pub fn cut_gains(
     ensures { Gains share.now separation.now room.now slack.now [] tasks result }
 {
     let mut gain = [0u64; 16];
-    let mut i = 0;
-    while i < tasks {
+    for i in 0..tasks {
         gain[i] = cut_gain(share[i], separation[i], room[i], slack[i]);
-        i += 1;
     }
     gain
 }
@@ -65,10 +58,7 @@ pub fn cut_gains(
 fn counted_gain(share: u64, slack: u32) -> u64
     ensures { Gain share 0 0 slack result }
 {
-    if slack == 0 {
-        return 0;
-    }
-    share
+    if slack == 0 { 0 } else { share }
 }
 
 // The gains with those of the first names.
@@ -83,10 +73,8 @@ pub fn count_gains(
     requires { (many ≤ tasks) × (tasks ≤ 16) × ((a : ℕ) → a < tasks → row names.now a < tasks) × (tasks ≤ length names.now) × (length gain.old ≡ 16) }
     ensures { (separation room : List ℕ) → Gains share.now separation room slack.now [] tasks gain.old → Gains share.now separation room slack.now (take many names.now) tasks gain.new }
 {
-    let mut a = 0;
-    while a < many {
-        let i = names[a] as usize;
+    for name in &names[..many] {
+        let i = *name as usize;
         gain[i] = counted_gain(share[i], slack[i]);
-        a += 1;
     }
 }

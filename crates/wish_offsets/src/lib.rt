@@ -13,10 +13,8 @@ pub fn rooms(wish: &[u32; 16], budget: &[u32; 16], tasks: usize) -> [u32; 16]
     ensures { result ≡ tab (cut tasks (room_row wish.now budget.now) 0) 16 }
 {
     let mut room = [0u32; 16];
-    let mut i = 0;
-    while i < tasks {
+    for i in 0..tasks {
         room[i] = wish[i] - budget[i];
-        i += 1;
     }
     room
 }
@@ -25,14 +23,7 @@ pub fn rooms(wish: &[u32; 16], budget: &[u32; 16], tasks: usize) -> [u32; 16]
 fn largest_offset(separation: u32, room: u32, slack: u32) -> u32
     ensures { result ≡ min separation (room - slack) }
 {
-    if room <= slack {
-        return 0;
-    }
-    let left = room - slack;
-    if left < separation {
-        return left;
-    }
-    separation
+    separation.min(room.saturating_sub(slack))
 }
 
 // The largest offsets that a slack leaves.
@@ -46,10 +37,8 @@ pub fn offsets(
     ensures { result ≡ tab (cut tasks (offset_row separation.now room.now slack.now) 0) 16 }
 {
     let mut offset = [0u32; 16];
-    let mut i = 0;
-    while i < tasks {
+    for i in 0..tasks {
         offset[i] = largest_offset(separation[i], room[i], slack[i]);
-        i += 1;
     }
     offset
 }
@@ -59,12 +48,10 @@ pub fn first_past(slack: &[u32; 16], room: &[u32; 16], tasks: usize) -> usize
     requires { tasks ≤ 16 }
     ensures { result ≡ first (past_row slack.now room.now) tasks }
 {
-    let mut i = 0;
-    while i < tasks {
+    for i in 0..tasks {
         if room[i] < slack[i] {
             return i;
         }
-        i += 1;
     }
     tasks
 }

@@ -2,13 +2,13 @@
 --     tests_staged      3 to 5, and then the others
 --     tasks-refused, tasks-solved    the answer past 3 to 5
 --     plan-refused, plan-solved      the whole answer
-use Rattle.std.specs.Prelude.{ℕ, ◌+◌, ◌≡◌, [], ◌∷◌}
+use Rattle.tasks.specs.declared.refusal.Refusal.{Refusal}
+use Rattle.std.specs.Prelude.{ℕ, ◌+◌, ◌≡◌, [], ◌∷◌, Ok, Err, IfOk, Result}
 use Rattle.std.proofs.Math.Bool.{true}
 use Rattle.std.proofs.Math.Path.{refl, sym, subst, ap, ap₂}
 use Rattle.std.proofs.Common.{◌∙◌}
 use Rattle.tasks.specs.declared.Plan.{Plan}
-use Rattle.tasks.specs.declared.Answer.{Answer}
-use Rattle.tasks.specs.declared.Answer.TheVariants.{Accepted, Refused}
+use Rattle.tasks.specs.Answer.{Answer, Accepted}
 use Rattle.tasks.specs.TaskSet.{TaskSet, plain, row}
 use Rattle.tasks.specs.Content.{Content, task_of, content_of}
 use Rattle.tasks.specs.Tests.{first_met, or_next, test3, test4, test6, test7, test28, test9, test10}
@@ -16,7 +16,7 @@ use Rattle.tasks.specs.AnswerLaws.{first_met-append}
 use Rattle.fields.specs.declared.columns.Columns.{Columns}
 use Rattle.fields.specs.Columns.{columns_of, set_from}
 use Rattle.fields.specs.Stages.{frame_test, wishes_test}
-use Rattle.fields.specs.StageLaws.{not_both, wishes_scan}
+use Rattle.fields.specs.StageLaws.{wishes_scan}
 use Rattle.slack.specs.StageLaws.{Framed}
 use Rattle.analysis.specs.SlackTest.{offering}
 use Rattle.analysis.specs.SlackTestLaws.{columns-set, frame-tests, rates_tests, stopped, passed_on}
@@ -69,12 +69,12 @@ module _ (p : Plan) (k : ℕ) where
     unfolding test6 test7 test26 test28 offering content_of wishes_test
     fielded = ea ∙ wishes_scan p
 
-    pub tasks-refused : (t : Solved) (j i : ℕ) → a ≡ Refused j i → t.answer ≡ a → TasksSolved p k t
+    pub tasks-refused : (t : Result Solved Refusal) (r : Refusal) → a ≡ Err r → t ≡ Err r → TasksSolved p k t
     unfolding wish_task_tests
-    tasks-refused t j i e u =
+    tasks-refused t r e u =
         record {
-          answer = u ∙ fielded ∙ sym (stopped _ _ j i (sym fielded ∙ e));
-          found = λ w. absurd (not_both _ j i (u ∙ e) w);
+          answer = rw u (sym e ∙ fielded ∙ sym (stopped _ _ r.number r.index (sym fielded ∙ e)));
+          found = rw u tt;
         }
 
     module _ (l : Columns) (el : l ≡ columns_of p.tasks p.task) (e : a ≡ Accepted) where
@@ -86,14 +86,20 @@ module _ (p : Plan) (k : ℕ) where
       wish_ranges = subst WishRanges (sym stands) (plain_wishes _ (wishes_passed p.edition (content_of p).tasks (sym (wishes_scan p) ∙ sym ea ∙ e)))
 
       pub tasks-solved :
-          (t : Solved) → RatesSolved (set_from p.cores p.tasks l.separation l.budget l.offset) k t → TasksSolved p k t
+          (t : Result Solved Refusal) → RatesSolved (set_from p.cores p.tasks l.separation l.budget l.offset) k t → TasksSolved p k t
       unfolding wish_task_tests offering
       tasks-solved t g =
           record {
             answer = g.answer ∙ ap₂ or_next (rates_tests (offering p k) _ stands) last ∙ sym (passed_on _ _ (sym fielded ∙ e));
-            found = λ w. plain-found (content_of p).tasks t (subst (λ (s : TaskSet). FoundIn s t) stands (g.found w));
+            found = kept t g.found;
           }
         where
+          kept :
+              (t : Result Solved Refusal) → IfOk t (FoundIn (set_from p.cores p.tasks l.separation l.budget l.offset))
+              → IfOk t (FoundIn (content_of p).tasks)
+          kept (Ok v) h = plain-found (content_of p).tasks v (subst (λ (s : TaskSet). FoundIn s v) stands h)
+          kept (Err r) h = tt
+
           last :
               last_tests (set_from p.cores p.tasks l.separation l.budget l.offset) k
               ≡ first_met (sheet11 (offering p k) ∷ test27 (offering p k) ∷ [])
@@ -104,13 +110,13 @@ module _ (p : Plan) (k : ℕ) where
     unfolding sheet5 offering content_of
     framed = ea ∙ frame-tests p k true
 
-    pub plan-refused : (t : Solved) (j i : ℕ) → a ≡ Refused j i → t.answer ≡ a → PlanSolved p k t
-    plan-refused t j i e u =
+    pub plan-refused : (t : Result Solved Refusal) (r : Refusal) → a ≡ Err r → t ≡ Err r → PlanSolved p k t
+    plan-refused t r e u =
         record {
-          answer = u ∙ framed ∙ sym (stopped _ _ j i (sym framed ∙ e)) ∙ sym (tests_staged (offering p k));
-          found = λ w. absurd (not_both _ j i (u ∙ e) w);
+          answer = rw u (sym e ∙ framed ∙ sym (stopped _ _ r.number r.index (sym framed ∙ e)) ∙ sym (tests_staged (offering p k)));
+          found = rw u tt;
         }
 
-    pub plan-solved : (t : Solved) → a ≡ Accepted → TasksSolved p k t → PlanSolved p k t
+    pub plan-solved : (t : Result Solved Refusal) → a ≡ Accepted → TasksSolved p k t → PlanSolved p k t
     plan-solved t e g =
         record { answer = g.answer ∙ sym (passed_on _ _ (sym framed ∙ e)) ∙ sym (tests_staged (offering p k)); found = g.found }

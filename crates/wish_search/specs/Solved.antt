@@ -4,11 +4,11 @@
 --     FoundIn        the offsets and the slack that are found, in arrays
 --     RatesSolved    the answer by 9, 10, 11 and 27, and where it is no refusal what is found
 --     TasksSolved    the same with 6, 7, 26 and 28 before them; PlanSolved: with 3 to 5 before these
-use Rattle.std.specs.Prelude.{ℕ, ◌*◌, ◌≤◌, ◌<◌, ◌≡◌, not, [], ◌∷◌, eqb}
+use Rattle.std.specs.Prelude.{IfOk, Result, ℕ, ◌*◌, ◌≤◌, ◌<◌, ◌≡◌, not, [], ◌∷◌, eqb}
 use Rattle.laws.specs.Tab.{tab, cut}
 use Rattle.tasks.specs.declared.Plan.{Plan}
-use Rattle.tasks.specs.declared.Answer.{Answer}
-use Rattle.tasks.specs.declared.Answer.TheVariants.{Accepted}
+use Rattle.tasks.specs.declared.refusal.Refusal.{Refusal}
+use Rattle.tasks.specs.Answer.{Answer, answer_of}
 use Rattle.tasks.specs.TaskSet.{TaskSet, row}
 use Rattle.tasks.specs.Content.{Content}
 use Rattle.tasks.specs.Terms.{Timed}
@@ -31,9 +31,9 @@ pub record FoundIn (s : TaskSet) (r : Solved) : Type 0 where
   pub offsets : r.offset ≡ tab (cut s.count (λ i. largest_offset (s.task i) (row (wished s) i)) 0) 16
   pub slack : r.slack ≡ tab (row (wished s)) 16
 
-pub record RatesSolved (s : TaskSet) (k : ℕ) (r : Solved) : Type 0 where
-  pub answer : r.answer ≡ or_next (rates_test s) (last_tests s k)
-  pub found : r.answer ≡ Accepted → FoundIn s r
+pub record RatesSolved (s : TaskSet) (k : ℕ) (r : Result Solved Refusal) : Type 0 where
+  pub answer : answer_of r ≡ or_next (rates_test s) (last_tests s k)
+  pub found : IfOk r (FoundIn s)
 
 -- 6, 7, 26, 28, 9, 10, 11 and 27, in three stages
 unfoldable pub wish_task_tests : Content → Answer
@@ -41,10 +41,10 @@ wish_task_tests c =
     or_next (first_met (test6 c ∷ test7 c ∷ test26 c ∷ test28 c ∷ []))
     (or_next (first_met (test9 c ∷ test10 c ∷ [])) (first_met (sheet11 c ∷ test27 c ∷ [])))
 
-pub record TasksSolved (p : Plan) (k : ℕ) (r : Solved) : Type 0 where
-  pub answer : r.answer ≡ wish_task_tests (offering p k)
-  pub found : r.answer ≡ Accepted → FoundIn (offering p k).tasks r
+pub record TasksSolved (p : Plan) (k : ℕ) (r : Result Solved Refusal) : Type 0 where
+  pub answer : answer_of r ≡ wish_task_tests (offering p k)
+  pub found : IfOk r (FoundIn (offering p k).tasks)
 
-pub record PlanSolved (p : Plan) (k : ℕ) (r : Solved) : Type 0 where
-  pub answer : r.answer ≡ wish_tests (offering p k)
-  pub found : r.answer ≡ Accepted → FoundIn (offering p k).tasks r
+pub record PlanSolved (p : Plan) (k : ℕ) (r : Result Solved Refusal) : Type 0 where
+  pub answer : answer_of r ≡ wish_tests (offering p k)
+  pub found : IfOk r (FoundIn (offering p k).tasks)

@@ -3,7 +3,8 @@
 --     sheet-of         past 9 and 10 the arrays are those of the sheet
 --     solve_refused, solve_offered, solve_none, solve_found    the answer by what was met
 --     wishes_passed    what 6, 7 and 26 leave
-use Rattle.std.specs.Prelude.{ℕ, ◌+◌, ◌≤◌, ◌<◌, ◌≡◌, refl, List}
+use Rattle.tasks.specs.declared.refusal.Refusal.{Refusal}
+use Rattle.std.specs.Prelude.{ℕ, ◌+◌, ◌≤◌, ◌<◌, ◌≡◌, refl, List, Ok, Err, Result}
 use Rattle.std.proofs.Math.Path.{sym}
 use Rattle.std.proofs.Common.{◌∙◌, ap, ⊎_elim, arith}
 use Rattle.std.proofs.Math.Bool.{false}
@@ -13,14 +14,13 @@ use Rattle.laws.specs.FirstLaws.{first_le, first_holds, first-none}
 use Rattle.laws.specs.EveryLaws.{below_or_not}
 use Rattle.laws.specs.Tab.{tab, cut}
 use Rattle.laws.specs.TabLaws.{get_or-tab, tab_ext, cut_below, cut-above}
-use Rattle.tasks.specs.declared.Answer.TheVariants.{Accepted, Refused}
+use Rattle.tasks.specs.Answer.{Accepted, answer_of}
 use Rattle.tasks.specs.TaskSet.{TaskSet, hyperperiod, share, row}
 use Rattle.tasks.specs.Limits.{Limits}
 use Rattle.tasks.specs.Tests.{or_next, first_met}
 use Rattle.tasks.specs.AnswerLaws.{refuse-passed, lowest-passed, first_met-passed, outside-passed}
 use Rattle.fields.specs.Columns.{set_from}
 use Rattle.fields.specs.Stages.{wishes_test}
-use Rattle.fields.specs.StageLaws.{not_both}
 use Rattle.slack.specs.declared.rates.Rates.{Rates}
 use Rattle.slack.specs.Rates.{Ranges, rates_test, Rated}
 use Rattle.slack.specs.RatesLaws.{row_filled}
@@ -74,23 +74,25 @@ module _ (m n : ℕ) (separation budget wish : List ℕ) (f : Framed (m + 1) m n
           offset = λ i h. rw (row_filled widest (offset_row separation room none) n i f.tasks-high h e) (offset_le separation room none i);
         }
 
-    module _ (widest : List ℕ) (k : ℕ) (r : Rates) (e : Rated (set_from m n separation budget widest) r) where
+    module _ (widest : List ℕ) (k : ℕ) where
       -- 9 and 10 look at no offset
-      rates-same : r.answer ≡ rates_test s
+      rates-same : (r : Result Rates Refusal) → Rated (set_from m n separation budget widest) r → answer_of r ≡ rates_test s
       unfolding s set_from rates_test hyperperiod share
-      rates-same = e.answer
+      rates-same r e = e.answer
 
-      pub solve_refused : (t : Solved) (j i : ℕ) → r.answer ≡ Refused j i → t.answer ≡ r.answer → RatesSolved (set_from m n separation budget wish) k t
+      pub solve_refused :
+          (q : Refusal) → Rated (set_from m n separation budget widest) (Err q) → (t : Result Solved Refusal) → t ≡ Err q
+          → RatesSolved (set_from m n separation budget wish) k t
       unfolding s
-      solve_refused t j i q u =
+      solve_refused q e t u =
           record {
-            answer = u ∙ rates-same ∙ sym (stopped (rates_test s) _ j i (sym rates-same ∙ q));
-            found = λ w. absurd (not_both _ j i (u ∙ q) w);
+            answer = rw u (rates-same (Err q) e ∙ sym (stopped (rates_test s) _ q.number q.index (sym (rates-same (Err q) e))));
+            found = rw u tt;
           }
 
-      module _ (a : r.answer ≡ Accepted) where
+      module _ (r : Rates) (e : Rated (set_from m n separation budget widest) (Ok r)) where
         passed : rates_test s ≡ Accepted
-        passed = sym rates-same ∙ a
+        passed = sym (rates-same (Ok r) e)
 
         limits : (x : ℕ → ℕ) → Limits (at_slack s x)
         unfolding s set_from rates_test at_slack with_offsets hyperperiod share
@@ -118,8 +120,8 @@ module _ (m n : ℕ) (separation budget wish : List ℕ) (f : Framed (m + 1) m n
               sheet = record { limits = limits; more-tasks = lt-leb n m (omega (arith, f.tasks-low)); wish_low = g.low; wish_high = g.high };
               cores = refl;
               tasks = refl;
-              multiple = (e.figures a).multiple;
-              share = λ i h. row_filled r.share _ n i f.tasks-high h (e.figures a).share;
+              multiple = e.figures.multiple;
+              share = λ i h. row_filled r.share _ n i f.tasks-high h e.figures.share;
               separation = λ i h. refl;
               budget = λ i h. refl;
               room = λ i h. row_filled room (room_row wish budget) n i f.tasks-high h er;
@@ -129,26 +131,26 @@ module _ (m n : ℕ) (separation budget wish : List ℕ) (f : Framed (m + 1) m n
         rest : or_next (rates_test s) (last_tests s k) ≡ last_tests s k
         rest = passed_on (rates_test s) _ passed
 
-        pub solve_offered : (t : Solved) → (k ≡ 0 → ⊥) → t.answer ≡ Refused 11 0 → RatesSolved (set_from m n separation budget wish) k t
+        pub solve_offered : (q : Refusal) → (k ≡ 0 → ⊥) → q ≡ record { number = 11; index = 0 } → RatesSolved (set_from m n separation budget wish) k (Err q)
         unfolding s last_tests first_met
-        solve_offered t z u =
-            record { answer = u ∙ sym (rest ∙ rw (ne_eqb k 0 z)); found = λ w. absurd (not_both _ 11 0 u w) }
+        solve_offered q z u =
+            record { answer = rw u (sym (rest ∙ rw (ne_eqb k 0 z))); found = tt }
 
         module _ (z : k ≡ 0) (slack : List ℕ) (d : Ended (set_from m n separation budget wish) slack) where
           pub solve_none :
-              (t : Solved) → first (past_row slack room) n < n → t.answer ≡ Refused 27 0 → RatesSolved (set_from m n separation budget wish) k t
+              (q : Refusal) → first (past_row slack room) n < n → q ≡ record { number = 27; index = 0 } → RatesSolved (set_from m n separation budget wish) k (Err q)
           unfolding s set_from last_tests first_met
-          solve_none t h u =
+          solve_none q h u =
               let i = first (past_row slack room) n in
               let met = d.past i h (sym (past_test sheet-of slack i h) ∙ first_holds (past_row slack room) n h) in
-              record { answer = u ∙ sym (rest ∙ rw (eq-eqb k 0 z, met)); found = λ w. absurd (not_both _ 27 0 u w) }
+              record { answer = rw u (sym (rest ∙ rw (eq-eqb k 0 z, met))); found = tt }
 
           pub solve_found :
               (offset : List ℕ) → n ≤ first (past_row slack room) n → offset ≡ tab (cut n (offset_row separation room slack) 0) 16
-              → RatesSolved (set_from m n separation budget wish) k (record { answer = Accepted; offset = offset; slack = slack })
+              → RatesSolved (set_from m n separation budget wish) k (Ok (record { offset = offset; slack = slack }))
           unfolding s set_from last_tests first_met
           solve_found offset h eo =
-              record { answer = sym (rest ∙ rw (eq-eqb k 0 z, over.0)); found = λ w. record { offsets = eo ∙ tab_ext _ _ 16 (λ i l. cut-same _ _ n i each); slack = over.1 } }
+              record { answer = sym (rest ∙ rw (eq-eqb k 0 z, over.0)); found = record { offsets = eo ∙ tab_ext _ _ 16 (λ i l. cut-same _ _ n i each); slack = over.1 } }
             where
               none : (i : ℕ) → i < n → past_row slack room i ≡ false
               none = first-none (past_row slack room) n (omega (arith, first_le (past_row slack room) n))

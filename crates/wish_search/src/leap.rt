@@ -1,6 +1,6 @@
 // Many rounds of the search in one. While the counted tasks and the offsets that are cut stay the same, A rises evenly with the slack, and it
 // never rises less; so what A lacks at one slack says how far every solution's number is away.
-ghost use Rattle.std.specs.Prelude.{◌≡◌, List, ℕ, ◌+◌, ◌-◌, ◌/◌, ◌%◌, ◌<◌, ◌≤◌, min};
+ghost use Rattle.std.specs.Prelude.{List, ℕ, ◌+◌, ◌-◌, ◌/◌, ◌%◌, ◌≤◌};
 ghost use Rattle.tasks.specs.TaskSet.{TaskSet};
 ghost use Rattle.largest.specs.Chosen.{Arranged};
 ghost use Rattle.wish_search.specs.SheetArrays.{SheetWith};
@@ -51,12 +51,6 @@ fn far(
     reach(whole, slope, multiple, cores as u64, start as u64)
 }
 
-fn lesser(a: u64, b: u64) -> u64
-    ensures { result ≡ min a b }
-{
-    if a < b { a } else { b }
-}
-
 // The least number from `start` on that a solution's A could need.
 pub fn leap(
     share: &[u64; 16],
@@ -74,25 +68,14 @@ pub fn leap(
     ensures { ((s : TaskSet) (b : List ℕ) → SheetWith s share.now separation.now b room.now quotient.now rest.now multiple cores tasks → Ahead s start result) × Arranged names.new tasks × (start ≤ result) × (result ≤ 12000000) }
 {
     let mut best = FURTHEST;
-    let mut i = 0;
-    while i < cores {
-        if best <= (start + (i as u32)) as u64 {
-            return best as u32;
+    for from in start..start + cores as u32 {
+        if best <= u64::from(from) {
+            break;
         }
         let to = far(
-            share,
-            separation,
-            room,
-            quotient,
-            rest,
-            names,
-            multiple,
-            cores,
-            tasks,
-            start + (i as u32),
+            share, separation, room, quotient, rest, names, multiple, cores, tasks, from,
         );
-        best = lesser(best, to);
-        i += 1;
+        best = best.min(to);
     }
     best as u32
 }

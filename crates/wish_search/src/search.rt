@@ -1,5 +1,5 @@
 // The search for a wish sheet's slack: raised from zeros, each time with the largest offsets that it leaves.
-ghost use Rattle.std.specs.Prelude.{◌≡◌, List, ℕ, ◌-◌, ◌/◌, ◌%◌, ◌<◌, ◌≤◌};
+ghost use Rattle.std.specs.Prelude.{List, ℕ, ◌-◌, ◌/◌, ◌%◌, ◌<◌, ◌≤◌};
 ghost use Rattle.tasks.specs.TaskSet.{TaskSet, row};
 ghost use Rattle.largest.specs.Chosen.{Arranged};
 ghost use Rattle.slack.specs.Arrays.{Needs};
@@ -35,15 +35,6 @@ fn needed_at(
 
 // So many rounds are made one by one, since a leap costs up to as many as there are cores. A sheet can need some 800,000.
 const ROUNDS: u32 = 16;
-
-fn one_less(x: u32) -> u32
-    ensures { result ≡ x - 1 }
-{
-    if x == 0 {
-        return 0;
-    }
-    x - 1
-}
 
 // The number by which the slack is raised next: what A needs or, once the rounds are used up, the least that a solution's A could need.
 fn next(
@@ -100,7 +91,7 @@ pub fn search(
             share, separation, room, &quotient, &rest, &slack, names, multiple, cores, tasks,
             rounds,
         );
-        rounds = one_less(rounds);
+        rounds = rounds.saturating_sub(1);
         if !raise(
             &mut slack,
             &quotient,

@@ -10,25 +10,14 @@ use fields::frame::frame;
 use fields::ranges::wish_ranges;
 use slack::amount::first_names;
 use slack::rates::rate;
-use tasks::{Answer, Plan, refusal};
+use tasks::{Plan, Refusal, Rule};
 use wish_offsets::{first_past, offsets, rooms};
 
-// The answer, and where it is no refusal the offsets and the slack, with zeros in unused places.
+// The offsets and the slack that are found for a sheet that meets none of its tests, with zeros in unused places.
 #[derive(Clone, Copy)]
 pub struct Solved {
-    pub answer: Answer,
     pub offset: [u32; 16],
     pub slack: [u32; 16],
-}
-
-fn unsolved(answer: Answer) -> Solved
-    ensures { result.answer ≡ answer }
-{
-    Solved {
-        answer,
-        offset: [0; 16],
-        slack: [0; 16],
-    }
 }
 
 // Tests 9, 10, 11 and 27, of a sheet that meets none of 3 to 7 and 26.
@@ -39,23 +28,16 @@ fn solve(
     cores: usize,
     tasks: usize,
     offers: usize,
-) -> Solved
+) -> Result<Solved, Refusal>
     requires { Framed (cores + 1) cores tasks × WishRanges (set_from cores tasks separation.now budget.now wish.now) }
     ensures { RatesSolved (set_from cores tasks separation.now budget.now wish.now) offers result }
 {
     let room = rooms(wish, budget, tasks);
     let none = [0u32; 16];
     let widest = offsets(separation, &room, &none, tasks);
-    let rates = rate(separation, budget, &widest, cores, tasks);
-    let rated = rates.answer;
-    let Answer::Accepted = rated else {
-        return unsolved(rated);
-    };
+    let rates = rate(separation, budget, &widest, cores, tasks)?;
     if offers != 0 {
-        return unsolved(Answer::Refused {
-            number: refusal::SLACK_COUNT_WRONG,
-            index: 0,
-        });
+        return Err(Rule::SlackCountWrong.at(0));
     }
     let share = rates.share;
     let mut names = first_names();
@@ -70,45 +52,35 @@ fn solve(
         tasks,
     );
     if first_past(&slack, &room, tasks) < tasks {
-        return unsolved(Answer::Refused {
-            number: refusal::NO_SOLUTION,
-            index: 0,
-        });
+        return Err(Rule::NoSolution.at(0));
     }
     let offset = offsets(separation, &room, &slack, tasks);
-    Solved {
-        answer: Answer::Accepted,
-        offset,
-        slack,
-    }
+    Ok(Solved { offset, slack })
 }
 
 // Tests 6, 7, 26, 28, 9, 10, 11 and 27.
-fn solve_tasks(plan: Plan, offers: usize) -> Solved
+fn solve_tasks(plan: Plan, offers: usize) -> Result<Solved, Refusal>
     requires { Framed (plan.cores + 1) plan.cores plan.tasks }
     ensures { TasksSolved plan offers result }
 {
     let tasks = plan.tasks;
     let task = plan.task;
-    let fielded = wish_ranges(task, tasks, plan.edition);
-    let Answer::Accepted = fielded else {
-        return unsolved(fielded);
-    };
+    wish_ranges(task, tasks, plan.edition)?;
     let columns = split(task, tasks);
-    let separation = columns.separation;
-    let budget = columns.budget;
-    let wish = columns.offset;
-    solve(&separation, &budget, &wish, plan.cores, tasks, offers)
+    solve(
+        &columns.separation,
+        &columns.budget,
+        &columns.offset,
+        plan.cores,
+        tasks,
+        offers,
+    )
 }
 
 // All tests of a sheet's entries, with a slack count of `offers`.
-pub fn solve_plan(plan: Plan, offers: usize) -> Solved
+pub fn solve_plan(plan: Plan, offers: usize) -> Result<Solved, Refusal>
     ensures { PlanSolved plan offers result }
 {
-    let labels = plan.labels;
-    let framed = frame(plan.cores, &labels, plan.tasks, true);
-    let Answer::Accepted = framed else {
-        return unsolved(framed);
-    };
+    frame(plan.cores, &plan.labels, plan.tasks, true)?;
     solve_tasks(plan, offers)
 }

@@ -14,7 +14,7 @@ use Rattle.std.proofs.Math.Nat.{le_antisymm, le_trans}
 use borrow.Author.Tests.{ltb-true, ltb-false, le-ltb, lt-leb, eq-eqb, ne_eqb}
 use Rattle.laws.specs.First.{first}
 use Rattle.laws.specs.FirstLaws.{first_le, first_holds, first-none}
-use Rattle.tasks.specs.declared.Answer.TheVariants.{Accepted, Refused}
+use Rattle.tasks.specs.Answer.{Accepted, Refused}
 use Rattle.tasks.specs.TaskSet.{TaskSet, hyperperiod, share, found, bound, row}
 use Rattle.tasks.specs.Content.{Content}
 use Rattle.tasks.specs.Tests.{refuse, or_next, first_met, number_of, test3, test4, test5, test6, test7, test8, test28, test9, test10, test11, test12, test13, tests}

@@ -12,7 +12,7 @@ use Rattle.std.specs.Prelude.{ℕ, suc, ◌+◌, ◌-◌, ◌*◌, ◌≤◌, �
 use Rattle.laws.specs.First.{first}
 use Rattle.laws.specs.Settle.{settle}
 use Rattle.tasks.specs.declared.Task.{Task}
-use Rattle.tasks.specs.declared.Answer.{Answer}
+use Rattle.tasks.specs.Answer.{Answer}
 use Rattle.tasks.specs.TaskSet.{TaskSet, Compliant, raise, ceiling, bound_of, row}
 use Rattle.tasks.specs.Content.{Content}
 use Rattle.tasks.specs.Tests.{refuse, lowest, first_met, bad_count, bad_wish, test3, test4, test6, test7, test28, test9, test10}

@@ -4,7 +4,7 @@
 --     Best               a solution whose slack is the least and whose offsets are the largest of all
 use Rattle.std.specs.Prelude.{ℕ, ◌*◌, ◌≤◌, ◌<◌, ◌≡◌, false}
 use mathlib.Core.List.{[], ◌∷◌}
-use Rattle.tasks.specs.declared.Answer.{Answer}
+use Rattle.tasks.specs.Answer.{Answer}
 use Rattle.tasks.specs.TaskSet.{TaskSet, core_for_each}
 use Rattle.tasks.specs.Content.{Content}
 use Rattle.tasks.specs.Tests.{first_met, test3, test4, test6, test7, test28, test9, test10}

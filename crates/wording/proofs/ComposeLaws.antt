@@ -9,7 +9,7 @@ use Rattle.std.proofs.lemmas.List.Edits.{sets}
 use Rattle.std.proofs.Math.Seq.{length-sets}
 use borrow.Author.Tests.{lt-ltb, le-ltb}
 use Rattle.laws.specs.SetsLaws.{sets-whole}
-use Rattle.tasks.specs.declared.Answer.TheVariants.{Accepted, Refused}
+use Rattle.tasks.specs.Answer.{Accepted, Refused}
 use Rattle.decimal.specs.Decimal.{Stored}
 use Rattle.wording.specs.Sentence.{sentence_of, longest}
 use Rattle.wording.proofs.SentenceTheorems.{sentence_short}

@@ -5,7 +5,7 @@
 --     worked-runs  and so does the delivered engine's run; all-delivered: as in any list of cases
 --     parts, accepts    a test of two parts, and one of an answer, taken apart
 --     worked-sheets               the definitions say the same of every sheet
-use Rattle.std.specs.Prelude.{ℕ, Bool, true, false, ◌&&◌, ◌≡◌, refl, List, [], ◌∷◌, map, length, T}
+use Rattle.std.specs.Prelude.{Ok, Err, ℕ, Bool, true, false, ◌&&◌, ◌≡◌, refl, List, [], ◌∷◌, map, length, T}
 use Rattle.std.proofs.Common.{sym, subst}
 use Rattle.laws.specs.First.{first}
 use Rattle.laws.specs.Every.{same_list}
@@ -14,8 +14,7 @@ use Rattle.laws.specs.Settle.{same, settle}
 use Rattle.laws.specs.Tab.{tab, cut}
 use Rattle.laws.specs.Rank.{place, ranked, largest}
 use Rattle.laws.specs.Multiple.{lcm, lcm_below}
-use Rattle.tasks.specs.declared.Answer.{Answer}
-use Rattle.tasks.specs.declared.Answer.TheVariants.{Accepted, Refused}
+use Rattle.tasks.specs.Answer.{Answer, Accepted}
 use Rattle.tasks.specs.TaskSet.{hyperperiod, share, weight, surplus, counted, amount, cover, covers, needed, row, raise, found, bound}
 use Rattle.tasks.specs.Content.{no_task, task_of, plan_of, zero_plan, counted_of, late_of, late}
 use Rattle.tasks.specs.Tests.{lowest, first_met, outside, bad_label, test3, test4, test5, test6, test7, test8, test28, test9, test10, test11, test12, test13, tests, unless_refused}
@@ -56,8 +55,8 @@ both false b s t = s
 
 pub accepts : (a : Answer) → T (answers_equal a Accepted) → a ≡ Accepted
 unfolding answers_equal
-accepts Accepted t = refl
-accepts (Refused k i) t = absurd t
+accepts (Ok tt) t = refl
+accepts (Err r) t = absurd t
 
 -- the first, the fifth and the last of six
 three : (a b c d e f : Bool) → T (a && b && c && d && e && f) → T a × T e × T f
@@ -88,10 +87,10 @@ delivered c t = go c.answer all.0
     go :
         (a : Answer) → T (answers_equal (verdict (table_of c)) a)
         → T (unless_refused a (same_reports (run_on (table_of c)) (entries_in (log_of c)) 0 c.reports) true)
-    go Accepted q =
+    go (Ok tt) q =
         subst (λ (f : ℕ → Report). T (same_by f (length (entries_in (log_of c))) 0 c.reports))
         (sym (demand_machine (table_of c) (accepts _ q) (log_of c) (accepts _ all.1))) all.2
-    go (Refused k i) q = tt
+    go (Err r) q = tt
 
 pub all-delivered : (l : List Case) → T (agree_all l) → T (run_all l)
 unfolding agree_all run_all

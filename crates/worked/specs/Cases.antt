@@ -8,13 +8,12 @@
 --     agrees       whether the definitions say the same of a case
 --     Shown, texts, prints    a table's edition and loops and the text that `plan` prints for them
 --     SheetCase, sheets, meets    a wish sheet's edition and loops and what document 02, §3, says of them: P1's, and sheets of ours beside the limits
-use Rattle.std.specs.Prelude.{ℕ, suc, Bool, true, false, ◌&&◌, List, [], ◌∷◌, ◌++◌, map, length, eqb}
+use Rattle.std.specs.Prelude.{Ok, Err, ℕ, suc, Bool, true, false, ◌&&◌, List, [], ◌∷◌, ◌++◌, map, length, eqb}
 use Prim.Native.String.{String}
 use Rattle.laws.specs.Every.{same_list}
 use Rattle.laws.specs.Tab.{tab}
 use Rattle.tasks.specs.declared.Task.{Task}
-use Rattle.tasks.specs.declared.Answer.{Answer}
-use Rattle.tasks.specs.declared.Answer.TheVariants.{Accepted, Refused}
+use Rattle.tasks.specs.Answer.{Answer, Accepted, Refused}
 use Rattle.tasks.specs.TaskSet.{plain_task as loop, row, bound}
 use Rattle.tasks.specs.Content.{task_of}
 use Rattle.tasks.specs.Tests.{unless_refused}
@@ -190,10 +189,10 @@ abbrev pub same_reports : Engine → List Entry → ℕ → List Report → Bool
 same_reports E l e rs = same_by (report E l) (length l) e rs
 
 unfoldable pub answers_equal : Answer → Answer → Bool
-answers_equal Accepted Accepted = true
-answers_equal Accepted (Refused k i) = false
-answers_equal (Refused k i) Accepted = false
-answers_equal (Refused k i) (Refused k' i') = eqb k k' && eqb i i'
+answers_equal (Ok tt) (Ok tt) = true
+answers_equal (Ok tt) (Err r) = false
+answers_equal (Err r) (Ok tt) = false
+answers_equal (Err r) (Err r') = eqb r.number r'.number && eqb r.index r'.index
 
 unfoldable pub agrees : Case → Bool
 agrees c =

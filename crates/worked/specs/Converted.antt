@@ -6,8 +6,7 @@
 use Rattle.std.specs.Prelude.{ℕ, Bool, true, ◌&&◌, List, [], ◌∷◌, ◌++◌, length, drop, eqb}
 use Rattle.laws.specs.Every.{same_list}
 use Rattle.laws.specs.Tab.{tab}
-use Rattle.tasks.specs.declared.Answer.{Answer}
-use Rattle.tasks.specs.declared.Answer.TheVariants.{Accepted, Refused}
+use Rattle.tasks.specs.Answer.{Answer, Accepted, Refused}
 use Rattle.tasks.specs.TaskSet.{plain_task as loop}
 use Rattle.conversion.specs.Converted.{convert_test, converted_length, converted_to}
 use Rattle.worked.specs.Cases.{p1, p3, table_with, answers_equal}

@@ -1,19 +1,19 @@
 -- The writer's answer and the bytes that it leaves behind, from what its code has seen.
 --     write_refused    1, 3 to 13 and 28, write_short 24, write_done the bytes written
 --     plan-few         a plan past these fits its arrays
-use Rattle.std.specs.Prelude.{ℕ, ◌≤◌, ◌<◌, ◌≡◌, List, ◌++◌, length, drop}
+use Rattle.tasks.specs.declared.refusal.Refusal.{Refusal}
+use Rattle.std.specs.Prelude.{ℕ, ◌≤◌, ◌<◌, ◌≡◌, List, ◌++◌, length, drop, Result}
 use borrow.Author.Tests.{lt-ltb, le-ltb}
 use Rattle.tasks.specs.declared.Plan.{Plan}
-use Rattle.tasks.specs.declared.Answer.TheVariants.{Accepted, Refused}
+use Rattle.tasks.specs.Answer.{Accepted, Refused}
 use Rattle.tasks.specs.Content.{content_of}
 use Rattle.tasks.specs.Tests.{first_met, test_plan}
 use Rattle.tasks.proofs.TestsLaws.{tests-limits, plan-passed}
-use Rattle.writer.specs.declared.Written.{Written}
 use Rattle.codec.specs.Table.{bytes_of}
 use Rattle.writer.specs.Written.{answer_of_written, length_of_written, write_test, written_length, written_to}
 use Rattle.writer.specs.WriterLaws.{Writes}
 
-module _ (p : Plan) (out : List ℕ) (r : Written) where
+module _ (p : Plan) (out : List ℕ) (r : Result ℕ Refusal) where
   stopped : (k i : ℕ) → write_test p (length out) ≡ Refused k i → answer_of_written r ≡ Refused k i → length_of_written r ≡ 0 → Writes p out r out
   unfolding written_length written_to
   stopped k i e a l = (rw (e, a), rw (e, l), rw e)

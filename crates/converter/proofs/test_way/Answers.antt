@@ -20,10 +20,10 @@ pub returns-then-has_deadlines : goal.returns-then-has_deadlines
 returns-then-has_deadlines c =
     let a = c.args in
     let f = c.first_unfit-at in
-    sym (rw (sym c.has_deadlines.ensures ∙ c.if-has_deadlines.true) at (way_met a.edition a.tasks (task_of a.task) _ (sym f.ensures) c.if-at-tasks.false))
+    rw c.at.ensures (sym (rw (sym c.has_deadlines.ensures ∙ c.if-has_deadlines.true) at (way_met a.edition a.tasks (task_of a.task) _ (sym f.ensures) c.if-at-tasks.false)))
 
 pub returns : goal.returns
 returns c =
     let a = c.args in
     let f = c.first_unfit-at in
-    sym (rw (sym c.has_deadlines.ensures ∙ c.if-has_deadlines.false) at (way_met a.edition a.tasks (task_of a.task) _ (sym f.ensures) c.if-at-tasks.false))
+    rw c.at-2.ensures (sym (rw (sym c.has_deadlines.ensures ∙ c.if-has_deadlines.false) at (way_met a.edition a.tasks (task_of a.task) _ (sym f.ensures) c.if-at-tasks.false)))

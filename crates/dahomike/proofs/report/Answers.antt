@@ -11,7 +11,7 @@ use Rattle.dahomike.proofs.report.Goals as goal
 
 pub loop-i-init : goal.loop-i-init
 unfolding entries
-loop-i-init c = (omega arith, refl, refl)
+loop-i-init c = refl
 
 pub overflow_cast-b : goal.overflow_cast-b
 unfolding bound_in task_of no_task row
@@ -25,15 +25,12 @@ pub loop-i-preserved : goal.loop-i-preserved
 unfolding task_of no_task row
 loop-i-preserved c =
     let l = c.loop-i in
-    let b = c.args.wishes in (
-      omega arith,
-      c.put_entry.auto.out ∙ l.invariant.1,
-      c.put_entry.ensures
-          ∙ sets-entry (entry_size b) _ (λ j. entry-long b _ _ _) _ 0 l.i _ _ _ l.invariant.2 (omega arith) (ap (entry_bytes b _ _) c.bound-b.ensures),
-    )
+    let b = c.args.wishes in
+    c.put_entry.ensures
+    ∙ sets-entry (entry_size b) _ (λ j. entry-long b _ _ _) _ 0 l.i _ _ _ l.invariant (omega arith) (ap (entry_bytes b _ _) c.bound-b.ensures)
 
 pub returns : goal.returns
 unfolding entry_of bound_in
 returns c =
     let e : c.loop-i.i ≡ c.args.plan.tasks = omega arith in
-    rw (e, c.core_for_each-each.ensures) at c.loop-i.invariant.2
+    rw (e, c.core_for_each-each.ensures) at c.loop-i.invariant

@@ -6,4 +6,4 @@ pub returns : goal.returns
 returns c =
     let p = c in
     let z = p in
-    rw (c.put_rest.ensures, p.put_plan.ensures) (state-stored _ _ z.sized.ensures)
+    rw (c.put_rest.ensures, p.put_plan.ensures) (state-stored _ _ c.told-words)

@@ -13,7 +13,8 @@ pub returns-then-out-length : goal.returns-then-out-length
 returns-then-out-length c =
     let short : length (sentence_of c.args.number c.args.index c.args.value) ≤ 256 =
     sentence_short c.args.number c.args.index c.args.value (search rules) (search rules) (search rules) in
-    sentence_refused c.args.number c.args.index c.args.value (rw length-replicate short) c.compose-length.ensures c.args.out.now c.if-out-length.true
+    rw c.at.ensures
+    (sentence_refused c.args.number c.args.index c.args.value (rw length-replicate short) c.compose-length.ensures c.args.out.now c.if-out-length.true)
 
 pub slice_bounds-text-end : goal.slice_bounds-text-end
 slice_bounds-text-end c =

@@ -1,9 +1,15 @@
 -- `sheet::wish_plan` meets its contract.
-use Rattle.sheet.specs.WishedLaws.{few, plan-found}
+use Rattle.sheet.specs.WishedLaws.{few, plan-refused, plan-found}
+use borrow.Author.Rules.{rules}
 use Rattle.sheet.proofs.wish_plan.Goals as goal
 
+pub returns-in_err-solved : goal.returns-in_err-solved
+returns-in_err-solved c =
+    plan-refused c.args.plan c.args.offers _ (rw c.in_err-solved.was at c.solve_plan.ensures) c.from_residual.result (search rules)
+
 pub with_offsets-task-requires : goal.with_offsets-task-requires
-with_offsets-task-requires c = few _ _ _ c.solve_plan-solved.ensures c.in-Accepted.is
+with_offsets-task-requires c = few c.args.plan c.args.offers _ (rw c.in_ok-solved.was at c.solve_plan.ensures)
 
 pub returns : goal.returns
-returns c = plan-found _ _ _ c.solve_plan-solved.ensures c.in-Accepted.is _ c.with_offsets-task.ensures
+returns c =
+    plan-found c.args.plan c.args.offers _ (rw c.in_ok-solved.was at c.solve_plan.ensures) _ c.with_offsets-task.ensures

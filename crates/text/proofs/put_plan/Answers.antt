@@ -9,9 +9,8 @@ use native.Mathlib.Omega.{arith}
 use Rattle.tasks.specs.TaskSet.{row}
 use Rattle.tasks.specs.Content.{task_of, no_task}
 use Prim.Native.Nat.{◌+◌}
-use mathlib.Core.Path.{◌≡◌, refl, ap, ◌∙◌}
+use mathlib.Core.Path.{◌≡◌, ap, ◌∙◌}
 use lib.ListN.{length}
-use borrow.Author.Rules.{rules}
 use Rattle.text.proofs.put_plan.Goals as goal
 
 pub put_pair-at-requires : goal.put_pair-at-requires
@@ -19,7 +18,7 @@ unfolding counts_line words
 put_pair-at-requires c = let s = c in omega (arith, counts-short s.args.plan s.requires.0, s.requires.1)
 
 pub loop-i-init : goal.loop-i-init
-loop-i-init c = (search rules, refl, stored-none _ _ _)
+loop-i-init c = stored-none _ _ _
 
 pub offset_bounds-task-i : goal.offset_bounds-task-i
 offset_bounds-task-i c = let s = c in omega (arith, within s.args.plan s.requires.0)
@@ -43,8 +42,8 @@ put_task-at-requires c =
     omega (
       arith,
       line-room s.args.plan s.requires.0 o.result o.ensures k.i c.bound-b.result c.late.result k.at (omega arith) c.bound-b.ensures c.late.ensures
-          (k.invariant.2.place ∙ ap (λ n. n + length (entries (line_in o.result s.args.plan.edition s.args.plan.task s.args.plan.slack) k.i)) (q.ensures.place ∙ zero-add _)),
-      k.invariant.1,
+          (k.invariant.place ∙ ap (λ n. n + length (entries (line_in o.result s.args.plan.edition s.args.plan.task s.args.plan.slack) k.i)) (q.ensures.place ∙ zero-add _)),
+      k.auto.out,
       q.auto.out,
       s.requires.1,
     )
@@ -55,11 +54,8 @@ loop-i-preserved c =
     let k = c.loop-i in
     let o = c.core_for_each-each in
     let a = c.args in
-    let t = c.put_task-at in (
-      search rules,
-      t.auto.out ∙ k.invariant.1,
-      lines_next o.result a.plan.edition a.plan.task a.plan.slack k.i _ _ c.bound-b.ensures c.late.ensures k.invariant.2 t.ensures,
-    )
+    let t = c.put_task-at in
+    lines_next o.result a.plan.edition a.plan.task a.plan.slack k.i _ _ c.bound-b.ensures c.late.ensures k.invariant t.ensures
 
 pub returns : goal.returns
 unfolding counts_line words
@@ -68,4 +64,4 @@ returns c =
     let o = c.core_for_each-each in
     let s = c in
     let e : k.i ≡ s.args.plan.tasks = omega arith in
-    rw (plan-text s.args.plan s.requires.0 o.result o.ensures) (put-behind c.put_pair-at.ensures (rw e at k.invariant.2))
+    rw (plan-text s.args.plan s.requires.0 o.result o.ensures) (put-behind c.put_pair-at.ensures (rw e at k.invariant))

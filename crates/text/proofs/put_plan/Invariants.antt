@@ -2,13 +2,7 @@
 use Rattle.decimal.specs.Decimal.{Stored}
 use Rattle.numbers.specs.Bytes.{entries}
 use Rattle.text.specs.PrintedLaws.{line_in}
-use Prim.Native.Nat.{◌≤◌, ◌-◌}
-use mathlib.Core.Path.{◌≡◌}
-use lib.ListN.{length}
 use Rattle.text.proofs.put_plan.Given as goal
 
 abbrev pub invariant-loop-i : goal.invariant-loop-i
-invariant-loop-i l = (l.i ≤ l.tasks) × (length l.out ≡ length l.initial.out) × Stored l.initial.out l.initial.at (entries (line_in l.each l.edition l.task l.slack) l.i) l.at l.out
-
-abbrev pub decreases-loop-i : goal.decreases-loop-i
-decreases-loop-i l = l.tasks - l.i
+invariant-loop-i l = Stored l.initial.out l.initial.at (entries (line_in l.each l.edition l.task l.slack) l.i) l.at l.out

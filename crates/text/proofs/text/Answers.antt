@@ -12,25 +12,25 @@ use Rattle.text.proofs.text.Goals as goal
 
 pub put_plan-lines-requires : goal.put_plan-lines-requires
 put_plan-lines-requires c =
-    (judged-passed c.args.table.now _ c.judge-judgement.ensures c.in_default.is, search rules)
+    (judged-passed c.args.table.now _ c.judge-judgement.ensures c.in-Ok.is, search rules)
 
 pub put_counted-requires : goal.put_counted-requires
 put_counted-requires c =
     let a = c.args in
     let j = c.judge-judgement.ensures in
-    let e = c.in_default.is in
+    let e = c.in-Ok.is in
     let long : length a.out.now ≡ 1024 = search rules in (
       count-few a.table.now _ j,
       names-low a.table.now _ j,
       omega (arith, c.put_plan-lines.ensures.place, c.put_plan-lines.auto.out, plan-short _ (judged-passed a.table.now _ j e)),
     )
 
-pub returns-in_default : goal.returns-in_default
-returns-in_default c =
+pub returns-in-Ok : goal.returns-in-Ok
+returns-in-Ok c =
     let a = c.args in
     let r = c.judge-judgement.result in
     let j = c.judge-judgement.ensures in
-    let e = c.in_default.is in
+    let e = c.in-Ok.is in
     let long : length r.counted ≡ 8 = search rules in
     let few = count-few a.table.now _ j in
     text-whole a.table.now a.out.now (printed-plan a.table.now _ j e)
@@ -38,11 +38,11 @@ returns-in_default c =
     (search rules)
     (put-behind c.put_plan-lines.ensures c.put_counted.ensures)
 
-pub returns : goal.returns
-returns c =
+pub returns-in-Err : goal.returns-in-Err
+returns-in-Err c =
     let a = c.args in
     let j = c.judge-judgement.ensures in
-    let small : c.in-Refused.number < 256 = search rules in
-    let index_small : c.in-Refused.index < 65536 = search rules in
-    text-whole a.table.now a.out.now (printed-refusal a.table.now _ j _ _ c.in-Refused.is)
+    let small : c.in-Err.refusal.number < 256 = search rules in
+    let index_small : c.in-Err.refusal.index < 65536 = search rules in
+    text-whole a.table.now a.out.now (printed-refusal a.table.now _ j _ _ c.in-Err.is)
     (refusal-short _ _ small index_small) (search rules) c.put_refusal.ensures

@@ -12,8 +12,7 @@ unfolding row
 loop-i-preserved c =
     let a = c.args in
     let l = c.loop-i in (
-      omega arith,
-      length-set l.gain l.i c.cut_gain.result ∙ l.invariant.1,
-      gains-next a.share.now a.separation.now a.room.now a.slack.now [] l.i l.gain _ (omega (arith, l.invariant.1)) l.invariant.2
+      length-set l.gain l.i c.cut_gain.result ∙ l.invariant.0,
+      gains-next a.share.now a.separation.now a.room.now a.slack.now [] l.i l.gain _ (omega (arith, l.invariant.0)) l.invariant.1
           (gains-cut a.share.now a.separation.now a.room.now a.slack.now [] l.i _ c.cut_gain.ensures),
     )

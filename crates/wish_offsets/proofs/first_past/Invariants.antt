@@ -1,12 +1,8 @@
 -- No task before i has its slack above W − C.
 use Rattle.laws.specs.First.{first}
 use Rattle.wish_offsets.specs.Rows.{past_row}
-use Prim.Native.Nat.{◌≤◌, ◌-◌}
 use mathlib.Core.Path.{◌≡◌}
 use Rattle.wish_offsets.proofs.first_past.Given as goal
 
 abbrev pub invariant-loop-i : goal.invariant-loop-i
-invariant-loop-i l = (l.i ≤ l.tasks) × (first (past_row l.slack l.room) l.i ≡ l.i)
-
-abbrev pub decreases-loop-i : goal.decreases-loop-i
-decreases-loop-i l = l.tasks - l.i
+invariant-loop-i l = first (past_row l.slack l.room) l.i ≡ l.i

@@ -13,11 +13,9 @@ pub loop-i-preserved : goal.loop-i-preserved
 unfolding offset_row row
 loop-i-preserved c =
     let l = c.loop-i in
-    let a = c.args in (
-      omega arith,
-      ap (λ (v : ℕ). set l.offset l.i v) c.largest_offset.ensures
-          ∙ column-more l.offset (offset_row a.separation.now a.room.now a.slack.now) l.i (omega arith) l.invariant.1,
-    )
+    let a = c.args in
+    ap (λ (v : ℕ). set l.offset l.i v) c.largest_offset.ensures
+    ∙ column-more l.offset (offset_row a.separation.now a.room.now a.slack.now) l.i (omega arith) l.invariant
 
 pub loop-i-init : goal.loop-i-init
-loop-i-init c = (omega arith, filled_none _ 0 16)
+loop-i-init c = filled_none _ 0 16

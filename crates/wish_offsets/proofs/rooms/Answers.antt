@@ -15,7 +15,7 @@ unfolding room_row row
 loop-i-preserved c =
     let l = c.loop-i in
     let a = c.args in
-    (omega arith, column-more l.room (room_row a.wish.now a.budget.now) l.i (omega arith) l.invariant.1)
+    column-more l.room (room_row a.wish.now a.budget.now) l.i (omega arith) l.invariant
 
 pub loop-i-init : goal.loop-i-init
-loop-i-init c = (omega arith, filled_none _ 0 16)
+loop-i-init c = filled_none _ 0 16

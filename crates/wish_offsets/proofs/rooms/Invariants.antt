@@ -1,12 +1,8 @@
 -- The array is filled in order.
 use Rattle.laws.specs.Tab.{tab, cut}
 use Rattle.wish_offsets.specs.Rows.{room_row}
-use Prim.Native.Nat.{◌≤◌, ◌-◌}
 use mathlib.Core.Path.{◌≡◌}
 use Rattle.wish_offsets.proofs.rooms.Given as goal
 
 abbrev pub invariant-loop-i : goal.invariant-loop-i
-invariant-loop-i l = (l.i ≤ l.tasks) × (l.room ≡ tab (cut l.i (room_row l.wish l.budget) 0) 16)
-
-abbrev pub decreases-loop-i : goal.decreases-loop-i
-decreases-loop-i l = l.tasks - l.i
+invariant-loop-i l = l.room ≡ tab (cut l.i (room_row l.wish l.budget) 0) 16

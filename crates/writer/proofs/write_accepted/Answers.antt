@@ -1,7 +1,7 @@
 -- `writer::write_accepted` meets its contract: each return is a case of `Writes`.
+use Rattle.std.specs.Prelude.{Ok, Err}
 use native.Mathlib.Omega.{arith}
-use mathlib.Core.Path.{refl}
-use Rattle.writer.specs.declared.Written.TheVariants.{Length, Refused as NotWritten}
+use mathlib.Core.Path.{refl, ap}
 use Rattle.codec.specs.TaskLaws.{size_times}
 use Rattle.sections.specs.WriteLaws.{length-plan}
 use Rattle.writer.proofs.WriterLaws.{plan-few, write_short, write_done}
@@ -15,8 +15,8 @@ table_length-requires c =
 pub returns-then-out-table_length : goal.returns-then-out-table_length
 returns-then-out-table_length c =
     let s = c.args in
-    write_short s.plan s.out.now (NotWritten 24 0) c.requires
-    (omega (arith, length-plan s.plan, c.slack_count-offers.ensures.0, c.table_length.ensures, c.if-out-table_length.true)) refl refl
+    write_short s.plan s.out.now (Err c.at.result) c.requires
+    (omega (arith, length-plan s.plan, c.slack_count-offers.ensures.0, c.table_length.ensures, c.if-out-table_length.true)) (ap Err c.at.ensures) refl
 
 pub put_plan-requires : goal.put_plan-requires
 put_plan-requires c =
@@ -36,7 +36,7 @@ put_plan-requires c =
 pub returns : goal.returns
 returns c =
     let s = c.args in
-    write_done s.plan s.out.now (Length c.put_plan.result) c.requires _
+    write_done s.plan s.out.now (Ok c.put_plan.result) c.requires _
     (omega (
       arith,
       length-plan s.plan,

@@ -2,8 +2,7 @@
 use mathlib.Core.Bool.{true, false}
 use mathlib.Core.Path.{◌≡◌, sym, ◌∙◌}
 use Rattle.tasks.specs.declared.Plan.{Plan}
-use Rattle.tasks.specs.declared.Answer.{Answer}
-use Rattle.tasks.specs.declared.Answer.TheVariants.{Refused}
+use Rattle.tasks.specs.Answer.{Answer, Refused}
 use Rattle.tasks.specs.Content.{content_of}
 use Rattle.tasks.specs.Tests.{bad_edition, tests, test_plan}
 use Rattle.analysis.proofs.plan_test.test.Goals as goal
@@ -18,7 +17,7 @@ module _ (p : Plan) where
   known a e q = rw e q
 
 pub returns-then-is_unknown : goal.returns-then-is_unknown
-returns-then-is_unknown c = unknown c.args.plan (sym c.is_unknown.ensures ∙ c.if-is_unknown.true)
+returns-then-is_unknown c = rw c.at.ensures (unknown c.args.plan (sym c.is_unknown.ensures ∙ c.if-is_unknown.true))
 
 pub returns : goal.returns
 returns c = known c.args.plan _ (sym c.is_unknown.ensures ∙ c.if-is_unknown.false) c.test_entries.ensures

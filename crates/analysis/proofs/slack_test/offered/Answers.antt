@@ -1,6 +1,5 @@
 -- Offered slack is tested with the amount at it, and the tasks that this counts are named.
 use Rattle.slack.specs.StageLaws.{offered-refused, offered-passed, offered-had}
-use Rattle.fields.specs.StageLaws.{not_both}
 use Rattle.slack.specs.StageLaws.{more, tasks-high, few, surplus-high, amount-row}
 use native.Mathlib.Omega.{arith}
 use mathlib.Core.Path.{sym, ◌∙◌}
@@ -17,7 +16,7 @@ returns-then-bad-tasks c =
     let used = c.tidy_slack-used in
     let whole = c.amount-whole.ensures.whole ∙ amount-row g used.result in
     let r = offered-refused g _ _ used.ensures _ whole _ c.first_uncovered-bad.ensures c.if-bad-tasks.true in
-    record { answer = c.untested.ensures ∙ sym r; had = λ e. absurd (not_both _ 12 _ c.untested.ensures e) }
+    record { answer = rw c.at.ensures (sym r); had = tt }
 
 pub returns : goal.returns
 returns c =
@@ -28,5 +27,5 @@ returns c =
     let bad = c.first_uncovered-bad.ensures in
     record {
       answer = sym (offered-passed g _ _ used.ensures _ whole _ bad c.if-bad-tasks.false);
-      had = λ _. offered-had g _ _ used.ensures _ whole _ bad _ a.names;
+      had = offered-had g _ _ used.ensures _ whole _ bad _ a.names;
     }

@@ -12,110 +12,110 @@ use Rattle.slack.specs.Rates.{Ranges, Rated, rates_test}
 use Rattle.slack.specs.Arrays.{ArraysOf}
 use Rattle.slack.specs.StageLaws.{Framed}
 use Rattle.analysis.specs.SlackTest.{Offered, Unoffered, RatesTested, slack_test}
-use Rattle.tasks.specs.declared.Answer.TheVariants.{Accepted, Refused}
+use Rattle.std.specs.Prelude.{Result, Ok, Err, IfOk}
+use Rattle.tasks.specs.declared.refusal.Refusal.{Refusal}
+use Rattle.tasks.specs.Answer.{answer_of}
 use Rattle.fields.specs.Columns.{set_from}
 use Rattle.slack.specs.StageLaws.{arrays-of}
 use Rattle.analysis.specs.SlackTestLaws.{limits-from, passed_on, slack-none, slack-own, had-own, slack-count, slack-offered}
-use Rattle.fields.specs.StageLaws.{not_both}
 use Prim.Native.Nat.{ℕ}
 use mathlib.Core.Path.{◌≡◌, sym, ◌∙◌}
 use Rattle.analysis.proofs.slack_test.test_rated.Goals as goal
 
 module _ (m n : ℕ) (separation budget offset slack : List ℕ) (k : ℕ) (f : Framed 1 m n) (g : Ranges (set_from m n separation budget offset))
-    (r : Rates) (e : Rated (set_from m n separation budget offset) r)
+    (r : Rates) (e : Rated (set_from m n separation budget offset) (Ok r))
   where
-    tied : r.answer ≡ Accepted → core_for_each m n ≡ false → ArraysOf (set_from m n separation budget offset) r.share budget offset r.multiple r.surplus m n
-    tied a more =
-        arrays-of m n separation budget offset r f.tasks-high (limits-from m n separation budget offset f g (sym e.answer ∙ a)) (leb-false _ _ more) (e.figures a)
+    tied : core_for_each m n ≡ false → ArraysOf (set_from m n separation budget offset) r.share budget offset r.multiple r.surplus m n
+    tied more =
+        arrays-of m n separation budget offset r f.tasks-high (limits-from m n separation budget offset f g (sym e.answer)) (leb-false _ _ more) e.figures
 
-    passed : r.answer ≡ Accepted → or_next (rates_test (set_from m n separation budget offset)) (slack_test (set_from m n separation budget offset) slack k) ≡ slack_test (set_from m n separation budget offset) slack k
-    passed a = passed_on (rates_test (set_from m n separation budget offset)) _ (sym e.answer ∙ a)
+    passed : or_next (rates_test (set_from m n separation budget offset)) (slack_test (set_from m n separation budget offset) slack k) ≡ slack_test (set_from m n separation budget offset) slack k
+    passed = passed_on (rates_test (set_from m n separation budget offset)) _ (sym e.answer)
 
     own-slack :
-        (t : Tested) → r.answer ≡ Accepted → core_for_each m n ≡ true → (t.answer ≡ refuse 11 (not (eqb k 0))) × (t.slack ≡ replicate 16 0) →
+        (t : Result Tested Refusal) → core_for_each m n ≡ true → (answer_of t ≡ refuse 11 (not (eqb k 0))) × IfOk t (λ t. t.slack ≡ replicate 16 0) →
         RatesTested (set_from m n separation budget offset) slack k t
     unfolding set_from
-    own-slack t a each o =
+    own-slack (Ok t) each o =
         record {
-          answer = o.0 ∙ sym (passed a ∙ slack-own (set_from m n separation budget offset) slack k each);
-          had = λ v. had-own (set_from m n separation budget offset) slack k _ _ each o.1 (eqb-true k 0 (not-false _ (refuse-passed 11 _ (sym o.0 ∙ v))));
+          answer = o.0 ∙ sym (passed ∙ slack-own (set_from m n separation budget offset) slack k each);
+          had = had-own (set_from m n separation budget offset) slack k _ _ each o.1 (eqb-true k 0 (not-false _ (refuse-passed 11 _ (sym o.0))));
+        }
+    own-slack (Err q) each o =
+        record {
+          answer = o.0 ∙ sym (passed ∙ slack-own (set_from m n separation budget offset) slack k each);
+          had = tt;
         }
 
     found-slack :
-        (t : Tested) → r.answer ≡ Accepted → k ≡ 0 → Unoffered (set_from m n separation budget offset) t →
-        RatesTested (set_from m n separation budget offset) slack k t
-    found-slack t a z q =
+        (t : Tested) → k ≡ 0 → Unoffered (set_from m n separation budget offset) t →
+        RatesTested (set_from m n separation budget offset) slack k (Ok t)
+    found-slack t z q =
         record {
-          answer = q.answer ∙ sym (passed a ∙ slack-none (set_from m n separation budget offset) slack k z);
-          had = λ _. rw z q.had;
+          answer = sym (passed ∙ slack-none (set_from m n separation budget offset) slack k z);
+          had = rw z q.had;
         }
 
     wrong-count :
-        (t : Tested) → r.answer ≡ Accepted → core_for_each m n ≡ false → (k ≡ 0 → ⊥) → (k ≡ n → ⊥) → t.answer ≡ Refused 11 0 →
-        RatesTested (set_from m n separation budget offset) slack k t
+        (q : Refusal) → core_for_each m n ≡ false → (k ≡ 0 → ⊥) → (k ≡ n → ⊥) → q ≡ record { number = 11; index = 0 } →
+        RatesTested (set_from m n separation budget offset) slack k (Err q)
     unfolding set_from
-    wrong-count t a more z w u =
+    wrong-count q more z w u =
         record {
-          answer = u ∙ sym (passed a ∙ slack-count (set_from m n separation budget offset) slack k more z w);
-          had = λ v. absurd (not_both _ 11 0 u v);
+          answer = rw u (sym (passed ∙ slack-count (set_from m n separation budget offset) slack k more z w));
+          had = tt;
         }
 
     offered-slack :
-        (t : Tested) → r.answer ≡ Accepted → core_for_each m n ≡ false → (k ≡ 0 → ⊥) → k ≡ n → Offered (set_from m n separation budget offset) slack t →
+        (t : Result Tested Refusal) → core_for_each m n ≡ false → (k ≡ 0 → ⊥) → k ≡ n → Offered (set_from m n separation budget offset) slack t →
         RatesTested (set_from m n separation budget offset) slack k t
     unfolding set_from
-    offered-slack t a more z w o =
+    offered-slack t more z w o =
         record {
-          answer = o.answer ∙ sym (passed a ∙ slack-offered (set_from m n separation budget offset) slack k more z w);
-          had = λ v. rw (ne_eqb k 0 z) (o.had v);
+          answer = o.answer ∙ sym (passed ∙ slack-offered (set_from m n separation budget offset) slack k more z w);
+          had = rw (ne_eqb k 0 z) o.had;
         }
 
 pub returns-then-core_for_each : goal.returns-then-core_for_each
 returns-then-core_for_each c =
-    let d = c in
-    let s = d in
-    own-slack s.args.cores _ _ _ _ _ _ s.requires.0 s.requires.1 _ d.rate-rates.ensures _ d.in-Accepted.is
-    (sym d.core_for_each.ensures ∙ c.if-core_for_each.true) c.own_cores.ensures
+    let s = c in
+    own-slack s.args.cores _ _ _ _ _ _ s.requires.0 s.requires.1 _ (rw c.in_ok-rates.was at c.rate.ensures) _
+    (sym c.core_for_each.ensures ∙ c.if-core_for_each.true) c.own_cores.ensures
 
 pub unoffered-requires : goal.unoffered-requires
 unoffered-requires c =
-    let d = c in
-    let s = d in (
+    let s = c in (
       _,
-      tied s.args.cores _ _ _ _ s.args.slack.now s.args.offers s.requires.0 s.requires.1 _ d.rate-rates.ensures d.in-Accepted.is
-          (sym d.core_for_each.ensures ∙ c.if-core_for_each.false),
+      tied s.args.cores _ _ _ _ s.args.slack.now s.args.offers s.requires.0 s.requires.1 _ (rw c.in_ok-rates.was at c.rate.ensures)
+          (sym c.core_for_each.ensures ∙ c.if-core_for_each.false),
     )
 
 pub returns-then-offers-eq0 : goal.returns-then-offers-eq0
 returns-then-offers-eq0 c =
-    let d = c in
-    let s = d in
-    let a = d.in-Accepted.is in
-    let more = sym d.core_for_each.ensures ∙ c.if-core_for_each.false in
-    let t = tied s.args.cores _ _ _ _ s.args.slack.now s.args.offers s.requires.0 s.requires.1 _ d.rate-rates.ensures a more in
-    found-slack s.args.cores _ _ _ _ _ _ s.requires.0 s.requires.1 _ d.rate-rates.ensures _ a c.if-offers-eq0.true (c.unoffered.ensures _ t)
+    let s = c in
+    let rated = rw c.in_ok-rates.was at c.rate.ensures in
+    let more = sym c.core_for_each.ensures ∙ c.if-core_for_each.false in
+    let t = tied s.args.cores _ _ _ _ s.args.slack.now s.args.offers s.requires.0 s.requires.1 _ rated more in
+    found-slack s.args.cores _ _ _ _ _ _ s.requires.0 s.requires.1 _ rated _ c.if-offers-eq0.true (c.unoffered.ensures _ t)
 
 pub returns-then-offers-tasks : goal.returns-then-offers-tasks
 returns-then-offers-tasks c =
-    let d = c in
-    let s = d in
-    wrong-count s.args.cores _ _ _ _ _ _ s.requires.0 s.requires.1 _ d.rate-rates.ensures _ d.in-Accepted.is
-    (sym d.core_for_each.ensures ∙ c.if-core_for_each.false) c.if-offers-eq0.false c.if-offers-tasks.true c.untested-then-offers-tasks.ensures
+    let s = c in
+    wrong-count s.args.cores _ _ _ _ _ _ s.requires.0 s.requires.1 _ (rw c.in_ok-rates.was at c.rate.ensures) _
+    (sym c.core_for_each.ensures ∙ c.if-core_for_each.false) c.if-offers-eq0.false c.if-offers-tasks.true c.at.ensures
 
 pub offered-requires : goal.offered-requires
 offered-requires c =
-    let d = c in
-    let s = d in (
+    let s = c in (
       _,
-      tied s.args.cores _ _ _ _ s.args.slack.now s.args.offers s.requires.0 s.requires.1 _ d.rate-rates.ensures d.in-Accepted.is
-          (sym d.core_for_each.ensures ∙ c.if-core_for_each.false),
+      tied s.args.cores _ _ _ _ s.args.slack.now s.args.offers s.requires.0 s.requires.1 _ (rw c.in_ok-rates.was at c.rate.ensures)
+          (sym c.core_for_each.ensures ∙ c.if-core_for_each.false),
     )
 
 pub returns : goal.returns
 returns c =
-    let d = c in
-    let s = d in
-    let a = d.in-Accepted.is in
-    let more = sym d.core_for_each.ensures ∙ c.if-core_for_each.false in
-    let t = tied s.args.cores _ _ _ _ s.args.slack.now s.args.offers s.requires.0 s.requires.1 _ d.rate-rates.ensures a more in
-    offered-slack s.args.cores _ _ _ _ _ _ s.requires.0 s.requires.1 _ d.rate-rates.ensures _ a more c.if-offers-eq0.false c.if-offers-tasks.false (c.offered.ensures _ t)
+    let s = c in
+    let rated = rw c.in_ok-rates.was at c.rate.ensures in
+    let more = sym c.core_for_each.ensures ∙ c.if-core_for_each.false in
+    let t = tied s.args.cores _ _ _ _ s.args.slack.now s.args.offers s.requires.0 s.requires.1 _ rated more in
+    offered-slack s.args.cores _ _ _ _ _ _ s.requires.0 s.requires.1 _ rated _ more c.if-offers-eq0.false c.if-offers-tasks.false (c.offered.ensures _ t)

@@ -10,9 +10,9 @@ pub returns-in_default : goal.returns-in_default
 returns-in_default c = open_refused c.args.plan _ c.test-answer.ensures _ _ _ c.in_default.is c.zeros-state.ensures
 
 pub tidied-tidy-requires : goal.tidied-tidy-requires
-tidied-tidy-requires c = open_limits c.args.plan (sym c.test-answer.ensures ∙ c.in-Accepted.is)
+tidied-tidy-requires c = open_limits c.args.plan (sym c.test-answer.ensures ∙ c.in-Ok.is)
 
 pub returns : goal.returns
 returns c =
-    open_accepted c.args.plan _ c.test-answer.ensures _ c.in-Accepted.is
+    open_accepted c.args.plan _ c.test-answer.ensures _ c.in-Ok.is
     (c.empty-state.ensures ∙ ap (λ (q : Plan). state_of q opened) c.tidied-tidy.ensures)

@@ -14,4 +14,4 @@ returns-in_default c =
 pub overflow_add-result : goal.overflow_add-result
 overflow_add-result c =
     let d = c.step_fields-ran.ensures in
-    omega (arith, (step-passed c.args.state (sym d.0 ∙ c.in-Accepted.is)).1)
+    omega (arith, (step-passed c.args.state (sym d.0 ∙ c.in-Ok.is)).1)

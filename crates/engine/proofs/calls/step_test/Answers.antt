@@ -7,11 +7,11 @@ use Rattle.engine.proofs.calls.step_test.Goals as goal
 
 pub returns-then-not-sound : goal.returns-then-not-sound
 unfolding step_tests first_met
-returns-then-not-sound c = rw (sym c.sound.ensures ∙ c.if-not-sound.true)
+returns-then-not-sound c = rw (c.at.ensures, sym c.sound.ensures ∙ c.if-not-sound.true)
 
 pub returns-then-clock-eq-CLOCK_END : goal.returns-then-clock-eq-CLOCK_END
 unfolding step_tests first_met
-returns-then-clock-eq-CLOCK_END c = rw (sym c.sound.ensures ∙ c.if-not-sound.false, eq-eqb _ _ c.if-clock-eq-CLOCK_END.true)
+returns-then-clock-eq-CLOCK_END c = rw (c.at-then-clock-eq-CLOCK_END.ensures, sym c.sound.ensures ∙ c.if-not-sound.false, eq-eqb _ _ c.if-clock-eq-CLOCK_END.true)
 
 pub returns : goal.returns
 unfolding step_tests first_met

@@ -10,7 +10,7 @@ use Rattle.engine.proofs.calls.task_test.Goals as goal
 pub returns-then-tasks-task : goal.returns-then-tasks-task
 returns-then-tasks-task c = λ remaining release.
     let x = c.args in
-    sym (admit_none (state_from x.plan x.clock x.jobs.now x.released.now x.last.now remaining release) x.task x.demand c.if-tasks-task.true)
+    rw c.at.ensures (sym (admit_none (state_from x.plan x.clock x.jobs.now x.released.now x.last.now remaining release) x.task x.demand c.if-tasks-task.true))
 
 pub returns : goal.returns
 unfolding task_of no_task row flag_at

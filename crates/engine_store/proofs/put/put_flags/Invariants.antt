@@ -1,5 +1,4 @@
 -- `engine_store::put::put_flags` meets its contract; the loop's invariant says what its turns so far have made.
-use Prim.Native.Nat.{◌-◌, ◌≤◌}
 use mathlib.Core.Path.{◌≡◌}
 use lib.Seq.{sets}
 use Rattle.laws.specs.Tab.{tab}
@@ -9,7 +8,4 @@ use Rattle.engine_words.specs.Words.{word_of_flag}
 use Rattle.engine_store.proofs.put.put_flags.Given as goal
 
 abbrev pub invariant-loop-i : goal.invariant-loop-i
-invariant-loop-i l = (l.i ≤ 16) × (l.words ≡ sets l.initial.words 109 (tab (λ j. word_of_flag (get_or l.flags j false)) l.i))
-
-abbrev pub decreases-loop-i : goal.decreases-loop-i
-decreases-loop-i l = 16 - l.i
+invariant-loop-i l = l.words ≡ sets l.initial.words 109 (tab (λ j. word_of_flag (get_or l.flags j false)) l.i)

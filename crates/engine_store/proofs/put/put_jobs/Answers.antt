@@ -6,15 +6,15 @@ use Rattle.engine_words.proofs.PartLaws.{stored-none, stored_next}
 use Rattle.engine_store.proofs.put.put_jobs.Goals as goal
 
 pub loop-i-init : goal.loop-i-init
-loop-i-init c = (omega arith, stored-none _ _ _)
+loop-i-init c = stored-none _ _ _
 
-pub word-requires : goal.word-requires
+pub overflow_cast-words : goal.overflow_cast-words
 unfolding row
-word-requires c = omega (arith, c.requires c.loop-i.i (omega arith))
+overflow_cast-words c = omega (arith, c.requires c.loop-i.i (omega arith))
 
 pub loop-i-preserved : goal.loop-i-preserved
 unfolding row
 loop-i-preserved c =
     let l = c.loop-i in
     let a = c.args in
-    (omega arith, rw c.word.ensures rw l.invariant.1 (stored_next (row a.jobs.now) _ 93 _ l.i refl))
+    rw l.invariant (stored_next (row a.jobs.now) _ 93 _ l.i refl)

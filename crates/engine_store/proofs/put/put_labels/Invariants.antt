@@ -1,5 +1,4 @@
 -- `engine_store::put::put_labels` meets its contract; the loop's invariant says what its turns so far have made.
-use Prim.Native.Nat.{◌-◌, ◌≤◌}
 use mathlib.Core.Path.{◌≡◌}
 use lib.Seq.{sets}
 use Rattle.laws.specs.Tab.{tab}
@@ -7,7 +6,4 @@ use Rattle.tasks.specs.TaskSet.{row}
 use Rattle.engine_store.proofs.put.put_labels.Given as goal
 
 abbrev pub invariant-loop-i : goal.invariant-loop-i
-invariant-loop-i l = (l.i ≤ 8) × (l.words ≡ sets l.initial.words 4 (tab (row l.labels) l.i))
-
-abbrev pub decreases-loop-i : goal.decreases-loop-i
-decreases-loop-i l = 8 - l.i
+invariant-loop-i l = l.words ≡ sets l.initial.words 4 (tab (row l.labels) l.i)

@@ -12,16 +12,14 @@ use Rattle.engine_store.proofs.put.put_tasks.Goals as goal
 
 pub loop-i-init : goal.loop-i-init
 unfolding entries
-loop-i-init c = (omega arith, refl)
+loop-i-init c = refl
 
 pub loop-i-preserved : goal.loop-i-preserved
 unfolding entries task_of task_words no_task
 loop-i-preserved c =
     let l = c.loop-i in
-    let a = c.args in (
-      omega arith,
-      rw (c.put_task.ensures, l.invariant.1)
-          (sets-next a.words.now 12 (12 + 4 * l.i) (entries (λ j. task_words (task_of a.task j)) l.i) (task_words (task_of a.task l.i))
-          (omega (arith, length-entries 4 (λ j. task_words (task_of a.task j)) (λ j. refl) l.i))
-          ∙ rw add-one),
-    )
+    let a = c.args in
+    rw (c.put_task.ensures, l.invariant)
+    (sets-next a.words.now 12 (12 + 4 * l.i) (entries (λ j. task_words (task_of a.task j)) l.i) (task_words (task_of a.task l.i))
+    (omega (arith, length-entries 4 (λ j. task_words (task_of a.task j)) (λ j. refl) l.i))
+    ∙ rw add-one)

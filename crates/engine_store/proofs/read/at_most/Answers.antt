@@ -10,7 +10,7 @@ use Rattle.engine_store.proofs.read.at_most.Goals as goal
 
 pub loop-i-init : goal.loop-i-init
 unfolding all_of
-loop-i-init c = (omega arith, refl)
+loop-i-init c = refl
 
 pub returns-then-high-words : goal.returns-then-high-words
 unfolding row
@@ -23,4 +23,4 @@ unfolding row
 loop-i-preserved c =
     let l = c.loop-i in
     let a = c.args in
-    (omega arith, all_more _ l.i l.invariant.1 (le-leb (row a.words.now (a.at + l.i)) a.high (omega arith)))
+    all_more _ l.i l.invariant (le-leb (row a.words.now (a.at + l.i)) a.high (omega arith))

@@ -1,5 +1,5 @@
 -- `engine_store::read::at_most` meets its contract; the loop's invariant says what its turns so far have made.
-use Prim.Native.Nat.{◌+◌, ◌-◌, ◌≤◌}
+use Prim.Native.Nat.{◌+◌}
 use mathlib.Core.Bool.{true}
 use mathlib.Core.Path.{◌≡◌}
 use lib.Dec.{leb}
@@ -8,7 +8,4 @@ use Rattle.state.specs.SoundState.{all_of}
 use Rattle.engine_store.proofs.read.at_most.Given as goal
 
 abbrev pub invariant-loop-i : goal.invariant-loop-i
-invariant-loop-i l = (l.i ≤ l.count) × (all_of (λ j. leb (row l.words (l.at + j)) l.high) l.i ≡ true)
-
-abbrev pub decreases-loop-i : goal.decreases-loop-i
-decreases-loop-i l = l.count - l.i
+invariant-loop-i l = all_of (λ j. leb (row l.words (l.at + j)) l.high) l.i ≡ true

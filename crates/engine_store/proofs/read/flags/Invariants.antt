@@ -3,12 +3,9 @@ use lib.Dec.{eqb}
 use mathlib.Core.Bool.{false}
 use Rattle.laws.specs.Tab.{tab, cut}
 use Rattle.tasks.specs.TaskSet.{row}
-use Prim.Native.Nat.{◌+◌, ◌-◌, ◌≤◌}
+use Prim.Native.Nat.{◌+◌}
 use mathlib.Core.Path.{◌≡◌}
 use Rattle.engine_store.proofs.read.flags.Given as goal
 
 abbrev pub invariant-loop-i : goal.invariant-loop-i
-invariant-loop-i l = (l.i ≤ 16) × (l.flags ≡ tab (cut l.i (λ j. eqb (row l.words (109 + j)) 1) false) 16)
-
-abbrev pub decreases-loop-i : goal.decreases-loop-i
-decreases-loop-i l = 16 - l.i
+invariant-loop-i l = l.flags ≡ tab (cut l.i (λ j. eqb (row l.words (109 + j)) 1) false) 16

@@ -8,18 +8,18 @@ use mathlib.Core.Path.{◌≡◌, ◌∙◌}
 use Rattle.engine_store.proofs.read.jobs.Goals as goal
 
 pub loop-i-init : goal.loop-i-init
-loop-i-init c = (omega arith, filled_none _ 0 16)
+loop-i-init c = filled_none _ 0 16
 
 pub loop-i-preserved : goal.loop-i-preserved
 unfolding row
 loop-i-preserved c =
     let l = c.loop-i in
     let a = c.args in
-    (omega arith, rw c.count.ensures rw l.invariant.1 (filled_next (λ j. row a.words.now (93 + j)) 0 l.i 16 (omega arith)))
+    rw l.invariant (filled_next (λ j. row a.words.now (93 + j)) 0 l.i 16 (omega arith))
 
 pub returns : goal.returns
 unfolding part
 returns c =
     let l = c.loop-i in
     let e : l.i ≡ 16 = omega arith in
-    (rw e at l.invariant.1) ∙ cut_all 16 _ 0
+    (rw e at l.invariant) ∙ cut_all 16 _ 0

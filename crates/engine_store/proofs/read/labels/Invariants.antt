@@ -1,12 +1,9 @@
 -- `engine_store::read::labels` meets its contract; the loop's invariant says what its turns so far have made.
 use Rattle.laws.specs.Tab.{tab, cut}
 use Rattle.tasks.specs.TaskSet.{row}
-use Prim.Native.Nat.{◌+◌, ◌-◌, ◌≤◌}
+use Prim.Native.Nat.{◌+◌}
 use mathlib.Core.Path.{◌≡◌}
 use Rattle.engine_store.proofs.read.labels.Given as goal
 
 abbrev pub invariant-loop-i : goal.invariant-loop-i
-invariant-loop-i l = (l.i ≤ 8) × (l.labels ≡ tab (cut l.i (λ j. row l.words (4 + j)) 0) 8)
-
-abbrev pub decreases-loop-i : goal.decreases-loop-i
-decreases-loop-i l = 8 - l.i
+invariant-loop-i l = l.labels ≡ tab (cut l.i (λ j. row l.words (4 + j)) 0) 8

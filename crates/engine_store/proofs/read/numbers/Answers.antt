@@ -1,25 +1,19 @@
--- `engine_store::read::numbers` meets its contract; the loop's invariant says what its turns so far have made.
-use Rattle.laws.specs.TabLaws.{filled_none, filled_next, cut_all}
+-- `engine_store::read::numbers` meets its contract: a slice of the words has the words from its beginning on.
+use Rattle.std.specs.Prelude.{ℕ, ◌+◌, ◌≤◌, ◌≡◌, List, length, drop}
+use Rattle.std.proofs.Common.{arith, ◌∙◌, length-take, length-drop, get_or-take, get_or-drop}
+use borrow.Rule.Slice.PartMut.{mid_of}
+use Rattle.laws.specs.TabLaws.{ext_tab}
 use Rattle.tasks.specs.TaskSet.{row}
 use Rattle.engine_words.specs.Words.{part}
-use native.Mathlib.Omega.{arith}
-use Prim.Native.Nat.{◌+◌}
-use mathlib.Core.Path.{◌≡◌, ◌∙◌}
 use Rattle.engine_store.proofs.read.numbers.Goals as goal
 
-pub loop-i-init : goal.loop-i-init
-loop-i-init c = (omega arith, filled_none _ 0 16)
-
-pub loop-i-preserved : goal.loop-i-preserved
-unfolding row
-loop-i-preserved c =
-    let l = c.loop-i in
-    let a = c.args in
-    (omega arith, rw l.invariant.1 (filled_next (λ j. row a.words.now (a.at + j)) 0 l.i 16 (omega arith)))
+taken : (l : List ℕ) (at n m : ℕ) → m ≡ n → at + n ≤ length l → mid_of at m l ≡ part l at n
+unfolding part row
+taken l at n m e h =
+    rw e
+    (ext_tab (λ i. row l (at + i)) (mid_of at n l) n 0
+    (omega (arith, length-take n (drop at l), length-drop at l))
+    (λ i k. get_or-take n (drop at l) i 0 k ∙ get_or-drop at l i 0))
 
 pub returns : goal.returns
-unfolding part
-returns c =
-    let l = c.loop-i in
-    let e : l.i ≡ 16 = omega arith in
-    (rw e at l.invariant.1) ∙ cut_all 16 _ 0
+returns g c = c.copy_from_slice.ensures.after ∙ taken c.args.words.now c.args.at g.row.N _ (omega arith) (omega arith)

@@ -5,8 +5,4 @@ use Rattle.engine_store.proofs.read.read.Goals as goal
 
 pub returns : goal.returns
 unfolding fields_in row
-returns c =
-    let j = c in
-    let p = j in
-    let k = p in
-    rw (p.plan.ensures, j.jobs.ensures, c.flags.ensures, c.numbers.ensures, k.places.ensures, k.places-2.ensures)
+returns c = rw (c.plan.ensures, c.jobs.ensures, c.flags.ensures, c.numbers.ensures, c.numbers-2.ensures, c.numbers-3.ensures)

@@ -9,17 +9,17 @@ use Rattle.engine_words.specs.Words.{task_in}
 use Rattle.engine_store.proofs.read.tasks.Goals as goal
 
 pub loop-i-init : goal.loop-i-init
-loop-i-init c = (omega arith, rw c.no_task-none.ensures (filled_none _ no_task 16))
+loop-i-init c = rw c.no_task-task.ensures (filled_none _ no_task 16)
 
 pub loop-i-preserved : goal.loop-i-preserved
 unfolding task_in row
 loop-i-preserved c =
     let l = c.loop-i in
     let a = c.args in
-    (omega arith, rw l.invariant.1 (filled_next (λ j. task_in a.words.now (12 + 4 * j)) no_task l.i 16 (omega arith)))
+    rw l.invariant (filled_next (λ j. task_in a.words.now (12 + 4 * j)) no_task l.i 16 (omega arith))
 
 pub returns : goal.returns
 returns c =
     let l = c.loop-i in
     let e : l.i ≡ 16 = omega arith in
-    (rw e at l.invariant.1) ∙ cut_all 16 _ no_task
+    (rw e at l.invariant) ∙ cut_all 16 _ no_task

@@ -6,7 +6,7 @@ use Rattle.entry.proofs.Run.enter.Goals as goal
 pub returns-then-release-self : goal.returns-then-release-self
 returns-then-release-self c =
     λ p out₀ X.
-    enter_back X c.release_at-release.ensures c.if-release-self.true c.put_refused.ensures
+    enter_back X c.release_at-release.ensures c.if-release-self.true (rw c.number.ensures at c.put_refused.ensures)
 
 pub advance-requires : goal.advance-requires
 advance-requires c = (c.if-release-self.false, enter_ready c.requires.1.1 c.release_at-release.ensures)

@@ -3,17 +3,12 @@ use Rattle.running.proofs.HandLaws.{hand_low, answer_20, hand_answer, hand_refus
 use Rattle.history.specs.Engine.{outcome_of}
 use Rattle.state.proofs.CallLaws.{admission-room}
 use Rattle.tasks.specs.TaskSet.{row}
-use Rattle.tasks.specs.Tests.{number_of}
-use Rattle.history.specs.Report.{refusal}
-use Rattle.logs.specs.LogBytes.{report_bytes}
 use native.Mathlib.Omega.{arith}
-use Prim.Native.Nat.{ℕ, ◌*◌}
 use mathlib.Core.Path.{refl, sym, ap, ◌∙◌}
-use lib.Seq.{sets}
 use Rattle.entry.proofs.Run.hand.Goals as goal
 
 pub returns-then-on-task : goal.returns-then-on-task
-returns-then-on-task c = (refl, λ p l out₀ X. hand_refused X (answer_20 X c.if-on-task.true) c.put_refused.ensures)
+returns-then-on-task c = (refl, λ p l out₀ X. hand_refused X (answer_20 X c.if-on-task.true) (rw c.number.ensures at c.put_refused.ensures))
 
 pub offset_bounds-self-task : goal.offset_bounds-self-task
 offset_bounds-self-task c = omega (arith, hand_low c.requires.1.1.1 c.if-on-task.false)
@@ -42,42 +37,39 @@ offset_bounds-self-task-2 c = omega (arith, hand_low c.requires.1.1.1 c.if-on-ta
 pub bounds-self-task-3 : goal.bounds-self-task-3
 bounds-self-task-3 c = hand_low c.requires.1.1.1 c.if-on-task.false
 
-pub returns-in_default : goal.returns-in_default
+pub returns-in-Err : goal.returns-in-Err
 unfolding row
-returns-in_default c =
-    let a = c.args in
-    let told = c.in_default.is in (
-      refl,
-      λ p l out₀ X.
-          hand_refused X
-          (sym (hand_answer X c.if-on-task.false c.admission_test-answer.ensures) ∙ ap outcome_of told)
-          (c.put_refused-in_default.ensures
-          ∙ ap (λ (n : ℕ). sets a.out.now (8 * a.e) (report_bytes (refusal n))) (c.number.ensures ∙ ap number_of told)),
-    )
+returns-in-Err c = (
+  refl,
+  λ p l out₀ X.
+      hand_refused X
+      (sym (hand_answer X c.if-on-task.false c.admission_test-test.ensures) ∙ ap outcome_of c.in-Err.is)
+      c.put_refused-in-Err.ensures,
+)
 
 pub overflow_mul-self : goal.overflow_mul-self
 overflow_mul-self c =
-    let r = admission-room _ _ _ _ _ _ _ (sym c.admission_test-answer.ensures ∙ c.in-Accepted.is) in
+    let r = admission-room _ _ _ _ _ _ _ (sym c.admission_test-test.ensures ∙ c.in_default.is) in
     omega (arith, hand_low c.requires.1.1.1 c.if-on-task.false, r)
 
 pub overflow_add-self : goal.overflow_add-self
 overflow_add-self c =
-    let r = admission-room _ _ _ _ _ _ _ (sym c.admission_test-answer.ensures ∙ c.in-Accepted.is) in
+    let r = admission-room _ _ _ _ _ _ _ (sym c.admission_test-test.ensures ∙ c.in_default.is) in
     omega (arith, hand_low c.requires.1.1.1 c.if-on-task.false, r)
 
 pub offset_bounds-self-task-3 : goal.offset_bounds-self-task-3
 offset_bounds-self-task-3 c =
-    let r = admission-room _ _ _ _ _ _ _ (sym c.admission_test-answer.ensures ∙ c.in-Accepted.is) in
+    let r = admission-room _ _ _ _ _ _ _ (sym c.admission_test-test.ensures ∙ c.in_default.is) in
     omega (arith, hand_low c.requires.1.1.1 c.if-on-task.false, r)
 
 pub bounds-self-task-4 : goal.bounds-self-task-4
 bounds-self-task-4 c =
-    let r = admission-room _ _ _ _ _ _ _ (sym c.admission_test-answer.ensures ∙ c.in-Accepted.is) in
+    let r = admission-room _ _ _ _ _ _ _ (sym c.admission_test-test.ensures ∙ c.in_default.is) in
     omega (arith, hand_low c.requires.1.1.1 c.if-on-task.false, r)
 
 pub overflow_add-self-2 : goal.overflow_add-self-2
 overflow_add-self-2 c =
-    let r = admission-room _ _ _ _ _ _ _ (sym c.admission_test-answer.ensures ∙ c.in-Accepted.is) in
+    let r = admission-room _ _ _ _ _ _ _ (sym c.admission_test-test.ensures ∙ c.in_default.is) in
     omega (arith, hand_low c.requires.1.1.1 c.if-on-task.false, r)
 
 pub offset_bounds-self-task-4 : goal.offset_bounds-self-task-4
@@ -108,7 +100,7 @@ pub insert-requires : goal.insert-requires
 unfolding row
 insert-requires c =
     let X = c.requires.1.1.1 in
-    let t = (sym (hand_answer X c.if-on-task.false c.admission_test-answer.ensures) ∙ ap outcome_of c.in-Accepted.is) in
+    let t = (sym (hand_answer X c.if-on-task.false c.admission_test-test.ensures) ∙ ap outcome_of c.in_default.is) in
     (hand_place X t c.if-held-eq0.true, hand_rises X t c.if-held-eq0.true)
 
 pub returns-then-held-eq0 : goal.returns-then-held-eq0
@@ -119,7 +111,7 @@ returns-then-held-eq0 c =
       λ p l out₀ X.
           rw I.1
           (hand_first X
-          (sym (hand_answer X c.if-on-task.false c.admission_test-answer.ensures) ∙ ap outcome_of c.in-Accepted.is)
+          (sym (hand_answer X c.if-on-task.false c.admission_test-test.ensures) ∙ ap outcome_of c.in_default.is)
           c.if-held-eq0.true c.if-on-task.false (rw c.head_key.ensures at I.0)),
     )
 
@@ -129,6 +121,6 @@ returns-else-held-eq0 c = (
   refl,
   λ p l out₀ X.
       hand_behind X
-      (sym (hand_answer X c.if-on-task.false c.admission_test-answer.ensures) ∙ ap outcome_of c.in-Accepted.is)
+      (sym (hand_answer X c.if-on-task.false c.admission_test-test.ensures) ∙ ap outcome_of c.in_default.is)
       c.if-held-eq0.false,
 )

@@ -7,7 +7,7 @@ use Rattle.fields.proofs.bounds.bounds.Goals as goal
 pub returns-then-over-tasks : goal.returns-then-over-tasks
 returns-then-over-tasks c =
     let a = c.args in
-    sym (scan-found 13 _ _ _ (rw c.core_for_each.ensures at c.first_over-over.ensures) c.if-over-tasks.true) ∙ bounds-scan a.plan (row _)
+    rw c.at.ensures (sym (scan-found 13 _ _ _ (rw c.core_for_each.ensures at c.first_over-over.ensures) c.if-over-tasks.true) ∙ bounds-scan a.plan (row _))
 
 pub returns : goal.returns
 returns c =

@@ -1,6 +1,5 @@
 -- `replay::run::run_log` meets its contract.
-use Rattle.tasks.specs.declared.Answer.{Answer}
-use Rattle.tasks.specs.declared.Answer.TheVariants.{Accepted}
+use Rattle.tasks.specs.Answer.{Answer, Accepted}
 use Rattle.tasks.specs.declared.Plan.{Plan}
 use Rattle.codec.specs.Table.{verdict}
 use Rattle.table.specs.declared.Judgement.{Judgement}
@@ -17,6 +16,7 @@ use Prim.Native.Nat.{ℕ, ◌+◌, ◌-◌, ◌≤◌, ◌<◌}
 use mathlib.Core.Path.{◌≡◌, ap, sym, subst, ◌∙◌}
 use mathlib.Core.List.{List}
 use lib.ListN.{length}
+use borrow.Author.Rules.{rules}
 use Rattle.replay.proofs.run.run_log.Goals as goal
 
 -- the table's verdict is the judgement's answer
@@ -46,9 +46,10 @@ returns-in_default-entries c =
     let a = c.args in
     let e = c.read_entries-entries.ensures in
     let q = c.in_default-entries.is in
-    let f = run-refused-log a.table.now a.log.now a.out.now (accepts a.table.now _ c.judge-judgement.ensures c.in-Accepted.is) _ _ (read_refused a.log.now _ e _ _ q) in (
+    let told : c.map.result ≡ answer_of_entries c.read_entries-entries.result = search rules in
+    let f = run-refused-log a.table.now a.log.now a.out.now (accepts a.table.now _ c.judge-judgement.ensures c.in-Ok.is) _ _ (read_refused a.log.now _ e _ q) in (
       c.refused-in_default-entries.ensures
-          ∙ ap (λ (b : Answer). record { answer = b; taken = 0; refused = 0 }) (c.unread.ensures ∙ ap answer_of_entries q)
+          ∙ ap (λ (b : Answer). record { answer = b; taken = 0; refused = 0 }) (told ∙ ap answer_of_entries q)
           ∙ f.ran,
       f.leaves,
       few-none _ _ c.refused-in_default-entries.ensures,
@@ -57,25 +58,25 @@ returns-in_default-entries c =
 pub overflow_mul-count : goal.overflow_mul-count
 overflow_mul-count c =
     let r = c.read_entries-entries.ensures in
-    omega (arith, (read_accepted _ _ r _ c.in-Read.is).2)
+    omega (arith, (read_accepted _ _ r _ c.in-Ok-entries.is).2)
 
 pub returns-then-out-count : goal.returns-then-out-count
 returns-then-out-count c =
     let a = c.args in
     let r = c.read_entries-entries.ensures in
-    let g = c.in-Read.is in
-    let t = accepts a.table.now _ c.judge-judgement.ensures c.in-Accepted.is in
+    let g = c.in-Ok-entries.is in
+    let t = accepts a.table.now _ c.judge-judgement.ensures c.in-Ok.is in
     let l = read_accepted a.log.now _ r _ g in
     let f = run_short a.table.now a.log.now a.out.now t l.1 (omega (arith, l.0, c.if-out-count.true)) in
-    (c.refused-then-out-count.ensures ∙ f.ran, f.leaves, few-none _ _ c.refused-then-out-count.ensures)
+    (rw c.at.ensures at c.refused-then-out-count.ensures ∙ f.ran, f.leaves, few-none _ _ c.refused-then-out-count.ensures)
 
 pub replay-taken-requires : goal.replay-taken-requires
 unfolding judged
 replay-taken-requires c =
     let a = c.args in
     let r = c.read_entries-entries.ensures in
-    let g = c.in-Read.is in
-    let t = accepts a.table.now _ c.judge-judgement.ensures c.in-Accepted.is in
+    let g = c.in-Ok-entries.is in
+    let t = accepts a.table.now _ c.judge-judgement.ensures c.in-Ok.is in
     let l = read_accepted a.log.now _ r _ g in
     let small = l.2 in (
       subst (λ (p : Plan). Fitting p (entries_in a.log.now) a.out.now) (sym (ap (λ (j : Judgement). j.plan) c.judge-judgement.ensures))
@@ -88,8 +89,8 @@ pub overflow_sub-result : goal.overflow_sub-result
 overflow_sub-result c =
     let a = c.args in
     let r = c.read_entries-entries.ensures in
-    let g = c.in-Read.is in
-    let t = accepts a.table.now _ c.judge-judgement.ensures c.in-Accepted.is in
+    let g = c.in-Ok-entries.is in
+    let t = accepts a.table.now _ c.judge-judgement.ensures c.in-Ok.is in
     let l = read_accepted a.log.now _ r _ g in
     omega (arith, c.replay-taken.ensures.0, taken-few c.judge-judgement.result.plan (entries_in a.log.now) (length (entries_in a.log.now)), entries-length a.log.now, l.0)
 
@@ -97,8 +98,8 @@ pub returns : goal.returns
 returns c =
     let a = c.args in
     let r = c.read_entries-entries.ensures in
-    let g = c.in-Read.is in
-    let t = accepts a.table.now _ c.judge-judgement.ensures c.in-Accepted.is in
+    let g = c.in-Ok-entries.is in
+    let t = accepts a.table.now _ c.judge-judgement.ensures c.in-Ok.is in
     let l = read_accepted a.log.now _ r _ g in
     let p = ap (λ (j : Judgement). j.plan) c.judge-judgement.ensures in
     let e = rw p at c.replay-taken.ensures in

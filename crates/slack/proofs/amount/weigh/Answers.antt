@@ -22,16 +22,16 @@ unfolding row
 overflow_mul-weight c =
     let s = c in
     let i = c.loop-i.i in
-    omega (arith, high _ (c.wide.result + c.wide-in-loop-i.result) (s.requires.million i (omega arith)) (omega arith))
+    omega (arith, high _ (c.from.result + c.from-in-loop-i.result) (s.requires.million i (omega arith)) (omega arith))
 
 pub loop-i-preserved : goal.loop-i-preserved
 unfolding weight_row row
 loop-i-preserved c =
     let s = c in
     let l = c.loop-i in
-    let v = c.wide.result + c.wide-in-loop-i.result in
+    let v = c.from.result + c.from-in-loop-i.result in
     let w = weight_row s.args.share.now s.args.offset.now s.args.slack.now in
-    let e : get_or s.args.share.now l.i 0 * v ≡ w l.i = rw (c.wide-in-loop-i.ensures.0, c.wide.ensures.0) in (
+    let e : get_or s.args.share.now l.i 0 * v ≡ w l.i = rw (c.from-in-loop-i.ensures, c.from.ensures) in (
       omega arith,
       rw e (column-more l.weight w l.i (omega arith) l.invariant.1),
       below_more _ l.i l.invariant.2 (rw e at (high _ v (s.requires.million l.i (omega arith)) (omega arith))),

@@ -1,6 +1,6 @@
 use Rattle.laws.specs.Tab.{tab, cut}
 use Rattle.slack.specs.Weights.{weight_row}
-use Prim.Native.Nat.{ℕ, ◌≤◌, ◌<◌, ◌-◌}
+use Prim.Native.Nat.{ℕ, ◌≤◌, ◌<◌}
 use mathlib.Core.Path.{◌≡◌}
 use Rattle.slack.proofs.amount.weigh.Given as goal
 
@@ -8,6 +8,3 @@ abbrev pub invariant-loop-i : goal.invariant-loop-i
 invariant-loop-i l = (l.i ≤ l.tasks)
     × (l.weight ≡ tab (cut l.i (weight_row l.share l.offset l.slack) 0) 16)
     × ((j : ℕ) → j < l.i → weight_row l.share l.offset l.slack j ≤ 8589934592000000)
-
-abbrev pub decreases-loop-i : goal.decreases-loop-i
-decreases-loop-i l = l.tasks - l.i

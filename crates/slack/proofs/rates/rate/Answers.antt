@@ -1,8 +1,8 @@
 use Prim.Native.Nat.{min, ◌/◌}
 use mathlib.Core.List.{List}
 use Rattle.laws.specs.Multiple.{lcm_below}
-use Rattle.tasks.specs.declared.Answer.TheVariants.{Accepted, Refused}
-use Rattle.fields.specs.StageLaws.{not_both}
+use Rattle.std.specs.Prelude.{Ok}
+use Rattle.tasks.specs.Answer.{Refused}
 use native.Mathlib.Nat.{mul-le-mul}
 use Rattle.laws.specs.Sum.{sum}
 use Rattle.laws.specs.Tab.{tab, cut}
@@ -42,12 +42,12 @@ module _ (m n : ℕ) (separation budget offset : List ℕ) (g : Ranges (set_from
         surplus ≡ sum (λ i. row shares i * (row separation i - row offset i)) n →
         Rated
         (set_from m n separation budget offset)
-        (record { answer = Accepted; multiple = h; surplus = surplus; share = shares })
+        (Ok (record { multiple = h; surplus = surplus; share = shares }))
     unfolding set_from
     passed all surplus a b d =
         record {
           answer = sym (rates_test_pass (set_from m n separation budget offset) (rw (← w) l) (rw (← w, ← added, ← a) b));
-          figures = λ _.
+          figures =
               record {
                 multiple = w;
                 surplus = d ∙ surplus-total m n separation budget offset h w g l shares filled;
@@ -63,7 +63,7 @@ pub returns-then-multiple-gt-MULTIPLE_HIGH : goal.returns-then-multiple-gt-MULTI
 returns-then-multiple-gt-MULTIPLE_HIGH c =
     let a = c.args in
     let n = multiple-over a.cores _ _ a.budget.now a.offset.now _ c.common_multiple-multiple.ensures c.if-multiple-gt-MULTIPLE_HIGH.true in
-    record { answer = c.refused.ensures ∙ sym (rates_test_9 _ n); figures = λ e. absurd (not_both _ 9 0 c.refused.ensures e) }
+    record { answer = rw c.at.ensures (sym (rates_test_9 _ n)); figures = tt }
 
 pub shares-share-requires : goal.shares-share-requires
 unfolding set_from
@@ -91,7 +91,7 @@ returns-then-cores-multiple c =
     c.if-multiple-gt-MULTIPLE_HIGH.false _ c.shares-share.ensures _ c.total-all.ensures
     c.if-cores-multiple.true
     in
-    record { answer = c.refused-then-cores-multiple.ensures ∙ sym e; figures = λ a. absurd (not_both _ 10 0 c.refused-then-cores-multiple.ensures a) }
+    record { answer = rw c.at-then-cores-multiple.ensures (sym e); figures = tt }
 
 pub surplus_of-surplus-requires : goal.surplus_of-surplus-requires
 unfolding set_from

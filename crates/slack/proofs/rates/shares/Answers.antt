@@ -7,7 +7,7 @@ use Prim.Native.Nat.{◌*◌}
 use Rattle.slack.proofs.rates.shares.Goals as goal
 
 pub loop-i-init : goal.loop-i-init
-loop-i-init c = (omega arith, filled_none _ 0 16)
+loop-i-init c = filled_none _ 0 16
 
 pub nonzero_div-share : goal.nonzero_div-share
 unfolding row
@@ -18,8 +18,6 @@ pub loop-i-preserved : goal.loop-i-preserved
 unfolding row
 loop-i-preserved c =
     let l = c.loop-i in
-    let a = c.args in (
-      omega arith,
-      rw (c.wide-in-loop-i.ensures.0, c.wide.ensures.0)
-          (column-more l.share (λ i. row a.budget.now i * a.multiple / row a.separation.now i) l.i (omega arith) l.invariant.1),
-    )
+    let a = c.args in
+    rw (c.from-in-loop-i.ensures, c.from.ensures)
+    (column-more l.share (λ i. row a.budget.now i * a.multiple / row a.separation.now i) l.i (omega arith) l.invariant)

@@ -13,7 +13,7 @@ term share separation offset w h k e = mul-le-mul {n₂ = 1000000} {m₂ = 10000
 
 pub loop-i-init : goal.loop-i-init
 unfolding sum
-loop-i-init c = (omega arith, refl, omega arith)
+loop-i-init c = (refl, omega arith)
 
 pub overflow_sub-separation : goal.overflow_sub-separation
 unfolding row
@@ -24,13 +24,13 @@ pub overflow_mul-all : goal.overflow_mul-all
 unfolding row
 overflow_mul-all c =
     let p = c.requires.1 c.loop-i.i (omega arith) in
-    omega (arith, term _ _ _ _ p.0 p.1 c.wide.ensures.0)
+    omega (arith, term _ _ _ _ p.0 p.1 c.from.ensures)
 
 pub overflow_add-all : goal.overflow_add-all
 unfolding row
 overflow_add-all c =
     let p = c.requires.1 c.loop-i.i (omega arith) in
-    omega (arith, term _ _ _ _ p.0 p.1 c.wide.ensures.0)
+    omega (arith, term _ _ _ _ p.0 p.1 c.from.ensures)
 
 pub loop-i-preserved : goal.loop-i-preserved
 unfolding row
@@ -38,11 +38,10 @@ loop-i-preserved c =
     let l = c.loop-i in
     let a = c.args in
     let p = c.requires.1 l.i (omega arith) in (
-      omega arith,
       rw (
         sum_step (λ i. row a.share.now i * (row a.separation.now i - row a.offset.now i)) l.i,
-        l.invariant.1,
-        c.wide.ensures.0,
+        l.invariant.0,
+        c.from.ensures,
       ),
-      omega (arith, term _ _ _ _ p.0 p.1 c.wide.ensures.0),
+      omega (arith, term _ _ _ _ p.0 p.1 c.from.ensures),
     )

@@ -5,7 +5,4 @@ use mathlib.Core.Path.{◌≡◌}
 use Rattle.slack.proofs.rates.surplus_of.Given as goal
 
 abbrev pub invariant-loop-i : goal.invariant-loop-i
-invariant-loop-i l = (l.i ≤ l.tasks) × (l.all ≡ sum (λ k. row l.share k * (row l.separation k - row l.offset k)) l.i) × (l.all ≤ l.i * 100000000000)
-
-abbrev pub decreases-loop-i : goal.decreases-loop-i
-decreases-loop-i l = l.tasks - l.i
+invariant-loop-i l = (l.all ≡ sum (λ k. row l.share k * (row l.separation k - row l.offset k)) l.i) × (l.all ≤ l.i * 100000000000)

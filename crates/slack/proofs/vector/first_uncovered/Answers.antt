@@ -9,7 +9,7 @@ use Rattle.slack.proofs.vector.first_uncovered.Goals as goal
 
 pub loop-i-init : goal.loop-i-init
 unfolding first
-loop-i-init c = (omega arith, refl)
+loop-i-init c = refl
 
 pub returns-then-cores-multiple : goal.returns-then-cores-multiple
 unfolding uncovered row
@@ -17,16 +17,14 @@ returns-then-cores-multiple c =
     let a = c.args in
     let l = c.loop-i in
     sym
-    (found_at (uncovered a.amount a.multiple a.cores a.budget.now a.slack.now) l.i a.tasks l.invariant.1
-    (lt-ltb _ _ (rw (c.wide-in-loop-i.ensures.0, c.wide.ensures.0) at c.if-cores-multiple.true))
+    (found_at (uncovered a.amount a.multiple a.cores a.budget.now a.slack.now) l.i a.tasks l.invariant
+    (lt-ltb _ _ (rw (c.from-in-loop-i.ensures, c.from.ensures) at c.if-cores-multiple.true))
     (omega arith))
 
 pub loop-i-preserved : goal.loop-i-preserved
 unfolding uncovered row
 loop-i-preserved c =
     let a = c.args in
-    let l = c.loop-i in (
-      omega arith,
-      none_more (uncovered a.amount a.multiple a.cores a.budget.now a.slack.now) l.i l.invariant.1
-          (le-ltb _ _ (rw (c.wide-in-loop-i.ensures.0, c.wide.ensures.0) at c.if-cores-multiple.false)),
-    )
+    let l = c.loop-i in
+    none_more (uncovered a.amount a.multiple a.cores a.budget.now a.slack.now) l.i l.invariant
+    (le-ltb _ _ (rw (c.from-in-loop-i.ensures, c.from.ensures) at c.if-cores-multiple.false))

@@ -35,7 +35,7 @@ module _ (f g : ℕ → ℕ) (l : List ℕ) (i old new : ℕ) (h : i < 16) (inv 
 
 pub loop-i-init : goal.loop-i-init
 unfolding first
-loop-i-init c = (omega arith, sweep_none _ _ c.requires.0, refl)
+loop-i-init c = (sweep_none _ _ c.requires.0, refl)
 
 pub loop-i-preserved : goal.loop-i-preserved
 unfolding row
@@ -45,7 +45,6 @@ loop-i-preserved c =
     let f : ℕ → ℕ = λ k. lifted a.whole a.over (row a.quotient.now k) (row a.rest.now k) in
     let g : ℕ → ℕ = row a.slack.now in
     let v = c.lift-new.ensures in (
-      omega arith,
-      stored f g l.slack l.i _ _ (omega arith) l.invariant.1 refl v,
-      elim c.if-new-old.branch [ then-new-old w ↦ w.changed-is ∙ flagged f g l.slack l.i _ _ (omega arith) l.invariant.1 refl v w.if-new-old.true | else-new-old w ↦ w.changed-is ∙ unflagged f g l.slack l.i _ _ (omega arith) l.invariant.1 refl v _ w.if-new-old.false l.invariant.2 ],
+      stored f g l.slack l.i _ _ (omega arith) l.invariant.0 refl v,
+      elim c.if-new-old.branch [ then-new-old w ↦ w.changed-is ∙ flagged f g l.slack l.i _ _ (omega arith) l.invariant.0 refl v w.if-new-old.true | else-new-old w ↦ w.changed-is ∙ unflagged f g l.slack l.i _ _ (omega arith) l.invariant.0 refl v _ w.if-new-old.false l.invariant.1 ],
     )

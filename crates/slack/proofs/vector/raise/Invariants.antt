@@ -4,14 +4,9 @@ use Rattle.laws.specs.First.{first}
 use Rattle.laws.specs.Tab.{tab}
 use Rattle.tasks.specs.TaskSet.{row}
 use Rattle.slack.specs.Arrays.{lifted, upto}
-use Prim.Native.Nat.{◌≤◌, ◌-◌}
 use mathlib.Core.Path.{◌≡◌}
 use Rattle.slack.proofs.vector.raise.Given as goal
 
 abbrev pub invariant-loop-i : goal.invariant-loop-i
-invariant-loop-i l = (l.i ≤ l.tasks)
-    × (l.slack ≡ tab (upto l.i (λ k. lifted l.whole l.over (row l.quotient k) (row l.rest k)) (row l.initial.slack)) 16)
+invariant-loop-i l = (l.slack ≡ tab (upto l.i (λ k. lifted l.whole l.over (row l.quotient k) (row l.rest k)) (row l.initial.slack)) 16)
     × (l.changed ≡ ltb (first (λ k. not (eqb (row l.initial.slack k) (lifted l.whole l.over (row l.quotient k) (row l.rest k)))) l.i) l.i)
-
-abbrev pub decreases-loop-i : goal.decreases-loop-i
-decreases-loop-i l = l.tasks - l.i

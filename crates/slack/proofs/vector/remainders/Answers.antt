@@ -6,11 +6,11 @@ use native.Mathlib.Omega.{arith}
 use Rattle.slack.proofs.vector.remainders.Goals as goal
 
 pub loop-i-init : goal.loop-i-init
-loop-i-init c = (omega arith, filled_none _ 0 16)
+loop-i-init c = filled_none _ 0 16
 
 pub loop-i-preserved : goal.loop-i-preserved
 unfolding row
 loop-i-preserved c =
     let l = c.loop-i in
     let a = c.args in
-    (omega arith, column-more l.rest (λ i. row a.budget.now i % a.cores) l.i (omega arith) l.invariant.1)
+    column-more l.rest (λ i. row a.budget.now i % a.cores) l.i (omega arith) l.invariant

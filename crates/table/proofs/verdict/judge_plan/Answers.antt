@@ -12,8 +12,9 @@ use Rattle.tasks.specs.TaskSet.{counted, core_for_each, row}
 use Rattle.tasks.specs.Limits.{Limits}
 use Rattle.tasks.proofs.AmountLaws.{counted-length}
 use Rattle.tasks.specs.declared.Plan.{Plan}
-use Rattle.tasks.specs.declared.Answer.{Answer}
-use Rattle.tasks.specs.declared.Answer.TheVariants.{Accepted, Refused}
+use Rattle.std.specs.Prelude.{Result, Ok, Err}
+use Rattle.tasks.specs.declared.refusal.Refusal.{Refusal}
+use Rattle.tasks.specs.Answer.{Answer, Accepted}
 use Rattle.tasks.specs.Content.{content_of}
 use Rattle.analysis.specs.declared.slack_test.Tested.{Tested}
 use Rattle.analysis.specs.SlackTest.{PlanTested, offering, had_slack}
@@ -21,26 +22,25 @@ use Rattle.analysis.specs.SlackTestLaws.{stopped, passed_on}
 use Rattle.analysis.specs.PlanTest.{bounds_of}
 use Rattle.analysis.specs.PlanTestLaws.{tested-limits}
 use Rattle.table.specs.declared.Judgement.{Judgement}
-use Rattle.table.specs.Judged.{refused_with}
+use Rattle.table.specs.Judged.{refused_with, handed}
 use Rattle.tasks.specs.Terms.{with_slack}
 use Rattle.table.specs.JudgeLaws.{Judges, judged_answer, judged_names}
 use borrow.Author.Rules.{rules}
 use Rattle.table.proofs.verdict.judge_plan.Goals as goal
 
-module _ (p : Plan) (k : ℕ) (t : Tested) (g : PlanTested p k t) where
+module _ (p : Plan) (k : ℕ) where
   -- a refusal hands back a plan of zeros
-  refused : (r : Judgement) (a : Answer) (j i : ℕ) → r ≡ refused_with a → a ≡ Refused j i → a ≡ judged_answer p k → Judges p k r
+  refused : (r : Refusal) → Err r ≡ judged_answer p k → (o : Result Judgement Refusal) → o ≡ Err r → Judges p k (handed o)
   unfolding refused_with
-  refused r a j i e q v =
-      record { answer = ap (λ (r : Judgement). r.answer) e ∙ v; plan = rw (e, q); count = rw (e, q); counted = rw (e, q) }
+  refused r v o q = rw q (record { answer = v; plan = refl; count = refl; counted = refl })
 
-  untested : (r : Judgement) (j i : ℕ) → r ≡ refused_with t.answer → t.answer ≡ Refused j i → Judges p k r
+  untested : (r : Refusal) → PlanTested p k (Err r) → (o : Result Judgement Refusal) → o ≡ Err r → Judges p k (handed o)
   unfolding judged_answer
-  untested r j i e q = refused r t.answer j i e q (g.answer ∙ sym (stopped _ _ j i (sym g.answer ∙ q)))
+  untested r g o q = refused r (g.answer ∙ sym (stopped _ _ r.number r.index (sym g.answer))) o q
 
-  module _ (e : t.answer ≡ Accepted) where
+  module _ (t : Tested) (g : PlanTested p k (Ok t)) where
     limits : Limits (offering p k).tasks
-    limits = tested-limits (offering p k) (sym g.answer ∙ e)
+    limits = tested-limits (offering p k) (sym g.answer)
 
     pub few : (2 ≤ p.cores) × (p.cores ≤ 8) × (p.tasks ≤ 16)
     unfolding offering content_of
@@ -48,7 +48,7 @@ module _ (p : Plan) (k : ℕ) (t : Tested) (g : PlanTested p k t) where
 
     bounded : (b : Answer) → b ≡ bounds_of p t.slack → b ≡ judged_answer p k
     unfolding judged_answer
-    bounded b q = q ∙ rw (g.had e).places (sym (passed_on _ _ (sym g.answer ∙ e)))
+    bounded b q = q ∙ rw g.had.places (sym (passed_on _ _ (sym g.answer)))
 
     each : Bool
     each = core_for_each p.cores p.tasks
@@ -61,7 +61,7 @@ module _ (p : Plan) (k : ℕ) (t : Tested) (g : PlanTested p k t) where
             (b : Bool) → each ≡ b
             → take (cond b 0 (p.cores - 1)) t.names ≡ cond b [] (counted (offering p k).tasks (had_slack (offering p k)))
         go true q = refl
-        go false q = (g.had e).counts q
+        go false q = g.had.counts q
 
     count-is : cond (core_for_each p.cores p.tasks) 0 (p.cores - 1) ≡ length (judged_names p k)
     unfolding judged_names offering content_of each
@@ -82,7 +82,7 @@ module _ (p : Plan) (k : ℕ) (t : Tested) (g : PlanTested p k t) where
         let named : take n t.names ≡ judged_names p k = rw en names_are in
         record {
           answer = sym v ∙ bounded b q;
-          plan = ap (with_slack p) (g.had e).places;
+          plan = ap (with_slack p) g.had.places;
           count = en ∙ count-is;
           counted = el ∙ tab_ext _ _ 8 (λ i h. sym (get_or-first n t.names i 0) ∙ ap (λ (l : List ℕ). get_or l i 0) named);
         }
@@ -95,39 +95,29 @@ module _ (p : Plan) (k : ℕ) (t : Tested) (g : PlanTested p k t) where
         go true q = omega arith
         go false q = omega (arith, few.1)
 
-pub returns-in_default : goal.returns-in_default
-returns-in_default c =
-    let s = c in
-    untested s.args.plan s.args.offers _ c.test_slack-tested.ensures _ _ _ c.refused.ensures c.in_default.is
+pub returns-in_err-tested : goal.returns-in_err-tested
+returns-in_err-tested c =
+    untested c.args.plan c.args.offers _ (rw c.in_err-tested.was at c.test_slack.ensures) c.from_residual.result (search rules)
 
-pub plan_bounds-bounded-requires : goal.plan_bounds-bounded-requires
-plan_bounds-bounded-requires c =
-    let s = c in
-    (few s.args.plan s.args.offers _ c.test_slack-tested.ensures c.in-Accepted.is).2
+pub plan_bounds-requires : goal.plan_bounds-requires
+plan_bounds-requires c = (few c.args.plan c.args.offers _ (rw c.in_ok-tested.was at c.test_slack.ensures)).2
 
-pub returns-in_default-bounded : goal.returns-in_default-bounded
-returns-in_default-bounded c =
-    let s = c in
-    let g = c.test_slack-tested.ensures in
-    refused s.args.plan s.args.offers _ g _ _ _ _ c.refused-in_default-bounded.ensures c.in_default-bounded.is
-    (bounded s.args.plan s.args.offers _ g c.in-Accepted.is _ c.plan_bounds-bounded.ensures)
+pub returns-in_err-plan_bounds : goal.returns-in_err-plan_bounds
+returns-in_err-plan_bounds c =
+    refused c.args.plan c.args.offers _
+    (bounded c.args.plan c.args.offers _ (rw c.in_ok-tested.was at c.test_slack.ensures) _ (sym c.in_err-plan_bounds.was ∙ c.plan_bounds.ensures))
+    c.from_residual-in_err-plan_bounds.result (search rules)
 
 pub named-count-requires : goal.named-count-requires
-named-count-requires c =
-    let t = c in
-    omega (arith, few t.args.plan t.args.offers _ t.test_slack-tested.ensures c.in-Accepted.is)
+named-count-requires c = omega (arith, few c.args.plan c.args.offers _ (rw c.in_ok-tested.was at c.test_slack.ensures))
 
 pub tidy_bytes-counted-requires : goal.tidy_bytes-counted-requires
 tidy_bytes-counted-requires c =
-    let d = c in
-    let t = d in
-    let long : length t.test_slack-tested.result.names ≡ 16 = search rules in
-    omega (arith, named-few t.args.plan t.args.offers _ t.test_slack-tested.ensures c.in-Accepted.is _ c.named-count.ensures)
+    let long : length c.in_ok-tested.tested.names ≡ 16 = search rules in
+    omega (arith, named-few c.args.plan c.args.offers _ (rw c.in_ok-tested.was at c.test_slack.ensures) _ c.named-count.ensures)
 
 pub returns : goal.returns
 unfolding with_slack
 returns c =
-    let d = c in
-    let t = d in
-    accepted t.args.plan t.args.offers _ t.test_slack-tested.ensures c.in-Accepted.is _
-    d.plan_bounds-bounded.ensures c.in-Accepted-bounded.is _ c.named-count.ensures _ c.tidy_bytes-counted.ensures
+    accepted c.args.plan c.args.offers _ (rw c.in_ok-tested.was at c.test_slack.ensures) _
+    c.plan_bounds.ensures c.in_ok-plan_bounds.was _ c.named-count.ensures _ c.tidy_bytes-counted.ensures

@@ -5,15 +5,15 @@ use Rattle.table.proofs.verdict.slack_part.Goals as goal
 
 pub slack_from-at-requires : goal.slack_from-at-requires
 slack_from-at-requires c =
-    omega (arith, part-within _ _ c.judge-judgement.ensures c.in-Accepted.is)
+    omega (arith, part-within _ _ c.judge-judgement.ensures c.in-Ok.is)
 
 pub overflow_add-at : goal.overflow_add-at
 overflow_add-at c =
-    omega (arith, part-within _ _ c.judge-judgement.ensures c.in-Accepted.is, c.slack_from-at.ensures)
+    omega (arith, part-within _ _ c.judge-judgement.ensures c.in-Ok.is, c.slack_from-at.ensures)
 
 pub slice_bounds-result-count : goal.slice_bounds-result-count
 slice_bounds-result-count c =
-    omega (arith, part-within _ _ c.judge-judgement.ensures c.in-Accepted.is, c.slack_from-at.ensures)
+    omega (arith, part-within _ _ c.judge-judgement.ensures c.in-Ok.is, c.slack_from-at.ensures)
 
 pub returns-in_default-clause-result_value : goal.returns-in_default-clause-result_value
 returns-in_default-clause-result_value c = part_none _ _ c.judge-judgement.ensures _ _ c.in_default.is
@@ -22,10 +22,10 @@ pub returns-in_default-clause-own_bytes : goal.returns-in_default-clause-own_byt
 returns-in_default-clause-own_bytes c = λ a z. no_part _ _ c.judge-judgement.ensures _ _ c.in_default.is a
 
 pub slice_bounds-result-start : goal.slice_bounds-result-start
-slice_bounds-result-start c = omega (arith, part-within _ _ c.judge-judgement.ensures c.in-Accepted.is, c.slack_from-at.ensures)
+slice_bounds-result-start c = omega (arith, part-within _ _ c.judge-judgement.ensures c.in-Ok.is, c.slack_from-at.ensures)
 
 pub returns-clause-result_value : goal.returns-clause-result_value
-returns-clause-result_value c = rw c.slack_from-at.ensures (part-rest _ _ c.judge-judgement.ensures c.in-Accepted.is)
+returns-clause-result_value c = rw c.slack_from-at.ensures (part-rest _ _ c.judge-judgement.ensures c.in-Ok.is)
 
 pub returns-clause-own_bytes : goal.returns-clause-own_bytes
-returns-clause-own_bytes c = λ a z. rw c.slack_from-at.ensures (part_lies _ _ c.judge-judgement.ensures c.in-Accepted.is _ _)
+returns-clause-own_bytes c = λ a z. rw c.slack_from-at.ensures (part_lies _ _ c.judge-judgement.ensures c.in-Ok.is _ _)

@@ -3,17 +3,18 @@ use mathlib.Core.Bool.{true}
 use mathlib.Core.Path.{sym, ◌∙◌}
 use Rattle.slack.specs.StageLaws.{frame-passed}
 use Rattle.wish_search.specs.PlanSolvedLaws.{plan-refused, plan-solved}
+use borrow.Author.Rules.{rules}
 use Rattle.wish_search.proofs.solve.solve_plan.Goals as goal
 
-pub returns-in_default : goal.returns-in_default
-returns-in_default c =
+pub returns-in_err-frame : goal.returns-in_err-frame
+returns-in_err-frame c =
     let s = c in
-    plan-refused s.args.plan s.args.offers _ c.frame-framed.ensures _ _ _ c.in_default.is c.unsolved.ensures
+    plan-refused s.args.plan s.args.offers _ c.frame.ensures c.from_residual.result _ c.in_err-frame.was (search rules)
 
 pub returns : goal.returns
 returns c =
     let s = c in
-    plan-solved s.args.plan s.args.offers _ c.frame-framed.ensures _ c.in-Accepted.is c.solve_tasks.ensures
+    plan-solved s.args.plan s.args.offers _ c.frame.ensures _ c.in_ok-frame.was c.solve_tasks.ensures
 
 pub solve_tasks-requires : goal.solve_tasks-requires
-solve_tasks-requires c = frame-passed true _ _ _ (sym c.frame-framed.ensures ∙ c.in-Accepted.is)
+solve_tasks-requires c = frame-passed true _ _ _ (sym c.frame.ensures ∙ c.in_ok-frame.was)
