@@ -11,7 +11,7 @@ def check(tree):
     for path in (PAGE, NUMBERS, PRINTED):
         if path not in tree.text:
             return [(path, 1, "is missing: the page of refusals is held to it")]
-    named = re.findall(r"^pub const \w+: u8 = (\d+);$", tree.text[NUMBERS], re.M)
+    named = re.findall(r"^    [A-Z]\w+ = (\d+),$", tree.text[NUMBERS], re.M)
     printed = set(tree.text[PRINTED].splitlines())
     faults, shown = [], []
     for line, text in enumerate(tree.text[PAGE].splitlines(), 1):

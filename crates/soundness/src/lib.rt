@@ -26,7 +26,6 @@ pub fn sound(
     let labels = plan.labels;
     let task = plan.task;
     let slack = plan.slack;
-    let answer = test(plan);
     let Ok(()) = test(plan) else {
         return false;
     };

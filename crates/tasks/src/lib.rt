@@ -10,7 +10,7 @@ pub use refusal::{Refusal, Rule};
 
 // Document 01's loop: separation T, budget C, priority offset Y, and document 02's deadline D, in ticks. In edition 1 the deadline is an unused
 // place.
-#[derive(Clone, Copy)]
+#[derive(Clone, Copy, PartialEq, Eq)]
 pub struct Task {
     pub separation: u32,
     pub budget: u32,

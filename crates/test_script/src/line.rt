@@ -14,9 +14,10 @@ pub fn front(bytes: &[u8], count: usize) -> &[u8] {
 
 // One decimal digit more; 18446744073709551615 where that is too large.
 fn shifted(value: u64, digit: u8) -> u64 {
-    value
-        .saturating_mul(10)
-        .saturating_add(u64::from(digit.saturating_sub(b'0')))
+    if value > 1844674407370955160 {
+        return u64::MAX;
+    }
+    10 * value + (digit as u64 + 2) % 10
 }
 
 impl<'a> Line<'a> {

@@ -25,7 +25,7 @@ pub fn no_task() -> Task
 pub fn is_no_task(task: Task) -> bool
     ensures { result ≡ zero_task task }
 {
-    task.separation == 0 && task.budget == 0 && task.offset == 0 && task.deadline == 0
+    task == no_task()
 }
 
 // A plan of zeros, which a refused judgement hands back.

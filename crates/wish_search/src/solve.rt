@@ -1,5 +1,5 @@
 // The tests of a wish sheet, and the offsets and the slack that are found for it.
-ghost use Rattle.std.specs.Prelude.{◌≡◌, ◌+◌};
+ghost use Rattle.std.specs.Prelude.{◌+◌};
 ghost use Rattle.fields.specs.Columns.{set_from};
 ghost use Rattle.slack.specs.StageLaws.{Framed};
 ghost use Rattle.wish_search.specs.Solved.{WishRanges, RatesSolved, TasksSolved, PlanSolved};

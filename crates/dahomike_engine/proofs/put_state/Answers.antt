@@ -3,7 +3,4 @@ use Rattle.engine_words.proofs.StoredLaws.{state-stored}
 use Rattle.dahomike_engine.proofs.put_state.Goals as goal
 
 pub returns : goal.returns
-returns c =
-    let p = c in
-    let z = p in
-    rw (c.put_rest.ensures, p.put_plan.ensures) (state-stored _ _ c.told-words)
+returns c = rw (c.put_rest.ensures, c.put_plan.ensures) (state-stored _ _ c.told-words)

@@ -1,13 +1,7 @@
 -- `tidy::is_no_task` meets its contract.
-use Rattle.std.proofs.Common.{arith}
-use Rattle.std.proofs.lemmas.Grind.{common_steps}
-use Rattle.tasks.specs.Content.{zero_task}
+use Rattle.tasks.specs.Content.{no_task, zero_task}
 use Rattle.tidy.proofs.is_no_task.Goals as goal
 
-pub returns-then-task-eq0-3 : goal.returns-then-task-eq0-3
-unfolding zero_task
-returns-then-task-eq0-3 c = grind (arith, common_steps)
-
-pub returns-else-task-eq0-3 : goal.returns-else-task-eq0-3
-unfolding zero_task
-returns-else-task-eq0-3 c = grind (arith, common_steps)
+pub returns : goal.returns
+unfolding no_task zero_task
+returns c = rw c.no_task.ensures at c.eq.ensures
