@@ -15,7 +15,7 @@ fn is_over(each: bool, task: Task, slack: u32) -> bool
     16 * u64::from(task.separation) < bound(each, task, slack)
 }
 
-// The lowest task whose bound is above 16 × T, or `tasks` where there is none.
+// The lowest task whose bound is above 16 × T, or `tasks` where there is none, as the definition `first` has it.
 fn first_over(each: bool, task: [Task; 16], slack: [u32; 16], tasks: usize) -> usize
     requires { tasks ≤ 16 }
     ensures { result ≡ first (λ i. over_bound (task_of task i) (bound_by each (task_of task i) (row slack i))) tasks }

@@ -15,7 +15,7 @@ fn is_bad_label(labels: &[u8; 8], i: usize) -> bool
     limits::LABEL_HIGH < labels[i] || (0 < i && labels[i] <= labels[i - 1])
 }
 
-// The lowest core with such a label, or `cores` where there is none.
+// The lowest core with such a label, or `cores` where there is none, as the definition `first` has it.
 fn bad_label(labels: &[u8; 8], cores: usize) -> usize
     requires { cores ≤ 8 }
     ensures { result ≡ first (bad_label (row labels.now)) cores }

@@ -50,7 +50,8 @@ fn bad_deadline(task: Task, edition: u8) -> bool
     has_deadlines(edition) && is_outside(1, limits::DEADLINE_HIGH, task.deadline)
 }
 
-// No number is this large: the number of a task that meets none.
+// No number is this large: the number of a task that meets none. No Option, since the definitions `met_by` and `seen`, which may not change, have
+// this number for none.
 const NOTHING: u8 = 255;
 
 fn deadline_met(task: Task, edition: u8) -> u8

@@ -23,7 +23,7 @@ fn count(log: &[u8]) -> usize
     count_at(log, 0) + 256 * count_at(log, 1)
 }
 
-// The lowest entry whose tick is too large, or `count` where there is none.
+// The lowest entry whose tick is too large, or `count` where there is none, as the definition `first` has it.
 fn first_late(log: &[u8], count: usize) -> usize
     requires { 2 + 9 * count ≤ length log.now }
     ensures { result ≡ first (λ e. ltb 1000000000 (entry_in log.now e).tick) count }
