@@ -16,7 +16,8 @@ use onward::Setup;
 use table::judge;
 use tasks::{Plan, Refusal, Rule, limits};
 
-// A log run: Accepted, with how many entries were taken and how many refused, or refused, with zeros.
+// A log run: Accepted, with how many entries were taken and how many refused, or refused, with zeros, which document 01 asks for, so that it is no
+// Result.
 #[derive(Clone, Copy)]
 pub struct Ran {
     pub answer: Result<(), Refusal>,

@@ -17,7 +17,7 @@ use tasks::{Plan, Refusal, Task};
 use tidy::{no_plan, no_task};
 use wish_search::solve::solve_plan;
 
-// The plan that is found for a sheet, marked as found; of zeros where the sheet is refused.
+// The plan that is found for a sheet, marked as found; of zeros where the sheet is refused, as a judgement's, so that it is no Result.
 #[derive(Clone, Copy)]
 pub struct Wished {
     pub answer: Result<(), Refusal>,

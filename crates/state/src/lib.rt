@@ -16,7 +16,8 @@ pub struct State {
     pub release: [u32; 256],
 }
 
-// An opening: Accepted, with the opened state, or refused, with a state of zeros.
+// An opening: Accepted, with the opened state, or refused, with a state of zeros. This struct and the next two hold a state beside their answer, and
+// are no Result: document 01 says which state a refused call hands back.
 #[derive(Clone, Copy)]
 pub struct Opened {
     pub answer: Result<(), Refusal>,
