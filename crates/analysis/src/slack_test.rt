@@ -3,18 +3,17 @@ ghost use Rattle.std.specs.Prelude.{◌≡◌, IfOk, not, eqb, replicate};
 ghost use Rattle.tasks.specs.TaskSet.{TaskSet};
 ghost use Rattle.tasks.specs.Answer.{answer_of};
 ghost use Rattle.tasks.specs.Tests.{refuse};
-ghost use Rattle.slack.specs.Arrays.{ArraysOf};
+ghost use Rattle.slack.specs.Loads.{LoadOf};
 ghost use Rattle.slack.specs.StageLaws.{Framed};
 ghost use Rattle.analysis.specs.SlackTest.{PlanTested, Offered, Unoffered, RatesTested, TasksTested};
 ghost use Rattle.fields.specs.Columns.{set_from};
 ghost use Rattle.slack.specs.Rates.{Ranges};
 
-use fields::columns::split;
+use fields::columns::{Columns, split};
 use fields::frame::frame;
 use fields::ranges::task_ranges;
-use slack::amount::{amount, first_names};
+use slack::amount::{Load, first_names};
 use slack::rates::rate;
-use slack::vector::{first_uncovered, search};
 use tasks::bound::core_for_each;
 use tasks::{Plan, Refusal, Rule};
 use tidy::tidy_slack;
@@ -28,46 +27,27 @@ pub struct Tested {
 }
 
 // Test 12 of offered slack.
-fn offered(
-    share: &[u64; 16],
-    budget: &[u32; 16],
-    offset: &[u32; 16],
-    slack: &[u32; 16],
-    multiple: u64,
-    surplus: u64,
-    cores: usize,
-    tasks: usize,
-) -> Result<Tested, Refusal>
-    requires { (s : TaskSet) × ArraysOf s share.now budget.now offset.now multiple surplus cores tasks }
-    ensures { (s : TaskSet) → ArraysOf s share.now budget.now offset.now multiple surplus cores tasks → Offered s slack.now result }
+fn offered(load: &Load, budget: &[u32; 16], slack: &[u32; 16]) -> Result<Tested, Refusal>
+    requires { (s : TaskSet) × LoadOf s load.now budget.now }
+    ensures { (s : TaskSet) → LoadOf s load.now budget.now → Offered s slack.now result }
 {
-    let used = tidy_slack(slack, tasks);
+    let used = tidy_slack(slack, load.tasks);
     let mut names = first_names();
-    let whole = amount(share, offset, &used, &mut names, surplus, cores - 1, tasks);
-    let bad = first_uncovered(&used, budget, whole, multiple, cores as u64, tasks);
-    if bad < tasks {
+    let whole = load.amount(&used, &mut names, load.cores - 1);
+    let bad = load.first_uncovered(&used, budget, whole);
+    if bad < load.tasks {
         return Err(Rule::SlackNotCompliant.at(bad as u16));
     }
     Ok(Tested { slack: used, names })
 }
 
 // Slack that is not offered is found.
-fn unoffered(
-    share: &[u64; 16],
-    budget: &[u32; 16],
-    offset: &[u32; 16],
-    multiple: u64,
-    surplus: u64,
-    cores: usize,
-    tasks: usize,
-) -> Tested
-    requires { (s : TaskSet) × ArraysOf s share.now budget.now offset.now multiple surplus cores tasks }
-    ensures { (s : TaskSet) → ArraysOf s share.now budget.now offset.now multiple surplus cores tasks → Unoffered s result }
+fn unoffered(load: &Load, budget: &[u32; 16]) -> Tested
+    requires { (s : TaskSet) × LoadOf s load.now budget.now }
+    ensures { (s : TaskSet) → LoadOf s load.now budget.now → Unoffered s result }
 {
     let mut names = first_names();
-    let slack = search(
-        share, budget, offset, &mut names, multiple, surplus, cores, tasks,
-    );
+    let slack = load.search(budget, &mut names);
     Tested { slack, names }
 }
 
@@ -86,46 +66,40 @@ fn own_cores(offers: usize) -> Result<Tested, Refusal>
 
 // Tests 9 to 12, of a task set that meets none of 3 to 8 and 28.
 fn test_rated(
-    separation: &[u32; 16],
-    budget: &[u32; 16],
-    offset: &[u32; 16],
+    columns: &Columns,
     slack: &[u32; 16],
     cores: usize,
     tasks: usize,
     offers: usize,
 ) -> Result<Tested, Refusal>
-    requires { Framed 1 cores tasks × Ranges (set_from cores tasks separation.now budget.now offset.now) }
-    ensures { RatesTested (set_from cores tasks separation.now budget.now offset.now) slack.now offers result }
+    requires { Framed 1 cores tasks × Ranges (set_from cores tasks columns.now.separation columns.now.budget columns.now.offset) }
+    ensures { RatesTested (set_from cores tasks columns.now.separation columns.now.budget columns.now.offset) slack.now offers result }
 {
-    let rates = rate(separation, budget, offset, cores, tasks)?;
+    let rates = rate(
+        &columns.separation,
+        &columns.budget,
+        &columns.offset,
+        cores,
+        tasks,
+    )?;
     if core_for_each(cores, tasks) {
         return own_cores(offers);
     }
-    let share = rates.share;
+    let load = Load {
+        share: &rates.share,
+        offset: &columns.offset,
+        multiple: rates.multiple,
+        surplus: rates.surplus,
+        cores,
+        tasks,
+    };
     if offers == 0 {
-        return Ok(unoffered(
-            &share,
-            budget,
-            offset,
-            rates.multiple,
-            rates.surplus,
-            cores,
-            tasks,
-        ));
+        return Ok(unoffered(&load, &columns.budget));
     }
     if offers != tasks {
         return Err(Rule::SlackCountWrong.at(0));
     }
-    offered(
-        &share,
-        budget,
-        offset,
-        slack,
-        rates.multiple,
-        rates.surplus,
-        cores,
-        tasks,
-    )
+    offered(&load, &columns.budget, slack)
 }
 
 // Tests 6 to 12, and 28.
@@ -137,15 +111,7 @@ fn test_tasks(plan: Plan, offers: usize) -> Result<Tested, Refusal>
     let task = plan.task;
     task_ranges(task, tasks, plan.edition)?;
     let columns = split(task, tasks);
-    test_rated(
-        &columns.separation,
-        &columns.budget,
-        &columns.offset,
-        &plan.slack,
-        plan.cores,
-        tasks,
-        offers,
-    )
+    test_rated(&columns, &plan.slack, plan.cores, tasks, offers)
 }
 
 // Tests 3 to 12, and 28, with a slack count of `offers`: a table's may be any, a plan's is 0 or n.

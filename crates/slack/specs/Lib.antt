@@ -1,6 +1,7 @@
 pub mod Rates
 pub mod RatesLaws
 pub mod Arrays
+pub mod Loads
 pub mod ArraysLaws
 pub mod Weights
 pub mod StageLaws

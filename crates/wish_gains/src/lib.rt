@@ -61,7 +61,7 @@ fn counted_gain(share: u64, slack: u32) -> u64
     if slack == 0 { 0 } else { share }
 }
 
-// The gains with those of the first names.
+// The gains with those of the first names. Arrays one by one: the struct of a sheet is above this crate, in wish_search, with its methods.
 pub fn count_gains(
     gain: &mut [u64; 16],
     share: &[u64; 16],

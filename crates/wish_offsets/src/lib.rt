@@ -26,7 +26,7 @@ fn largest_offset(separation: u32, room: u32, slack: u32) -> u32
     separation.min(room.saturating_sub(slack))
 }
 
-// The largest offsets that a slack leaves.
+// The largest offsets that a slack leaves. Arrays one by one: the struct of a sheet is above this crate, in wish_search, with its methods.
 pub fn offsets(
     separation: &[u32; 16],
     room: &[u32; 16],

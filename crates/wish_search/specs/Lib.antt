@@ -1,4 +1,5 @@
 pub mod SheetArrays
+pub mod Sheets
 pub mod SheetLaws
 pub mod Leaps
 pub mod FarLaws

@@ -3,79 +3,59 @@
 ghost use Rattle.std.specs.Prelude.{List, ℕ, ◌+◌, ◌-◌, ◌/◌, ◌%◌, ◌≤◌};
 ghost use Rattle.tasks.specs.TaskSet.{TaskSet};
 ghost use Rattle.largest.specs.Chosen.{Arranged};
-ghost use Rattle.wish_search.specs.SheetArrays.{SheetWith};
+ghost use Rattle.wish_search.specs.Sheets.{SheetForWith};
 ghost use Rattle.wish_search.specs.Leaps.{Far, Ahead};
 
-use slack::amount::amount;
+use crate::search::Sheet;
+use slack::amount::Load;
 use slack::rates::{surplus_of, total};
-use slack::vector::raise;
+use slack::vector::Divided;
 use wish_gains::{count_gains, cut_gains, reach};
 use wish_offsets::offsets;
 
 // No search goes further: the largest number that a search is told of.
 const FURTHEST: u64 = 12_000_000;
 
-// The least number from `start` on, in steps of the number of cores, that a solution's A could need.
-fn far(
-    share: &[u64; 16],
-    separation: &[u32; 16],
-    room: &[u32; 16],
-    quotient: &[u32; 16],
-    rest: &[u32; 16],
-    names: &mut [u8; 16],
-    multiple: u64,
-    cores: usize,
-    tasks: usize,
-    start: u32,
-) -> u64
-    requires { ((s : TaskSet) × (b : List ℕ) × SheetWith s share.now separation.now b room.now quotient.now rest.now multiple cores tasks) × Arranged names.old tasks × (start ≤ 12000007) }
-    ensures { ((s : TaskSet) (b : List ℕ) → SheetWith s share.now separation.now b room.now quotient.now rest.now multiple cores tasks → Far s start result) × Arranged names.new tasks × (start ≤ result) }
-{
-    let divisor = cores as u32;
-    let many = cores - 1;
-    let mut slack = [0u32; 16];
-    let _raised = raise(
-        &mut slack,
-        quotient,
-        rest,
-        start / divisor,
-        start % divisor,
-        tasks,
-    );
-    let offset = offsets(separation, room, &slack, tasks);
-    let surplus = surplus_of(share, separation, &offset, tasks);
-    let whole = amount(share, &offset, &slack, names, surplus, many, tasks);
-    let mut gain = cut_gains(share, separation, room, &slack, tasks);
-    count_gains(&mut gain, share, &slack, names, many, tasks);
-    let slope = total(&gain, tasks);
-    reach(whole, slope, multiple, cores as u64, start as u64)
-}
-
-// The least number from `start` on that a solution's A could need.
-pub fn leap(
-    share: &[u64; 16],
-    separation: &[u32; 16],
-    room: &[u32; 16],
-    quotient: &[u32; 16],
-    rest: &[u32; 16],
-    names: &mut [u8; 16],
-    multiple: u64,
-    cores: usize,
-    tasks: usize,
-    start: u32,
-) -> u32
-    requires { ((s : TaskSet) × (b : List ℕ) × SheetWith s share.now separation.now b room.now quotient.now rest.now multiple cores tasks) × Arranged names.old tasks × (start ≤ 12000000) }
-    ensures { ((s : TaskSet) (b : List ℕ) → SheetWith s share.now separation.now b room.now quotient.now rest.now multiple cores tasks → Ahead s start result) × Arranged names.new tasks × (start ≤ result) × (result ≤ 12000000) }
-{
-    let mut best = FURTHEST;
-    for from in start..start + cores as u32 {
-        if best <= u64::from(from) {
-            break;
-        }
-        let to = far(
-            share, separation, room, quotient, rest, names, multiple, cores, tasks, from,
-        );
-        best = best.min(to);
+impl Sheet<'_> {
+    // The least number from `start` on, in steps of the number of cores, that a solution's A could need.
+    fn far(&self, divided: &Divided, names: &mut [u8; 16], start: u32) -> u64
+        requires { ((s : TaskSet) × (b : List ℕ) × SheetForWith s self.now b divided.now) × Arranged names.old self.now.tasks × (start ≤ 12000007) }
+        ensures { ((s : TaskSet) (b : List ℕ) → SheetForWith s self.now b divided.now → Far s start result) × Arranged names.new self.now.tasks × (start ≤ result) }
+    {
+        let divisor = self.cores as u32;
+        let many = self.cores - 1;
+        let tasks = self.tasks;
+        let mut slack = [0u32; 16];
+        let _raised = divided.raise(&mut slack, start / divisor, start % divisor, tasks);
+        let offset = offsets(self.separation, self.room, &slack, tasks);
+        let load = Load {
+            share: self.share,
+            offset: &offset,
+            multiple: self.multiple,
+            surplus: surplus_of(self.share, self.separation, &offset, tasks),
+            cores: self.cores,
+            tasks,
+        };
+        let whole = load.amount(&slack, names, many);
+        let mut gain = cut_gains(self.share, self.separation, self.room, &slack, tasks);
+        count_gains(&mut gain, self.share, &slack, names, many, tasks);
+        let slope = total(&gain, tasks);
+        reach(whole, slope, self.multiple, self.cores as u64, start as u64)
     }
-    best as u32
+
+    // The least number from `start` on that a solution's A could need.
+    pub fn leap(&self, divided: &Divided, names: &mut [u8; 16], start: u32) -> u32
+        requires { ((s : TaskSet) × (b : List ℕ) × SheetForWith s self.now b divided.now) × Arranged names.old self.now.tasks × (start ≤ 12000000) }
+        ensures { ((s : TaskSet) (b : List ℕ) → SheetForWith s self.now b divided.now → Ahead s start result) × Arranged names.new self.now.tasks × (start ≤ result) × (result ≤ 12000000) }
+    {
+        let mut best = FURTHEST;
+        for from in start..start + self.cores as u32 {
+            if best <= u64::from(from) {
+                break;
+            }
+            let to = self.far(divided, names, from);
+            best = best.min(to);
+        }
+        best as u32
+    }
 }

@@ -4,103 +4,76 @@ ghost use Rattle.tasks.specs.TaskSet.{TaskSet, row};
 ghost use Rattle.largest.specs.Chosen.{Arranged};
 ghost use Rattle.slack.specs.Arrays.{Needs};
 ghost use Rattle.wishes.specs.Wish.{at_slack};
-ghost use Rattle.wish_search.specs.SheetArrays.{SheetOf, SheetWith, Onward, Ended};
+ghost use Rattle.wish_search.specs.SheetArrays.{Onward, Ended};
+ghost use Rattle.wish_search.specs.Sheets.{SheetFor, SheetForWith};
 
-use crate::leap::leap;
-use slack::amount::needed;
+use slack::amount::Load;
 use slack::rates::surplus_of;
-use slack::vector::{quotients, raise, remainders};
+use slack::vector::Divided;
 use wish_offsets::{first_past, offsets};
 
-// What A needs at a slack.
-fn needed_at(
-    share: &[u64; 16],
-    separation: &[u32; 16],
-    room: &[u32; 16],
-    slack: &[u32; 16],
-    names: &mut [u8; 16],
-    multiple: u64,
-    cores: usize,
-    tasks: usize,
-) -> u32
-    requires { ((s : TaskSet) × (b : List ℕ) × SheetOf s share.now separation.now b room.now multiple cores tasks) × Arranged names.old tasks × ((i : ℕ) → i < tasks → row slack.now i ≤ 1600000) }
-    ensures { ((s : TaskSet) (b : List ℕ) → SheetOf s share.now separation.now b room.now multiple cores tasks → Needs (at_slack s (row slack.now)) (row slack.now) names.new result) × Arranged names.new tasks }
-{
-    let offset = offsets(separation, room, slack, tasks);
-    let surplus = surplus_of(share, separation, &offset, tasks);
-    needed(
-        share, &offset, slack, names, multiple, surplus, cores, tasks,
-    )
+// What the search reads of a sheet, beside its budgets.
+#[derive(Clone, Copy)]
+pub struct Sheet<'a> {
+    pub share: &'a [u64; 16],
+    pub separation: &'a [u32; 16],
+    pub room: &'a [u32; 16],
+    pub multiple: u64,
+    pub cores: usize,
+    pub tasks: usize,
 }
 
 // So many rounds are made one by one, since a leap costs up to as many as there are cores. A sheet can need some 800,000.
 const ROUNDS: u32 = 16;
 
-// The number by which the slack is raised next: what A needs or, once the rounds are used up, the least that a solution's A could need.
-fn next(
-    share: &[u64; 16],
-    separation: &[u32; 16],
-    room: &[u32; 16],
-    quotient: &[u32; 16],
-    rest: &[u32; 16],
-    slack: &[u32; 16],
-    names: &mut [u8; 16],
-    multiple: u64,
-    cores: usize,
-    tasks: usize,
-    rounds: u32,
-) -> u32
-    requires { ((s : TaskSet) × (b : List ℕ) × SheetWith s share.now separation.now b room.now quotient.now rest.now multiple cores tasks) × Arranged names.old tasks × ((i : ℕ) → i < tasks → row slack.now i ≤ 1600000) }
-    ensures { ((s : TaskSet) (b : List ℕ) → SheetWith s share.now separation.now b room.now quotient.now rest.now multiple cores tasks → Onward s (row slack.now) result) × Arranged names.new tasks × (result ≤ 12000000) }
-{
-    let least = needed_at(
-        share, separation, room, slack, names, multiple, cores, tasks,
-    );
-    if 0 < rounds {
-        return least;
+impl Sheet<'_> {
+    // What A needs at a slack.
+    fn needed_at(&self, slack: &[u32; 16], names: &mut [u8; 16]) -> u32
+        requires { ((s : TaskSet) × (b : List ℕ) × SheetFor s self.now b) × Arranged names.old self.now.tasks × ((i : ℕ) → i < self.now.tasks → row slack.now i ≤ 1600000) }
+        ensures { ((s : TaskSet) (b : List ℕ) → SheetFor s self.now b → Needs (at_slack s (row slack.now)) (row slack.now) names.new result) × Arranged names.new self.now.tasks }
+    {
+        let offset = offsets(self.separation, self.room, slack, self.tasks);
+        let load = Load {
+            share: self.share,
+            offset: &offset,
+            multiple: self.multiple,
+            surplus: surplus_of(self.share, self.separation, &offset, self.tasks),
+            cores: self.cores,
+            tasks: self.tasks,
+        };
+        load.needed(slack, names)
     }
-    leap(
-        share, separation, room, quotient, rest, names, multiple, cores, tasks, least,
-    )
-}
 
-// Raised until nothing changes, or until some task's slack is above W − C: then there is no solution.
-pub fn search(
-    share: &[u64; 16],
-    separation: &[u32; 16],
-    budget: &[u32; 16],
-    room: &[u32; 16],
-    names: &mut [u8; 16],
-    multiple: u64,
-    cores: usize,
-    tasks: usize,
-) -> [u32; 16]
-    requires { ((s : TaskSet) × SheetOf s share.now separation.now budget.now room.now multiple cores tasks) × Arranged names.old tasks }
-    ensures { (s : TaskSet) → SheetOf s share.now separation.now budget.now room.now multiple cores tasks → Ended s result }
-{
-    let divisor = cores as u32;
-    let quotient = quotients(budget, divisor, tasks);
-    let rest = remainders(budget, divisor, tasks);
-    let mut rounds = ROUNDS;
-    let mut slack = [0u32; 16];
-    loop {
-        if first_past(&slack, room, tasks) < tasks {
-            break slack;
+    // The number by which the slack is raised next: what A needs or, once the rounds are used up, the least that a solution's A could need.
+    fn next(&self, divided: &Divided, slack: &[u32; 16], names: &mut [u8; 16], rounds: u32) -> u32
+        requires { ((s : TaskSet) × (b : List ℕ) × SheetForWith s self.now b divided.now) × Arranged names.old self.now.tasks × ((i : ℕ) → i < self.now.tasks → row slack.now i ≤ 1600000) }
+        ensures { ((s : TaskSet) (b : List ℕ) → SheetForWith s self.now b divided.now → Onward s (row slack.now) result) × Arranged names.new self.now.tasks × (result ≤ 12000000) }
+    {
+        let least = self.needed_at(slack, names);
+        if 0 < rounds {
+            return least;
         }
-        let need = next(
-            share, separation, room, &quotient, &rest, &slack, names, multiple, cores, tasks,
-            rounds,
-        );
-        rounds = rounds.saturating_sub(1);
-        if !raise(
-            &mut slack,
-            &quotient,
-            &rest,
-            need / divisor,
-            need % divisor,
-            tasks,
-        ) {
-            break slack;
+        self.leap(divided, names, least)
+    }
+
+    // Raised until nothing changes, or until some task's slack is above W − C: then there is no solution.
+    pub fn search(&self, budget: &[u32; 16], names: &mut [u8; 16]) -> [u32; 16]
+        requires { ((s : TaskSet) × SheetFor s self.now budget.now) × Arranged names.old self.now.tasks }
+        ensures { (s : TaskSet) → SheetFor s self.now budget.now → Ended s result }
+    {
+        let divisor = self.cores as u32;
+        let divided = Divided::new(budget, divisor, self.tasks);
+        let mut rounds = ROUNDS;
+        let mut slack = [0u32; 16];
+        loop {
+            if first_past(&slack, self.room, self.tasks) < self.tasks {
+                break slack;
+            }
+            let need = self.next(&divided, &slack, names, rounds);
+            rounds = rounds.saturating_sub(1);
+            if !divided.raise(&mut slack, need / divisor, need % divisor, self.tasks) {
+                break slack;
+            }
         }
     }
 }

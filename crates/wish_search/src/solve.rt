@@ -4,8 +4,8 @@ ghost use Rattle.fields.specs.Columns.{set_from};
 ghost use Rattle.slack.specs.StageLaws.{Framed};
 ghost use Rattle.wish_search.specs.Solved.{WishRanges, RatesSolved, TasksSolved, PlanSolved};
 
-use crate::search::search;
-use fields::columns::split;
+use crate::search::Sheet;
+use fields::columns::{Columns, split};
 use fields::frame::frame;
 use fields::ranges::wish_ranges;
 use slack::amount::first_names;
@@ -20,37 +20,30 @@ pub struct Solved {
     pub slack: [u32; 16],
 }
 
-// Tests 9, 10, 11 and 27, of a sheet that meets none of 3 to 7 and 26.
-fn solve(
-    separation: &[u32; 16],
-    budget: &[u32; 16],
-    wish: &[u32; 16],
-    cores: usize,
-    tasks: usize,
-    offers: usize,
-) -> Result<Solved, Refusal>
-    requires { Framed (cores + 1) cores tasks × WishRanges (set_from cores tasks separation.now budget.now wish.now) }
-    ensures { RatesSolved (set_from cores tasks separation.now budget.now wish.now) offers result }
+// Tests 9, 10, 11 and 27, of a sheet with its wishes as offsets that meets none of 3 to 7 and 26.
+fn solve(columns: &Columns, cores: usize, tasks: usize, offers: usize) -> Result<Solved, Refusal>
+    requires { Framed (cores + 1) cores tasks × WishRanges (set_from cores tasks columns.now.separation columns.now.budget columns.now.offset) }
+    ensures { RatesSolved (set_from cores tasks columns.now.separation columns.now.budget columns.now.offset) offers result }
 {
-    let room = rooms(wish, budget, tasks);
+    let separation = &columns.separation;
+    let budget = &columns.budget;
+    let room = rooms(&columns.offset, budget, tasks);
     let none = [0u32; 16];
     let widest = offsets(separation, &room, &none, tasks);
     let rates = rate(separation, budget, &widest, cores, tasks)?;
     if offers != 0 {
         return Err(Rule::SlackCountWrong.at(0));
     }
-    let share = rates.share;
-    let mut names = first_names();
-    let slack = search(
-        &share,
+    let sheet = Sheet {
+        share: &rates.share,
         separation,
-        budget,
-        &room,
-        &mut names,
-        rates.multiple,
+        room: &room,
+        multiple: rates.multiple,
         cores,
         tasks,
-    );
+    };
+    let mut names = first_names();
+    let slack = sheet.search(budget, &mut names);
     if first_past(&slack, &room, tasks) < tasks {
         return Err(Rule::NoSolution.at(0));
     }
@@ -67,14 +60,7 @@ fn solve_tasks(plan: Plan, offers: usize) -> Result<Solved, Refusal>
     let task = plan.task;
     wish_ranges(task, tasks, plan.edition)?;
     let columns = split(task, tasks);
-    solve(
-        &columns.separation,
-        &columns.budget,
-        &columns.offset,
-        plan.cores,
-        tasks,
-        offers,
-    )
+    solve(&columns, plan.cores, tasks, offers)
 }
 
 // All tests of a sheet's entries, with a slack count of `offers`.

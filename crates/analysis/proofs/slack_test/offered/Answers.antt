@@ -10,12 +10,12 @@ amount-whole-requires c =
     let g = c.requires.1 in
     (few g, surplus-high g, c.first_names-names.ensures _ (tasks-high g), omega (arith, more g))
 
-pub returns-then-bad-tasks : goal.returns-then-bad-tasks
-returns-then-bad-tasks c =
+pub returns-then-bad-load : goal.returns-then-bad-load
+returns-then-bad-load c =
     λ s g.
     let used = c.tidy_slack-used in
     let whole = c.amount-whole.ensures.whole ∙ amount-row g used.result in
-    let r = offered-refused g _ _ used.ensures _ whole _ c.first_uncovered-bad.ensures c.if-bad-tasks.true in
+    let r = offered-refused g _ _ used.ensures _ whole _ c.first_uncovered-bad.ensures c.if-bad-load.true in
     record { answer = rw c.at.ensures (sym r); had = tt }
 
 pub returns : goal.returns
@@ -26,6 +26,6 @@ returns c =
     let whole = a.whole ∙ amount-row g used.result in
     let bad = c.first_uncovered-bad.ensures in
     record {
-      answer = sym (offered-passed g _ _ used.ensures _ whole _ bad c.if-bad-tasks.false);
+      answer = sym (offered-passed g _ _ used.ensures _ whole _ bad c.if-bad-load.false);
       had = offered-had g _ _ used.ensures _ whole _ bad _ a.names;
     }

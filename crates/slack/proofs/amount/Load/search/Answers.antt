@@ -4,35 +4,35 @@ use Rattle.tasks.proofs.RisingLaws.{rising-start, rising-high}
 use Rattle.slack.proofs.SearchLaws.{turn_rising, turn_length, turn_past, turn_over, turn_counted, turn_less}
 use native.Mathlib.Omega.{arith}
 use mathlib.Core.Path.{refl, sym, ◌∙◌}
-use Rattle.slack.proofs.vector.search.Goals as goal
+use Rattle.slack.proofs.amount.Load.search.Goals as goal
 
-pub loop-quotient-init : goal.loop-quotient-init
-loop-quotient-init c =
+pub loop-divided-init : goal.loop-divided-init
+loop-divided-init c =
     let s = c in
     (refl, λ k l. zero_array k, s.requires.1, λ t k. rising-start t _ (λ i l. zero_array i))
 
 pub needed-need-requires : goal.needed-need-requires
 needed-need-requires c =
-    let l = c.loop-quotient in
+    let l = c.loop-divided in
     let g = c.requires.0.1 in
     ((_, _, g), l.invariant.2, λ i h. omega (arith, rising-high _ g.limits _ (l.invariant.3 _ g) i (omega (arith, g.tasks))))
 
-pub loop-quotient-smaller : goal.loop-quotient-smaller
-loop-quotient-smaller c =
+pub loop-divided-smaller : goal.loop-divided-smaller
+loop-divided-smaller c =
     let g = c.requires.0.1 in
-    let l = c.loop-quotient in
-    let q = c.quotients-quotient.ensures in
-    let r = c.remainders-rest.ensures in
+    let l = c.loop-divided in
+    let q = c.new-divided.ensures.0 in
+    let r = c.new-divided.ensures.1 in
     let d = c.needed-need.ensures.0 _ _ g in
     let v = c.raise.ensures in
     turn_less g _ _ _ q r l.slack _ v.0 (l.invariant.3 _ g) d.needs (sym (c.if-not-raise.false) ∙ v.1)
 
-pub loop-quotient-preserved : goal.loop-quotient-preserved
-loop-quotient-preserved c =
+pub loop-divided-preserved : goal.loop-divided-preserved
+loop-divided-preserved c =
     let g = c.requires.0.1 in
-    let l = c.loop-quotient in
-    let q = c.quotients-quotient.ensures in
-    let r = c.remainders-rest.ensures in
+    let l = c.loop-divided in
+    let q = c.new-divided.ensures.0 in
+    let r = c.new-divided.ensures.1 in
     let d = c.needed-need.ensures in
     let v = c.raise.ensures.0 in (
       turn_length g _ _ _ q r l.slack _ v,
@@ -44,9 +44,9 @@ loop-quotient-preserved c =
 pub returns : goal.returns
 returns c =
     λ t k.
-    let l = c.loop-quotient in
-    let q = c.quotients-quotient.ensures in
-    let r = c.remainders-rest.ensures in
+    let l = c.loop-divided in
+    let q = c.new-divided.ensures.0 in
+    let r = c.new-divided.ensures.1 in
     let d = c.needed-need.ensures.0 _ _ k in
     let v = c.raise.ensures in
     let done = sym (c.if-not-raise.true) ∙ v.1 in

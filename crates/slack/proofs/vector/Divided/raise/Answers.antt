@@ -13,8 +13,8 @@ use native.Mathlib.Omega.{arith}
 use Prim.Native.Nat.{ℕ, ◌<◌, ◌+◌}
 use mathlib.Core.Path.{◌≡◌, refl, sym, ◌∙◌}
 use lib.ListN.{set}
-use Rattle.slack.proofs.vector.raise.Goals.{else-new-old, then-new-old}
-use Rattle.slack.proofs.vector.raise.Goals as goal
+use Rattle.slack.proofs.vector.Divided.raise.Goals.{else-new-old, then-new-old}
+use Rattle.slack.proofs.vector.Divided.raise.Goals as goal
 
 -- one turn: the entry at i, `old` before and `new` after, and whether an entry has changed
 module _ (f g : ℕ → ℕ) (l : List ℕ) (i old new : ℕ) (h : i < 16) (inv : l ≡ tab (upto i f g) 16) (o : old ≡ row l i) (v : new ≡ f i) where
@@ -42,7 +42,7 @@ unfolding row
 loop-i-preserved c =
     let a = c.args in
     let l = c.loop-i in
-    let f : ℕ → ℕ = λ k. lifted a.whole a.over (row a.quotient.now k) (row a.rest.now k) in
+    let f : ℕ → ℕ = λ k. lifted a.whole a.over (row a.self.now.quotient k) (row a.self.now.rest k) in
     let g : ℕ → ℕ = row a.slack.now in
     let v = c.lift-new.ensures in (
       stored f g l.slack l.i _ _ (omega arith) l.invariant.0 refl v,

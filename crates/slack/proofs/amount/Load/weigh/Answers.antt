@@ -8,7 +8,7 @@ use native.Mathlib.Omega.{arith}
 use Prim.Native.Nat.{ℕ, ◌≤◌, ◌+◌, ◌*◌}
 use mathlib.Core.Path.{◌≡◌}
 use lib.ListN.{get_or}
-use Rattle.slack.proofs.amount.weigh.Goals as goal
+use Rattle.slack.proofs.amount.Load.weigh.Goals as goal
 
 -- a weight's limit
 high : (share v : ℕ) → share ≤ 1000000 → v ≤ 8589934592 → share * v ≤ 8589934592000000
@@ -30,8 +30,8 @@ loop-i-preserved c =
     let s = c in
     let l = c.loop-i in
     let v = c.from.result + c.from-in-loop-i.result in
-    let w = weight_row s.args.share.now s.args.offset.now s.args.slack.now in
-    let e : get_or s.args.share.now l.i 0 * v ≡ w l.i = rw (c.from-in-loop-i.ensures, c.from.ensures) in (
+    let w = weight_row s.args.self.now.share.now s.args.self.now.offset.now s.args.slack.now in
+    let e : get_or s.args.self.now.share.now l.i 0 * v ≡ w l.i = rw (c.from-in-loop-i.ensures, c.from.ensures) in (
       omega arith,
       rw e (column-more l.weight w l.i (omega arith) l.invariant.1),
       below_more _ l.i l.invariant.2 (rw e at (high _ v (s.requires.million l.i (omega arith)) (omega arith))),

@@ -7,7 +7,7 @@ use Rattle.wish_search.specs.SheetLaws.{cores-low, cores-high, tasks-high, more,
 use Rattle.wish_gains.specs.GainLaws.{gains-high}
 use Rattle.wish_search.specs.FarLaws.{whole-high, slope_high, far_under}
 use borrow.Author.Rules.{rules}
-use Rattle.wish_search.proofs.leap.far.Goals as goal
+use Rattle.wish_search.proofs.search.Sheet.far.Goals as goal
 
 -- the calls' answers, as the laws of a leap take them
 pub count_gains-requires : goal.count_gains-requires
@@ -32,7 +32,7 @@ reach-requires c =
     let w = c.amount-whole.ensures in
     let gs = c.count_gains.ensures _ _ c.cut_gains-gain.ensures in
     let eo = c.offsets-offset.ensures in
-    let es = c.surplus_of-surplus.ensures in
+    let es = c.surplus_of.ensures in
     let ex = c.raise-raised.ensures.0 in (
       whole-high g _ _ _ s.requires.0.2.quotients s.requires.0.2.remainders _ _ ex eo es w s.requires.2,
       rw c.total-slope.ensures (slope_high g _ _ _ s.requires.0.2.quotients s.requires.0.2.remainders _ _ ex eo es w _ gs),
@@ -47,7 +47,7 @@ returns c =
     let w = c.amount-whole.ensures in
     let gs = c.count_gains.ensures _ _ c.cut_gains-gain.ensures in
     let eo = c.offsets-offset.ensures in
-    let es = c.surplus_of-surplus.ensures in
+    let es = c.surplus_of.ensures in
     let ex = c.raise-raised.ensures.0 in
     let t = c.reach.ensures in (
       λ u b k.
@@ -65,12 +65,12 @@ nonzero_div-start c = omega (arith, cores-low c.requires.0.2.of)
 pub nonzero_rem-start : goal.nonzero_rem-start
 nonzero_rem-start c = omega (arith, cores-low c.requires.0.2.of)
 
-pub surplus_of-surplus-requires : goal.surplus_of-surplus-requires
-surplus_of-surplus-requires c =
+pub surplus_of-requires : goal.surplus_of-requires
+surplus_of-requires c =
     let g = c.requires.0.2.of in
     (tasks-high g, λ i l. (shares_high g i l, separation-high g i l, offset-low g _ _ c.offsets-offset.ensures i l))
 
 pub amount-whole-requires : goal.amount-whole-requires
 amount-whole-requires c =
-    let a = at-arrays c.requires.0.2.of _ _ c.offsets-offset.ensures _ c.surplus_of-surplus.ensures in
+    let a = at-arrays c.requires.0.2.of _ _ c.offsets-offset.ensures _ c.surplus_of.ensures in
     (few a, surplus-high a, c.requires.1, omega (arith, more c.requires.0.2.of))

@@ -3,15 +3,15 @@ use Prim.Native.Nat.{ℕ, ◌+◌, ◌-◌, ◌≤◌, ◌<◌}
 use mathlib.Core.List.{List}
 use Rattle.largest.specs.Chosen.{Arranged}
 use Rattle.tasks.specs.TaskSet.{TaskSet}
-use Rattle.wish_search.specs.SheetArrays.{SheetWith}
+use Rattle.wish_search.specs.Sheets.{SheetForWith}
 use Rattle.wish_search.specs.Leaps.{Far}
-use Rattle.wish_search.proofs.leap.leap.Given as goal
+use Rattle.wish_search.proofs.search.Sheet.leap.Given as goal
 
 abbrev pub invariant-loop-from : goal.invariant-loop-from
 invariant-loop-from l = (l.best ≤ 12000000)
     × (l.start ≤ l.best)
-    × Arranged l.names l.tasks
-    × ((s : TaskSet) (b : List ℕ) → SheetWith s l.share l.separation b l.room l.quotient l.rest l.multiple l.cores l.tasks
+    × Arranged l.names l.self.tasks
+    × ((s : TaskSet) (b : List ℕ) → SheetForWith s l.self b l.divided
     → (k : ℕ)
     → k < l.from - l.start
     → Far s (l.start + k) l.best)

@@ -11,7 +11,7 @@ use Rattle.slack.specs.Weights.{weight_row, Amounts}
 use Rattle.slack.specs.Arrays.{need, ArraysOf, Needs}
 use Rattle.slack.proofs.NeedLaws.{need-least}
 use Rattle.slack.specs.StageLaws.{more, multiple-low, multiple-high, few, surplus-high, counted-row, amount-row}
-use Rattle.slack.proofs.amount.needed.Goals as goal
+use Rattle.slack.proofs.amount.Load.needed.Goals as goal
 
 module _ {s : TaskSet} {shares budgets offsets : List ℕ} {h surpluses m n : ℕ} (g : ArraysOf s shares budgets offsets h surpluses m n)
     (x : List ℕ) (low : (i : ℕ) → i < n → row x i ≤ 1600000) {names : List ℕ} {a : ℕ}

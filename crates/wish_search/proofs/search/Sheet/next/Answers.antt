@@ -1,6 +1,6 @@
 -- `wish_search::search::next` meets its contract.
 use Rattle.wish_search.specs.TurnLaws.{onward_round, onward_leap}
-use Rattle.wish_search.proofs.search.next.Goals as goal
+use Rattle.wish_search.proofs.search.Sheet.next.Goals as goal
 
 pub returns-then-rounds-gt0 : goal.returns-then-rounds-gt0
 returns-then-rounds-gt0 c =

@@ -8,8 +8,8 @@ use Rattle.tasks.specs.TaskSet.{TaskSet}
 use Rattle.wish_search.specs.SheetLaws.{cores-low}
 use Rattle.wish_search.specs.Leaps.{Far}
 use Rattle.wish_search.specs.FarLaws.{ahead-all}
-use Rattle.wish_search.proofs.leap.leap.Goals.{else-loop-from-test, then-loop-from-test+then-best-from}
-use Rattle.wish_search.proofs.leap.leap.Goals as goal
+use Rattle.wish_search.proofs.search.Sheet.leap.Goals.{else-loop-from-test, then-loop-from-test+then-best-from}
+use Rattle.wish_search.proofs.search.Sheet.leap.Goals as goal
 
 -- one number more, and the lesser of the two
 one_more :

@@ -12,7 +12,7 @@ use native.Mathlib.Omega.{arith}
 use Prim.Native.Nat.{ℕ, ◌≤◌, ◌<◌, ◌+◌, ◌*◌}
 use mathlib.Core.Path.{◌≡◌, ap, ◌∙◌}
 use lib.ListN.{get_or}
-use Rattle.slack.proofs.amount.amount.Goals as goal
+use Rattle.slack.proofs.amount.Load.amount.Goals as goal
 
 module _ (w : ℕ → ℕ) (n : ℕ) (l : List ℕ) (h : n ≤ 16) (g : Weighed w n l) where
   entry : (i : ℕ) → i < n → get_or l i 0 ≡ w i
