@@ -55,6 +55,7 @@ pub fn surplus_of(
     all
 }
 
+// Tests 9 and 10. Arrays one by one, since the offsets tried for a wish sheet are not those of its columns.
 pub fn rate(
     separation: &[u32; 16],
     budget: &[u32; 16],
