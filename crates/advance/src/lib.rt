@@ -1,15 +1,14 @@
-// A tick and a release, of a state that is sound: for callers that keep soundness by proof. They change the state's arrays where these lie.
+// A tick and a release, of a state that is sound: for callers that keep soundness by proof. They change the state where it lies.
 #![tactic(auto)]
 
-ghost use Rattle.std.specs.Prelude.{Bool, List, ℕ, ◌<◌};
+ghost use Rattle.std.specs.Prelude.{◌≡◌, ◌+◌, ◌<◌};
 ghost use Rattle.tasks.specs.TaskSet.{row};
-ghost use Rattle.tasks.specs.declared.Plan.{Plan};
 ghost use Rattle.state.specs.Parts.{state_from};
 ghost use Rattle.advance.specs.Advanced.{Ready, Ticked, Admitted};
 
 use choice::{choose, keys};
 use service::{join, serve};
-use tasks::Plan;
+use state::State;
 
 // What a tick says: the task that ran on each core, or 255 for an idle one, and the responses of the tasks that finished.
 #[derive(Clone, Copy)]
@@ -18,56 +17,27 @@ pub struct Ran {
     pub responses: [u32; 16],
 }
 
-pub fn tick(
-    plan: Plan,
-    clock: u32,
-    jobs: &mut [usize; 16],
-    remaining: &mut [u32; 256],
-    release: &mut [u32; 256],
-) -> Ran
-    requires { ((released : List Bool) × (last : List ℕ) × Ready (state_from plan clock jobs.old released last remaining.old release.old)) × (clock < 4000000000) }
-    ensures { (released : List Bool) (last : List ℕ)
-        → Ready (state_from plan clock jobs.old released last remaining.old release.old)
-        → Ticked (state_from plan clock jobs.old released last remaining.old release.old)
-        jobs.new remaining.new release.new result.runs result.responses }
+pub fn tick(state: &mut State) -> Ran
+    requires { Ready state.old × (state.old.clock < 4000000000) }
+    ensures ticked { Ticked state.old state.new.jobs state.new.remaining state.new.release result.runs result.responses }
+    ensures rest { state.new
+        ≡ state_from state.old.plan (state.old.clock + 1) state.new.jobs state.old.released state.old.last state.new.remaining state.new.release }
 {
-    let task = plan.task;
-    let tasks = plan.tasks;
-    let mut left = keys(jobs, release, task, tasks);
-    let runs = choose(&mut left, plan.cores, tasks);
+    let mut left = keys(state);
+    let runs = choose(&mut left, state.plan.cores, state.plan.tasks);
     let mut responses = [0u32; 16];
-    let finish = clock + 1;
-    serve(
-        finish,
-        &left,
-        jobs,
-        remaining,
-        release,
-        &mut responses,
-        tasks,
-    );
+    let finish = state.clock + 1;
+    serve(state, finish, &left, &mut responses);
+    state.clock = finish;
     Ran { runs, responses }
 }
 
 // "A taken release adds one job, released at the clock, with its demand as remaining work"
-pub fn admit(
-    task: usize,
-    clock: u32,
-    demand: u32,
-    jobs: &mut [usize; 16],
-    released: &mut [bool; 16],
-    last: &mut [u32; 16],
-    remaining: &mut [u32; 256],
-    release: &mut [u32; 256],
-)
-    requires { (task < 16) × (row jobs.old task < 16) }
-    ensures { (plan : Plan)
-        → Ready (state_from plan clock jobs.old released.old last.old remaining.old release.old)
-        → Admitted task demand
-        (state_from plan clock jobs.old released.old last.old remaining.old release.old)
-        jobs.new released.new last.new remaining.new release.new }
+pub fn admit(state: &mut State, task: usize, demand: u32)
+    requires { (task < 16) × (row state.old.jobs task < 16) }
+    ensures admitted { Ready state.old
+        → Admitted task demand state.old state.new.jobs state.new.released state.new.last state.new.remaining state.new.release }
+    ensures rest { (state.new.plan ≡ state.old.plan) × (state.new.clock ≡ state.old.clock) }
 {
-    join(
-        task, clock, demand, jobs, released, last, remaining, release,
-    );
+    join(state, task, demand);
 }

@@ -3,12 +3,13 @@
 
 ghost use Rattle.std.specs.Prelude.{◌≡◌, true, not, ◌&&◌, ◌||◌, ℕ, ◌+◌, ◌-◌, ◌≤◌, ◌<◌, ltb, leb, eqb};
 ghost use Rattle.tasks.specs.TaskSet.{row};
-ghost use Rattle.tasks.specs.Content.{has_deadlines, zero_task};
+ghost use Rattle.tasks.specs.Content.{has_deadlines, zero_task, task_of};
 ghost use Rattle.state.specs.SoundState.{all_of, loop_test};
 ghost use Rattle.clauses.specs.SoundTests.{label_zero, task_zero, loop_holds, place_holds, place_in};
 
+use state::State;
 use tasks::edition::has_deadlines;
-use tasks::{Task, limits};
+use tasks::{Plan, Task, limits};
 use tidy::is_no_task;
 
 fn label_zero(i: usize, cores: usize, label: u8) -> bool
@@ -31,11 +32,11 @@ fn deadline_zero(edition: u8, deadline: u32) -> bool
 }
 
 // "every unused place, also in the table part, is zero": the cores' labels
-pub fn labels_zero(labels: &[u8; 8], cores: usize) -> bool
-    ensures { result ≡ all_of (label_zero cores labels.now) 8 }
+pub fn labels_zero(plan: &Plan) -> bool
+    ensures { result ≡ all_of (label_zero plan.now.cores plan.now.labels) 8 }
 {
     for i in 0..8 {
-        if !label_zero(i, cores, labels[i]) {
+        if !label_zero(i, plan.cores, plan.labels[i]) {
             return false;
         }
     }
@@ -43,15 +44,15 @@ pub fn labels_zero(labels: &[u8; 8], cores: usize) -> bool
 }
 
 // The same of the tasks and their slack.
-pub fn tasks_zero(edition: u8, task: [Task; 16], slack: &[u32; 16], tasks: usize) -> bool
-    ensures { result ≡ all_of (task_zero edition tasks task slack.now) 16 }
+pub fn tasks_zero(plan: &Plan) -> bool
+    ensures { result ≡ all_of (task_zero plan.now.edition plan.now.tasks plan.now.task plan.now.slack) 16 }
 {
     for i in 0..16 {
-        let t = task[i];
-        if !task_zero(i, tasks, t, slack[i]) {
+        let t = plan.task[i];
+        if !task_zero(i, plan.tasks, t, plan.slack[i]) {
             return false;
         }
-        if !deadline_zero(edition, t.deadline) {
+        if !deadline_zero(plan.edition, t.deadline) {
             return false;
         }
     }
@@ -89,38 +90,30 @@ fn loop_sound(known: bool, clock: u32, jobs: usize, flag: bool, last: u32, newes
         && recent(jobs, flag, last, newest)
 }
 
-fn loop_at(
-    i: usize,
-    tasks: usize,
-    clock: u32,
-    jobs: &[usize; 16],
-    released: &[bool; 16],
-    last: &[u32; 16],
-    release: &[u32; 256],
-) -> bool
+fn loop_at(state: &State, i: usize) -> bool
     requires { i < 16 }
-    ensures { result ≡ loop_holds tasks clock jobs.now released.now last.now release.now i }
+    ensures { result ≡ loop_holds state.now.plan.tasks state.now.clock state.now.jobs state.now.released state.now.last state.now.release i }
 {
-    let held = jobs[i];
+    let held = state.jobs[i];
     if limits::JOBS_HIGH < held {
         return false;
     }
-    let newest = release[16 * i + held.saturating_sub(1)];
-    loop_sound(i < tasks, clock, held, released[i], last[i], newest)
+    let newest = state.release[16 * i + held.saturating_sub(1)];
+    loop_sound(
+        i < state.plan.tasks,
+        state.clock,
+        held,
+        state.released[i],
+        state.last[i],
+        newest,
+    )
 }
 
-pub fn loops(
-    tasks: usize,
-    clock: u32,
-    jobs: &[usize; 16],
-    released: &[bool; 16],
-    last: &[u32; 16],
-    release: &[u32; 256],
-) -> bool
-    ensures { result ≡ all_of (loop_holds tasks clock jobs.now released.now last.now release.now) 16 }
+pub fn loops(state: &State) -> bool
+    ensures { result ≡ all_of (loop_holds state.now.plan.tasks state.now.clock state.now.jobs state.now.released state.now.last state.now.release) 16 }
 {
     for i in 0..16 {
-        if !loop_at(i, tasks, clock, jobs, released, last, release) {
+        if !loop_at(state, i) {
             return false;
         }
     }
@@ -135,89 +128,77 @@ fn used_sound(least: u64, budget: u32, clock: u32, release: u32, remaining: u32)
     least <= release as u64 && release <= clock && 1 <= remaining && remaining <= budget
 }
 
-// The used places of loop `i`. The first release has to reach nothing.
-fn used_places(
-    i: usize,
-    separation: u32,
-    budget: u32,
-    clock: u32,
-    jobs: usize,
-    release: &[u32; 256],
-    remaining: &[u32; 256],
-) -> bool
+// The used places of loop `i`, whose task is `task`. The first release has to reach nothing.
+fn used_places(state: &State, i: usize, task: Task, jobs: usize) -> bool
     requires { (i < 16) × (jobs ≤ 16) }
-    ensures { result ≡ all_of (place_in separation budget clock jobs release.now remaining.now i) jobs }
+    ensures { result
+        ≡ all_of
+        (place_in task.separation task.budget state.now.clock jobs state.now.release state.now.remaining i)
+        jobs }
 {
     let first = 16 * i;
     let mut least = 0u64;
     for p in 0..jobs {
-        let released = release[first + p];
-        if !used_sound(least, budget, clock, released, remaining[first + p]) {
+        let released = state.release[first + p];
+        if !used_sound(
+            least,
+            task.budget,
+            state.clock,
+            released,
+            state.remaining[first + p],
+        ) {
             return false;
         }
-        least = released as u64 + separation as u64;
+        least = released as u64 + task.separation as u64;
     }
     true
 }
 
 // "every unused place … is zero": those of loop `i`. Each is looked at, also after one that is not zero, so that the compiler can take several
 // at a time.
-fn unused_places(i: usize, jobs: usize, release: &[u32; 256], remaining: &[u32; 256]) -> bool
+fn unused_places(state: &State, i: usize, jobs: usize) -> bool
     requires { (i < 16) × (jobs ≤ 16) }
     ensures { (T C t : ℕ)
-        → all_of (place_in T C t jobs release.now remaining.now i) jobs ≡ true
-        → result ≡ all_of (place_in T C t jobs release.now remaining.now i) 16 }
+        → all_of (place_in T C t jobs state.now.release state.now.remaining i) jobs ≡ true
+        → result ≡ all_of (place_in T C t jobs state.now.release state.now.remaining i) 16 }
 {
     let first = 16 * i;
     let mut zero = true;
     for p in jobs..16 {
-        zero &= (release[first + p] == 0) & (remaining[first + p] == 0);
+        zero &= (state.release[first + p] == 0) & (state.remaining[first + p] == 0);
     }
     zero
 }
 
 // The places of loop `i`. Most loops hold nothing: for them the compiler knows how many places are looked at.
-fn loop_places(
-    i: usize,
-    separation: u32,
-    budget: u32,
-    clock: u32,
-    jobs: usize,
-    release: &[u32; 256],
-    remaining: &[u32; 256],
-) -> bool
-    requires { (i < 16) × (jobs ≤ 16) }
-    ensures { result ≡ all_of (place_in separation budget clock jobs release.now remaining.now i) 16 }
+fn loop_places(state: &State, i: usize) -> bool
+    requires { (i < 16) × (row state.now.jobs i ≤ 16) }
+    ensures { result
+        ≡ all_of
+        (place_in
+        (task_of state.now.plan.task i).separation
+        (task_of state.now.plan.task i).budget
+        state.now.clock
+        (row state.now.jobs i)
+        state.now.release
+        state.now.remaining
+        i)
+        16 }
 {
+    let jobs = state.jobs[i];
     if jobs == 0 {
-        return unused_places(i, 0, release, remaining);
+        return unused_places(state, i, 0);
     }
-    used_places(i, separation, budget, clock, jobs, release, remaining)
-        && unused_places(i, jobs, release, remaining)
+    used_places(state, i, state.plan.task[i], jobs) && unused_places(state, i, jobs)
 }
 
 // The clauses about all 256 places, loop by loop, of loops that hold at most 16 jobs each.
-pub fn places(
-    task: [Task; 16],
-    clock: u32,
-    jobs: &[usize; 16],
-    release: &[u32; 256],
-    remaining: &[u32; 256],
-) -> bool
-    requires { (i : ℕ) → i < 16 → row jobs.now i ≤ 16 }
-    ensures { result ≡ all_of (place_holds task clock jobs.now release.now remaining.now) 256 }
+pub fn places(state: &State) -> bool
+    requires { (i : ℕ) → i < 16 → row state.now.jobs i ≤ 16 }
+    ensures { result ≡ all_of (place_holds state.now.plan.task state.now.clock state.now.jobs state.now.release state.now.remaining) 256 }
 {
     for i in 0..16 {
-        let t = task[i];
-        if !loop_places(
-            i,
-            t.separation,
-            t.budget,
-            clock,
-            jobs[i],
-            release,
-            remaining,
-        ) {
+        if !loop_places(state, i) {
             return false;
         }
     }

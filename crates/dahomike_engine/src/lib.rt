@@ -10,9 +10,9 @@ ghost use Rattle.engine_words.specs.Words.{machine_words, words_of, fits};
 ghost use Rattle.engine_lent.specs.Lent.{open_number, open_leaves, release_number, release_leaves, step_number, step_leaves, runs_leave, responses_leave};
 
 use dahomike_answer::answer;
-use engine::{open, release, step_fields};
+use engine::{open, release_lent, step_lent};
 use engine_store::put::{put_machine, put_plan};
-use engine_store::read::{fit, flags, jobs, numbers, plan, read};
+use engine_store::read::{fit, read};
 use state::State;
 use table::judge;
 use tasks::{Refusal, Rule};
@@ -28,32 +28,26 @@ fn fitting(words: &[u32; 653]) -> Result<(), Refusal>
 }
 
 // The words behind the plan's: a release and a step leave the plan as it is.
-fn put_rest(words: &mut [u32; 653], state: State)
-    requires { (i : ℕ) → i < 16 → row state.jobs i ≤ 16 }
-    ensures { words.new ≡ sets words.old 92 (machine_words state) }
+fn put_rest(words: &mut [u32; 653], state: &State)
+    requires { (i : ℕ) → i < 16 → row state.now.jobs i ≤ 16 }
+    ensures { words.new ≡ sets words.old 92 (machine_words state.now) }
 {
-    let jobs = state.jobs;
-    let released = state.released;
-    let last = state.last;
-    let remaining = state.remaining;
-    let release = state.release;
     put_machine(
         words,
         state.clock,
-        &jobs,
-        &released,
-        &last,
-        &remaining,
-        &release,
+        &state.jobs,
+        &state.released,
+        &state.last,
+        &state.remaining,
+        &state.release,
     );
 }
 
-fn put_state(words: &mut [u32; 653], state: State)
-    requires { (state.plan.cores ≤ 8) × (state.plan.tasks ≤ 16) × ((i : ℕ) → i < 16 → row state.jobs i ≤ 16) }
-    ensures { words.new ≡ words_of state }
+fn put_state(words: &mut [u32; 653], state: &State)
+    requires { (state.now.plan.cores ≤ 8) × (state.now.plan.tasks ≤ 16) × ((i : ℕ) → i < 16 → row state.now.jobs i ≤ 16) }
+    ensures { words.new ≡ words_of state.now }
 {
-    let plan = state.plan;
-    put_plan(words, plan);
+    put_plan(words, state.plan);
     put_rest(words, state);
 }
 
@@ -64,8 +58,7 @@ fn opened(table: &[u8], state: &mut [u32; 653]) -> Result<u64, Refusal>
     judgement.answer?;
     let plan = judgement.plan;
     let opened = open(plan);
-    let after = opened.state;
-    put_state(state, after);
+    put_state(state, &opened.state);
     Ok(0)
 }
 
@@ -81,10 +74,9 @@ fn released(state: &mut [u32; 653], task: u32, demand: u32) -> Result<u64, Refus
     ensures { (told_number result ≡ release_number state.old task demand) × (state.new ≡ release_leaves state.old task demand) }
 {
     fitting(state)?;
-    let done = release(read(state), task as usize, demand);
-    done.answer?;
-    let after = done.state;
-    put_rest(state, after);
+    let mut after = read(state);
+    release_lent(&mut after, task as usize, demand)?;
+    put_rest(state, &after);
     Ok(0)
 }
 
@@ -107,26 +99,12 @@ fn stepped(
         × (responses.new ≡ responses_leave state.old responses.old) }
 {
     fitting(state)?;
-    let plan = plan(state);
-    let clock = state[92];
-    let mut jobs = jobs(state);
-    let flags = flags(state);
-    let last = numbers(state, 125);
-    let mut remaining = numbers(state, 141);
-    let mut release = numbers(state, 397);
-    let done = step_fields(
-        plan,
-        clock,
-        &mut jobs,
-        &flags,
-        &last,
-        &mut remaining,
-        &mut release,
-    );
+    let mut after = read(state);
+    let done = step_lent(&mut after);
     let ran = done.runs;
     let finished = done.responses;
     done.answer?;
-    put_machine(state, clock + 1, &jobs, &flags, &last, &remaining, &release);
+    put_rest(state, &after);
     *runs = ran;
     *responses = finished;
     Ok(0)

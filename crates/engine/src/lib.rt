@@ -4,4 +4,4 @@
 mod calls;
 mod empty;
 
-pub use calls::{Ticked, open, release, step, step_fields};
+pub use calls::{Ticked, open, release, release_lent, step, step_lent};

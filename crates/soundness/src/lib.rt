@@ -2,44 +2,31 @@
 #![tactic(auto)]
 
 ghost use Rattle.std.specs.Prelude.{◌≡◌};
-ghost use Rattle.state.specs.Parts.{state_from};
 ghost use Rattle.state.specs.SoundState.{sound_of};
 
 use analysis::test;
 use clauses::{labels_zero, loops, places, tasks_zero};
-use tasks::{Plan, limits};
+use state::State;
+use tasks::limits;
 
-// "A state is sound if …": the state that has these fields. Its arrays are lent, not copied.
-pub fn sound(
-    plan: Plan,
-    clock: u32,
-    jobs: &[usize; 16],
-    released: &[bool; 16],
-    last: &[u32; 16],
-    remaining: &[u32; 256],
-    release: &[u32; 256],
-) -> bool
-    ensures { result ≡ sound_of (state_from plan clock jobs.now released.now last.now remaining.now release.now) }
+// "A state is sound if …". The state is lent, not copied.
+pub fn sound(state: &State) -> bool
+    ensures { result ≡ sound_of state.now }
 {
-    let cores = plan.cores;
-    let tasks = plan.tasks;
-    let labels = plan.labels;
-    let task = plan.task;
-    let slack = plan.slack;
-    let Ok(()) = test(plan) else {
+    let Ok(()) = test(state.plan) else {
         return false;
     };
-    if !labels_zero(&labels, cores) {
+    if !labels_zero(&state.plan) {
         return false;
     }
-    if !tasks_zero(plan.edition, task, &slack, tasks) {
+    if !tasks_zero(&state.plan) {
         return false;
     }
-    if limits::CLOCK_END < clock {
+    if limits::CLOCK_END < state.clock {
         return false;
     }
-    if !loops(tasks, clock, jobs, released, last, release) {
+    if !loops(state) {
         return false;
     }
-    places(task, clock, jobs, release, remaining)
+    places(state)
 }

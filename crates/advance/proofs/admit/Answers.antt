@@ -6,13 +6,13 @@ use Rattle.tasks.specs.TaskSet.{row}
 use mathlib.Core.Path.{◌≡◌, ◌∙◌}
 use Rattle.advance.proofs.admit.Goals as goal
 
-pub returns : goal.returns
+pub returns-clause-admitted : goal.returns-clause-admitted
 unfolding row AdmitCode
-returns c = λ plan R.
+returns-clause-admitted c = λ R.
     let a = c in
     let x = a.args in
-    let t = state_from plan x.clock x.jobs.now x.released.now x.last.now x.remaining.now x.release.now in
-    let j = c.join.ensures in
-    let made : ◌≡◌ {A = State} (state_from plan x.clock _ _ _ _ _) (state_from plan x.clock _ _ _ _ _) =
-    λ k. state_from plan x.clock (j.jobs-joined k) (j.released-joined k) (j.last-joined k) (j.work-joined k) (j.release-joined k) in
+    let t = x.state.now in
+    let j = c.join.ensures.joined in
+    let made : ◌≡◌ {A = State} (state_from t.plan t.clock _ _ _ _ _) (state_from t.plan t.clock _ _ _ _ _) =
+    λ k. state_from t.plan t.clock (j.jobs-joined k) (j.released-joined k) (j.last-joined k) (j.work-joined k) (j.release-joined k) in
     made ∙ admit_code t R.shape R.sound x.task x.demand a.requires.0 a.requires.1

@@ -4,7 +4,6 @@ use Rattle.service.specs.StepLaws.{sound-limits, sound-few, sound_jobless, TickC
 use Rattle.choice.proofs.PickLaws.{keys-rest}
 use Rattle.choice.specs.Pick.{Jobless}
 use Rattle.state.proofs.FitLaws.{in_cores}
-use Rattle.state.specs.Parts.{state_from}
 use Rattle.state.specs.declared.State.{State}
 use Prim.Native.Nat.{◌≤◌}
 use native.Mathlib.Omega.{arith}
@@ -18,23 +17,23 @@ cores : (s : State) → Ready s → s.plan.cores ≤ 8
 cores s R = omega (arith, (sound-limits s R.shape R.sound).cores-high, in_cores s.plan)
 
 pub keys-left-requires : goal.keys-left-requires
-keys-left-requires c = beyond _ c.requires.0.2
+keys-left-requires c = beyond _ c.requires.0
 
 pub choose-runs-requires : goal.choose-runs-requires
 choose-runs-requires c =
-    let a = c.args in
-    let b = beyond _ c.requires.0.2 in (
-      cores _ c.requires.0.2,
+    let s = c.args.state.now in
+    let b = beyond _ c.requires.0 in (
+      cores _ c.requires.0,
       b.0,
-      rw c.keys-left.ensures (keys-rest a.jobs.now a.release.now a.plan.tasks b.1 a.plan.task),
+      rw c.keys-left.ensures (keys-rest s.jobs s.release s.plan.tasks b.1 s.plan.task),
     )
 
 pub serve-requires : goal.serve-requires
-serve-requires c = beyond _ c.requires.0.2
+serve-requires c = beyond _ c.requires.0
 
-pub returns : goal.returns
+pub returns-clause-ticked : goal.returns-clause-ticked
 unfolding TickCode
-returns c = λ released last R.
-    let a = c.args in
-    tick_code (state_from a.plan a.clock a.jobs.now released last a.remaining.now a.release.now) R.shape R.sound _ _ _ _ _ _ _
-    c.keys-left.ensures c.choose-runs.ensures.keys_after c.choose-runs.ensures.value c.serve.ensures
+returns-clause-ticked c =
+    let R = c.requires.0 in
+    tick_code c.args.state.now R.shape R.sound _ _ _ _ _ _ _
+    c.keys-left.ensures c.choose-runs.ensures.keys_after c.choose-runs.ensures.value c.serve.ensures.turns

@@ -6,4 +6,4 @@ use mathlib.Core.Path.{◌≡◌}
 use Rattle.clauses.proofs.labels_zero.Given as goal
 
 abbrev pub invariant-loop-i : goal.invariant-loop-i
-invariant-loop-i l = all_of (label_zero l.cores l.labels) l.i ≡ true
+invariant-loop-i l = all_of (label_zero l.plan.cores l.plan.labels) l.i ≡ true

@@ -6,4 +6,4 @@ use mathlib.Core.Path.{◌≡◌}
 use Rattle.clauses.proofs.loops.Given as goal
 
 abbrev pub invariant-loop-i : goal.invariant-loop-i
-invariant-loop-i l = all_of (loop_holds l.tasks l.clock l.jobs l.released l.last l.release) l.i ≡ true
+invariant-loop-i l = all_of (loop_holds l.state.plan.tasks l.state.clock l.state.jobs l.state.released l.state.last l.state.release) l.i ≡ true

@@ -18,18 +18,18 @@ loop_places-requires c = (omega arith, c.requires c.loop-i.i (omega arith))
 pub returns-then-not-loop_places : goal.returns-then-not-loop_places
 unfolding task_of no_task row
 returns-then-not-loop_places c =
-    let a = c.args in
+    let s = c.args.state.now in
     let i = c.loop-i.i in
     sym
-    (block_fails (place_holds a.task a.clock a.jobs.now a.release.now a.remaining.now) _ i
-    (place-of a.task a.clock a.jobs.now a.release.now a.remaining.now i) (omega arith)
+    (block_fails (place_holds s.plan.task s.clock s.jobs s.release s.remaining) _ i
+    (place-of s.plan.task s.clock s.jobs s.release s.remaining i) (omega arith)
     (sym c.loop_places.ensures ∙ c.if-not-loop_places.true))
 
 pub loop-i-preserved : goal.loop-i-preserved
 unfolding task_of no_task row
 loop-i-preserved c =
-    let a = c.args in
+    let s = c.args.state.now in
     let l = c.loop-i in
-    block_more (place_holds a.task a.clock a.jobs.now a.release.now a.remaining.now) _ l.i
-    (place-of a.task a.clock a.jobs.now a.release.now a.remaining.now l.i) l.invariant
+    block_more (place_holds s.plan.task s.clock s.jobs s.release s.remaining) _ l.i
+    (place-of s.plan.task s.clock s.jobs s.release s.remaining l.i) l.invariant
     (sym c.loop_places.ensures ∙ c.if-not-loop_places.false)

@@ -7,4 +7,4 @@ use mathlib.Core.Path.{◌≡◌}
 use Rattle.clauses.proofs.places.Given as goal
 
 abbrev pub invariant-loop-i : goal.invariant-loop-i
-invariant-loop-i l = all_of (place_holds l.task l.clock l.jobs l.release l.remaining) (16 * l.i) ≡ true
+invariant-loop-i l = all_of (place_holds l.state.plan.task l.state.clock l.state.jobs l.state.release l.state.remaining) (16 * l.i) ≡ true

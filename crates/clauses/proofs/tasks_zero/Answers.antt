@@ -14,17 +14,17 @@ loop-i-init c = refl
 pub returns-then-not-task_zero : goal.returns-then-not-task_zero
 unfolding task_zero task_of no_task row
 returns-then-not-task_zero c =
-    let a = c.args in
+    let p = c.args.plan.now in
     sym
-    (all_fails (task_zero a.edition a.tasks a.task a.slack.now) 16 c.loop-i.i (omega arith)
+    (all_fails (task_zero p.edition p.tasks p.task p.slack) 16 c.loop-i.i (omega arith)
     (rw (sym c.task_zero.ensures ∙ c.if-not-task_zero.true)))
 
 pub returns-then-not-deadline_zero : goal.returns-then-not-deadline_zero
 unfolding task_zero task_of no_task row
 returns-then-not-deadline_zero c =
-    let a = c.args in
+    let p = c.args.plan.now in
     sym
-    (all_fails (task_zero a.edition a.tasks a.task a.slack.now) 16 c.loop-i.i (omega arith)
+    (all_fails (task_zero p.edition p.tasks p.task p.slack) 16 c.loop-i.i (omega arith)
     (rw (
       sym c.task_zero.ensures ∙ c.if-not-task_zero.false,
       sym c.deadline_zero.ensures ∙ c.if-not-deadline_zero.true,

@@ -6,4 +6,4 @@ use mathlib.Core.Path.{◌≡◌}
 use Rattle.clauses.proofs.tasks_zero.Given as goal
 
 abbrev pub invariant-loop-i : goal.invariant-loop-i
-invariant-loop-i l = all_of (task_zero l.edition l.tasks l.task l.slack) l.i ≡ true
+invariant-loop-i l = all_of (task_zero l.plan.edition l.plan.tasks l.plan.task l.plan.slack) l.i ≡ true

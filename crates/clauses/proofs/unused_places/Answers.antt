@@ -8,4 +8,4 @@ unfolding row
 loop-p-preserved c =
     let a = c.args in
     let l = c.loop-p in
-    λ T C t e. rw (unused-more T C t a.jobs a.release.now a.remaining.now a.i l.p l.auto.p, ← l.invariant T C t e) (turned l.zero _ _)
+    λ T C t e. rw (unused-more T C t a.jobs a.state.now.release a.state.now.remaining a.i l.p l.auto.p, ← l.invariant T C t e) (turned l.zero _ _)

@@ -8,4 +8,4 @@ use Rattle.clauses.proofs.unused_places.Given as goal
 
 abbrev pub invariant-loop-p : goal.invariant-loop-p
 invariant-loop-p l =
-    (T C t : ℕ) → all_of (place_in T C t l.jobs l.release l.remaining l.i) l.jobs ≡ true → l.zero ≡ all_of (place_in T C t l.jobs l.release l.remaining l.i) l.p
+    (T C t : ℕ) → all_of (place_in T C t l.jobs l.state.release l.state.remaining l.i) l.jobs ≡ true → l.zero ≡ all_of (place_in T C t l.jobs l.state.release l.state.remaining l.i) l.p

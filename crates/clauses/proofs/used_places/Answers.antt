@@ -15,21 +15,23 @@ pub returns-then-not-used_sound : goal.returns-then-not-used_sound
 unfolding row
 returns-then-not-used_sound c =
     let a = c.args in
+    let s = a.state.now in
     let l = c.loop-p in
     let h : l.p < a.jobs = omega arith in
     sym
     (all_fails _ a.jobs l.p h
-    (rw (used-holds a.separation a.budget a.clock a.jobs a.release.now a.remaining.now a.i l.p h, ← l.invariant.1)
+    (rw (used-holds a.task.separation a.task.budget s.clock a.jobs s.release s.remaining a.i l.p h, ← l.invariant.1)
     (sym c.used_sound.ensures ∙ c.if-not-used_sound.true)))
 
 pub loop-p-preserved : goal.loop-p-preserved
 unfolding row
 loop-p-preserved c =
     let a = c.args in
+    let s = a.state.now in
     let l = c.loop-p in
     let h : l.p < a.jobs = omega arith in (
       all_more _ l.p l.invariant.0
-          (rw (used-holds a.separation a.budget a.clock a.jobs a.release.now a.remaining.now a.i l.p h, ← l.invariant.1)
+          (rw (used-holds a.task.separation a.task.budget s.clock a.jobs s.release s.remaining a.i l.p h, ← l.invariant.1)
           (sym c.used_sound.ensures ∙ c.if-not-used_sound.false)),
-      sym (least_more a.separation a.release.now a.i l.p),
+      sym (least_more a.task.separation s.release a.i l.p),
     )

@@ -6,4 +6,4 @@ use mathlib.Core.Path.{◌≡◌}
 use Rattle.clauses.proofs.used_places.Given as goal
 
 abbrev pub invariant-loop-p : goal.invariant-loop-p
-invariant-loop-p l = (all_of (place_in l.separation l.budget l.clock l.jobs l.release l.remaining l.i) l.p ≡ true) × (l.least ≡ least_at l.separation l.release l.i l.p)
+invariant-loop-p l = (all_of (place_in l.task.separation l.task.budget l.state.clock l.jobs l.state.release l.state.remaining l.i) l.p ≡ true) × (l.least ≡ least_at l.task.separation l.state.release l.i l.p)

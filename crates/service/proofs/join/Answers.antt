@@ -8,27 +8,27 @@ pub overflow_add-place : goal.overflow_add-place
 unfolding row
 overflow_add-place c = omega arith
 
-pub overflow_add-jobs : goal.overflow_add-jobs
+pub overflow_add-state : goal.overflow_add-state
 unfolding row
-overflow_add-jobs c = omega arith
+overflow_add-state c = omega arith
 
-pub offset_bounds-remaining-place : goal.offset_bounds-remaining-place
+pub offset_bounds-state-place : goal.offset_bounds-state-place
 unfolding row
-offset_bounds-remaining-place c = omega arith
+offset_bounds-state-place c = omega arith
 
-pub bounds-remaining-place : goal.bounds-remaining-place
+pub bounds-state-place : goal.bounds-state-place
 unfolding row
-bounds-remaining-place c = omega arith
+bounds-state-place c = omega arith
 
-pub offset_bounds-release-place : goal.offset_bounds-release-place
+pub offset_bounds-state-place-2 : goal.offset_bounds-state-place-2
 unfolding row
-offset_bounds-release-place c = omega arith
+offset_bounds-state-place-2 c = omega arith
 
-pub bounds-release-place : goal.bounds-release-place
+pub bounds-state-place-2 : goal.bounds-state-place-2
 unfolding row
-bounds-release-place c = omega arith
+bounds-state-place-2 c = omega arith
 
-pub returns : goal.returns
+pub returns-clause-joined : goal.returns-clause-joined
 unfolding row
-returns c =
+returns-clause-joined c =
     record { jobs-joined = refl; released-joined = refl; last-joined = refl; work-joined = refl; release-joined = refl }

@@ -3,27 +3,31 @@ use Rattle.service.specs.CodeLaws.{turn_none, turn_left, turn_less, turn_last}
 use Rattle.tasks.specs.TaskSet.{row}
 use Rattle.service.proofs.turn.Goals as goal
 
-pub returns-then-jobs-i-eq0 : goal.returns-then-jobs-i-eq0
+pub returns-then-state-i-eq0-clause-turned : goal.returns-then-state-i-eq0-clause-turned
 unfolding row
-returns-then-jobs-i-eq0 c =
+returns-then-state-i-eq0-clause-turned c =
     let a = c.args in
-    turn_none a.finish a.i a.key a.jobs.now a.remaining.now a.release.now a.responses.now c.if-jobs-i-eq0.true
+    let s = a.state.now in
+    turn_none a.finish a.i a.key s.jobs s.remaining s.release a.responses.now c.if-state-i-eq0.true
 
-pub returns-then-key-ne-NO_KEY : goal.returns-then-key-ne-NO_KEY
+pub returns-then-key-ne-NO_KEY-clause-turned : goal.returns-then-key-ne-NO_KEY-clause-turned
 unfolding row
-returns-then-key-ne-NO_KEY c =
+returns-then-key-ne-NO_KEY-clause-turned c =
     let a = c.args in
-    turn_left a.finish a.i a.key a.jobs.now a.remaining.now a.release.now a.responses.now c.if-key-ne-NO_KEY.true
+    let s = a.state.now in
+    turn_left a.finish a.i a.key s.jobs s.remaining s.release a.responses.now c.if-key-ne-NO_KEY.true
 
-pub returns-then-work-gt1 : goal.returns-then-work-gt1
+pub returns-then-work-gt1-clause-turned : goal.returns-then-work-gt1-clause-turned
 unfolding row
-returns-then-work-gt1 c =
+returns-then-work-gt1-clause-turned c =
     let a = c.args in
-    turn_less a.finish a.i a.key a.jobs.now a.remaining.now a.release.now a.responses.now c.if-jobs-i-eq0.false c.if-key-ne-NO_KEY.false c.if-work-gt1.true
+    let s = a.state.now in
+    turn_less a.finish a.i a.key s.jobs s.remaining s.release a.responses.now c.if-state-i-eq0.false c.if-key-ne-NO_KEY.false c.if-work-gt1.true
 
-pub returns : goal.returns
+pub returns-clause-turned : goal.returns-clause-turned
 unfolding row
-returns c =
+returns-clause-turned c =
     let a = c.args in
+    let s = a.state.now in
     rw (c.move_down.ensures, c.move_down-2.ensures, c.saturating_sub.ensures)
-    (turn_last a.finish a.i a.key a.jobs.now a.remaining.now a.release.now a.responses.now c.if-jobs-i-eq0.false c.if-key-ne-NO_KEY.false c.if-work-gt1.false)
+    (turn_last a.finish a.i a.key s.jobs s.remaining s.release a.responses.now c.if-state-i-eq0.false c.if-key-ne-NO_KEY.false c.if-work-gt1.false)

@@ -9,10 +9,10 @@ pub returns-then-not-sound : goal.returns-then-not-sound
 unfolding step_tests first_met
 returns-then-not-sound c = rw (c.at.ensures, sym c.sound.ensures ∙ c.if-not-sound.true)
 
-pub returns-then-clock-eq-CLOCK_END : goal.returns-then-clock-eq-CLOCK_END
+pub returns-then-state : goal.returns-then-state
 unfolding step_tests first_met
-returns-then-clock-eq-CLOCK_END c = rw (c.at-then-clock-eq-CLOCK_END.ensures, sym c.sound.ensures ∙ c.if-not-sound.false, eq-eqb _ _ c.if-clock-eq-CLOCK_END.true)
+returns-then-state c = rw (c.at-then-state.ensures, sym c.sound.ensures ∙ c.if-not-sound.false, eq-eqb _ _ c.if-state.true)
 
 pub returns : goal.returns
 unfolding step_tests first_met
-returns c = rw (sym c.sound.ensures ∙ c.if-not-sound.false, ne_eqb _ _ c.if-clock-eq-CLOCK_END.false)
+returns c = rw (sym c.sound.ensures ∙ c.if-not-sound.false, ne_eqb _ _ c.if-state.false)
