@@ -5,7 +5,7 @@ use tasks::Plan;
 use test_converts::converted;
 use test_engine::calls;
 use test_engine::lent::lent;
-use test_engine::made::busy;
+use test_engine::made::{Job, busy};
 use test_logs::run;
 use test_script::buffer::{FILL, untouched};
 use test_script::line::{Line, front};
@@ -58,14 +58,18 @@ fn sentence(mut words: Line) {
     told(refusal, index, value, room);
 }
 
+fn job(words: &mut Line) -> Job {
+    let release = words.number32();
+    let work = words.number32();
+    Job { release, work }
+}
+
 // `lent CLOCK RELEASE WORK RELEASE WORK NAME`: the plan at this tick with a job of loop 0 and one of loop 1, lent to `step_in_place`.
 fn lend(plan: Plan, mut words: Line) {
     let clock = words.number32();
-    let older = words.number32();
-    let left = words.number32();
-    let newer = words.number32();
-    let whole = words.number32();
-    lent(words.rest(), busy(plan, clock, older, left, newer, whole));
+    let first = job(&mut words);
+    let second = job(&mut words);
+    lent(words.rest(), busy(plan, clock, first, second));
 }
 
 pub fn act(world: &World, what: &[u8], words: Line) {

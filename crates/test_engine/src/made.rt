@@ -5,23 +5,30 @@ use state::State;
 use tasks::Plan;
 use tidy::no_plan;
 
-// A loop holds one job, with this release and this remaining work.
-fn hold(state: &mut State, i: usize, release: u32, work: u32)
+// The release and remaining work of a job, right or wrong.
+#[derive(Clone, Copy)]
+pub struct Job {
+    pub release: u32,
+    pub work: u32,
+}
+
+// A loop holds this one job.
+fn hold(state: &mut State, i: usize, job: Job)
     requires { i < 16 }
 {
     state.jobs[i] = 1;
     state.released[i] = true;
-    state.last[i] = release;
-    state.release[16 * i] = release;
-    state.remaining[16 * i] = work;
+    state.last[i] = job.release;
+    state.release[16 * i] = job.release;
+    state.remaining[16 * i] = job.work;
 }
 
-// A plan opened, at this tick, with a job of loop 0 and one of loop 1: release and remaining work of each, right or wrong.
-pub fn busy(plan: Plan, clock: u32, older: u32, left: u32, newer: u32, whole: u32) -> State {
+// A plan opened, at this tick, with a job of loop 0 and one of loop 1.
+pub fn busy(plan: Plan, clock: u32, first: Job, second: Job) -> State {
     let mut state = engine::open(plan).state;
     state.clock = clock;
-    hold(&mut state, 0, older, left);
-    hold(&mut state, 1, newer, whole);
+    hold(&mut state, 0, first);
+    hold(&mut state, 1, second);
     state
 }
 

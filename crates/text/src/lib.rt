@@ -41,15 +41,23 @@ fn put_pair(out: &mut [u8], first: &[u8], a: u64, second: &[u8], b: u64) -> usiz
     put_words(out, end, b"\n")
 }
 
+// What a loop's line says behind its index.
+#[derive(Clone, Copy)]
+struct Figures {
+    slack: u32,
+    bound: u64,
+    late: u64,
+}
+
 // The line of one loop, from `at` on: "index, x, bound and late".
-fn put_task(out: &mut [u8], at: usize, i: u64, slack: u32, bound: u64, late: u64) -> usize
-    requires { at + length (task_line i slack bound late) ≤ length out.old }
-    ensures { Stored out.old at (task_line i slack bound late) result out.new }
+fn put_task(out: &mut [u8], at: usize, i: usize, of: Figures) -> usize
+    requires { at + length (task_line i of.slack of.bound of.late) ≤ length out.old }
+    ensures { Stored out.old at (task_line i of.slack of.bound of.late) result out.new }
 {
-    let first = put_said(out, at, b"loop ", i);
-    let second = put_said(out, first, b" slack ", slack as u64);
-    let third = put_said(out, second, b" bound ", bound);
-    let fourth = put_said(out, third, b" late ", late);
+    let first = put_said(out, at, b"loop ", i as u64);
+    let second = put_said(out, first, b" slack ", of.slack as u64);
+    let third = put_said(out, second, b" bound ", of.bound);
+    let fourth = put_said(out, third, b" late ", of.late);
     put_words(out, fourth, b"\n")
 }
 
@@ -68,7 +76,12 @@ fn put_plan(out: &mut [u8], plan: Plan) -> usize
         let t = task[i];
         let x = slack[i];
         let b = bound(each, t, x);
-        at = put_task(out, at, i as u64, x, b, late(edition, t, b));
+        let figures = Figures {
+            slack: x,
+            bound: b,
+            late: late(edition, t, b),
+        };
+        at = put_task(out, at, i, figures);
     }
     at
 }

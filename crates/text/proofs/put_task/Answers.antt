@@ -13,7 +13,7 @@ put_said-first-requires c =
     let a = c.args in
     omega (
       arith,
-      length-task-line a.i a.slack a.bound a.late,
+      length-task-line a.i a.of.slack a.of.bound a.of.late,
       length-said (words "loop ") a.i,
     )
 
@@ -24,9 +24,9 @@ put_said-second-requires c =
     let a = c.args in
     omega (
       arith,
-      length-task-line a.i a.slack a.bound a.late,
+      length-task-line a.i a.of.slack a.of.bound a.of.late,
       length-said (words "loop ") a.i,
-      length-said (words " slack ") a.slack,
+      length-said (words " slack ") a.of.slack,
       s1.ensures.place,
       s1.auto.out,
     )
@@ -39,10 +39,10 @@ put_said-third-requires c =
     let a = c.args in
     omega (
       arith,
-      length-task-line a.i a.slack a.bound a.late,
+      length-task-line a.i a.of.slack a.of.bound a.of.late,
       length-said (words "loop ") a.i,
-      length-said (words " slack ") a.slack,
-      length-said (words " bound ") a.bound,
+      length-said (words " slack ") a.of.slack,
+      length-said (words " bound ") a.of.bound,
       s2.ensures.place,
       s2.auto.out,
       s1.ensures.place,
@@ -58,11 +58,11 @@ put_said-fourth-requires c =
     let a = c.args in
     omega (
       arith,
-      length-task-line a.i a.slack a.bound a.late,
+      length-task-line a.i a.of.slack a.of.bound a.of.late,
       length-said (words "loop ") a.i,
-      length-said (words " slack ") a.slack,
-      length-said (words " bound ") a.bound,
-      length-said (words " late ") a.late,
+      length-said (words " slack ") a.of.slack,
+      length-said (words " bound ") a.of.bound,
+      length-said (words " late ") a.of.late,
       s3.ensures.place,
       s3.auto.out,
       s2.ensures.place,
@@ -81,12 +81,12 @@ put_words-requires c =
     let a = c.args in
     omega (
       arith,
-      length-task-line a.i a.slack a.bound a.late,
+      length-task-line a.i a.of.slack a.of.bound a.of.late,
       c.requires,
       length-said (words "loop ") a.i,
-      length-said (words " slack ") a.slack,
-      length-said (words " bound ") a.bound,
-      length-said (words " late ") a.late,
+      length-said (words " slack ") a.of.slack,
+      length-said (words " bound ") a.of.bound,
+      length-said (words " late ") a.of.late,
       s4.ensures.place,
       s4.auto.out,
       s3.ensures.place,
