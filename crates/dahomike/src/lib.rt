@@ -25,26 +25,34 @@ use table::judge;
 use tasks::bound::{bound, core_for_each};
 use tasks::{Plan, Refusal, Rule};
 
-// A task's slack and bound, 4 bytes each, from `at` on.
-fn put_pair(out: &mut [u8], at: usize, slack: u32, bound: u32)
+// What an entry says of a task.
+#[derive(Clone, Copy)]
+struct Entry {
+    offset: u32,
+    slack: u32,
+    bound: u32,
+}
+
+// Slack and bound, 4 bytes each, from `at` on.
+fn put_pair(out: &mut [u8], at: usize, of: Entry)
     requires { at + 8 ≤ length out.old }
-    ensures { out.new ≡ sets out.old at (digits 4 slack ++ digits 4 bound) }
+    ensures { out.new ≡ sets out.old at (digits 4 of.slack ++ digits 4 of.bound) }
 {
-    put4(out, at, slack);
-    put4(out, at + 4, bound);
+    put4(out, at, of.slack);
+    put4(out, at + 4, of.bound);
 }
 
 // The entry of task `i` among entries of one size: slack and bound, and before them the offset where it was found for a wish.
-fn put_entry(out: &mut [u8], i: usize, offset: u32, slack: u32, bound: u32, wishes: bool)
+fn put_entry(out: &mut [u8], i: usize, of: Entry, wishes: bool)
     requires { (i < 16) × (entry_size wishes * i + entry_size wishes ≤ length out.old) }
-    ensures { out.new ≡ sets out.old (entry_size wishes * i) (entry_bytes wishes offset slack bound) }
+    ensures { out.new ≡ sets out.old (entry_size wishes * i) (entry_bytes wishes of.offset of.slack of.bound) }
 {
     if wishes {
-        put4(out, 12 * i, offset);
-        put_pair(out, 12 * i + 4, slack, bound);
+        put4(out, 12 * i, of.offset);
+        put_pair(out, 12 * i + 4, of);
         return;
     }
-    put_pair(out, 8 * i, slack, bound);
+    put_pair(out, 8 * i, of);
 }
 
 // "The C judgement writes slack and bound for each loop"
@@ -58,8 +66,14 @@ fn report(plan: Plan, out: &mut [u8], wishes: bool)
     let each = core_for_each(plan.cores, tasks);
     for i in 0..tasks {
         let t = task[i];
-        let b = bound(each, t, slack[i]) as u32;
-        put_entry(out, i, t.offset, slack[i], b, wishes);
+        let x = slack[i];
+        let b = bound(each, t, x) as u32;
+        let entry = Entry {
+            offset: t.offset,
+            slack: x,
+            bound: b,
+        };
+        put_entry(out, i, entry, wishes);
     }
 }
 

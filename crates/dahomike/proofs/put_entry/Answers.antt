@@ -19,4 +19,4 @@ joined w l u v i a b c t e q =
 
 pub returns-then-wishes : goal.returns-then-wishes
 returns-then-wishes c = let a = c.args in
-    joined a.wishes a.out.now _ _ a.i a.offset a.slack a.bound c.if-wishes.true c.put4.ensures c.put_pair.ensures
+    joined a.wishes a.out.now _ _ a.i a.of.offset a.of.slack a.of.bound c.if-wishes.true c.put4.ensures c.put_pair.ensures

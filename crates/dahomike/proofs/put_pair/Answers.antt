@@ -13,6 +13,4 @@ joined : (l u v : List ℕ) (at a b : ℕ) → u ≡ sets l at (digits 4 a) → 
 joined l u v at a b e q = q ∙ rw e (sets-next l at (at + 4) (digits 4 a) (digits 4 b) (omega (arith, length_digits 4 a)))
 
 pub returns : goal.returns
-returns c =
-    let s = c in
-    joined s.args.out.now _ _ s.args.at s.args.slack s.args.bound c.put4.ensures c.put4-2.ensures
+returns c = let a = c.args in joined a.out.now _ _ a.at a.of.slack a.of.bound c.put4.ensures c.put4-2.ensures
