@@ -9,6 +9,9 @@ use test_world::world::World;
 // The file descriptor of standard input.
 const STDIN_FILENO: i32 = 0;
 
+// A longer script is cut off: the library reads a stream into an array that it is lent.
+const MOST: usize = 131072;
+
 fn run(script: &[u8]) {
     let mut world = World::new();
     for line in script.split(|byte| *byte == b'\n') {
@@ -17,7 +20,7 @@ fn run(script: &[u8]) {
 }
 
 fn main() {
-    let mut script = [0u8; 131072];
+    let mut script = [0u8; MOST];
     let length = io::read_full(STDIN_FILENO, &mut script);
     run(&script[..length]);
 }
