@@ -65,6 +65,7 @@ impl Run {
             put_refused(out, e, Rule::TaskNotInTable.number());
             return false;
         }
+        prove!(task < 16);
         let held = self.pending.jobs[task];
         let test = admission_test(
             on.columns.separation[task],
@@ -79,6 +80,7 @@ impl Run {
             put_refused(out, e, refusal.number);
             return false;
         }
+        prove!(held < 16);
         self.pending.owners[16 * task + held] = e as u32;
         self.pending.jobs[task] = held + 1;
         self.released[task] = true;

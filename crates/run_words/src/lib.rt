@@ -1,6 +1,6 @@
 // Fixed words of sentences, those between index and value: what would be right, for 14 to 31, of a log, the engine, lent buffers, wishes,
 // deadlines and the way between the editions.
-#![tactic(auto)]
+#![tactic(auto, unfolding(decimal::specs::Decimal::words, wording::specs::Sentence::wording, wording::specs::Sentence::wordings))]
 
 ghost use Rattle.std.specs.Prelude.{◌≡◌, ◌+◌, ◌≤◌, length};
 ghost use Rattle.decimal.specs.Decimal.{Stored};

@@ -1,5 +1,5 @@
 // Fixed words of sentences, those between index and value: what would be right, for 1 to 13, of a table or a plan.
-#![tactic(auto)]
+#![tactic(auto, unfolding(decimal::specs::Decimal::words, wording::specs::Sentence::wording, wording::specs::Sentence::wordings))]
 
 ghost use Rattle.std.specs.Prelude.{◌≡◌, ◌+◌, ◌≤◌, length};
 ghost use Rattle.decimal.specs.Decimal.{Stored};

@@ -10,32 +10,8 @@ use Rattle.entry.proofs.Run.hand.Goals as goal
 pub returns-then-on-task : goal.returns-then-on-task
 returns-then-on-task c = (refl, λ p l out₀ X. hand_refused X (answer_20 X c.if-on-task.true) (rw c.number.ensures at c.put_refused.ensures))
 
-pub offset_bounds-self-task : goal.offset_bounds-self-task
-offset_bounds-self-task c = omega (arith, hand_low c.requires.1.1.1 c.if-on-task.false)
-
-pub bounds-self-task : goal.bounds-self-task
-bounds-self-task c = hand_low c.requires.1.1.1 c.if-on-task.false
-
-pub offset_bounds-on-task : goal.offset_bounds-on-task
-offset_bounds-on-task c = omega (arith, hand_low c.requires.1.1.1 c.if-on-task.false)
-
-pub bounds-on-task : goal.bounds-on-task
-bounds-on-task c = hand_low c.requires.1.1.1 c.if-on-task.false
-
-pub offset_bounds-on-task-2 : goal.offset_bounds-on-task-2
-offset_bounds-on-task-2 c = omega (arith, hand_low c.requires.1.1.1 c.if-on-task.false)
-
-pub bounds-on-task-2 : goal.bounds-on-task-2
-bounds-on-task-2 c = hand_low c.requires.1.1.1 c.if-on-task.false
-
-pub bounds-self-task-2 : goal.bounds-self-task-2
-bounds-self-task-2 c = hand_low c.requires.1.1.1 c.if-on-task.false
-
-pub offset_bounds-self-task-2 : goal.offset_bounds-self-task-2
-offset_bounds-self-task-2 c = omega (arith, hand_low c.requires.1.1.1 c.if-on-task.false)
-
-pub bounds-self-task-3 : goal.bounds-self-task-3
-bounds-self-task-3 c = hand_low c.requires.1.1.1 c.if-on-task.false
+pub prove-unreachable-requires : goal.prove-unreachable-requires
+prove-unreachable-requires c = omega (arith, hand_low c.requires.1.1.1 c.if-on-task.false)
 
 pub returns-in-Err : goal.returns-in-Err
 unfolding row
@@ -47,54 +23,10 @@ returns-in-Err c = (
       c.put_refused-in-Err.ensures,
 )
 
-pub overflow_mul-self : goal.overflow_mul-self
-overflow_mul-self c =
+pub prove-unreachable-requires-2 : goal.prove-unreachable-requires-2
+prove-unreachable-requires-2 c =
     let r = admission-room _ _ _ _ _ _ _ (sym c.admission_test-test.ensures ∙ c.in_default.is) in
-    omega (arith, hand_low c.requires.1.1.1 c.if-on-task.false, r)
-
-pub overflow_add-self : goal.overflow_add-self
-overflow_add-self c =
-    let r = admission-room _ _ _ _ _ _ _ (sym c.admission_test-test.ensures ∙ c.in_default.is) in
-    omega (arith, hand_low c.requires.1.1.1 c.if-on-task.false, r)
-
-pub offset_bounds-self-task-3 : goal.offset_bounds-self-task-3
-offset_bounds-self-task-3 c =
-    let r = admission-room _ _ _ _ _ _ _ (sym c.admission_test-test.ensures ∙ c.in_default.is) in
-    omega (arith, hand_low c.requires.1.1.1 c.if-on-task.false, r)
-
-pub bounds-self-task-4 : goal.bounds-self-task-4
-bounds-self-task-4 c =
-    let r = admission-room _ _ _ _ _ _ _ (sym c.admission_test-test.ensures ∙ c.in_default.is) in
-    omega (arith, hand_low c.requires.1.1.1 c.if-on-task.false, r)
-
-pub overflow_add-self-2 : goal.overflow_add-self-2
-overflow_add-self-2 c =
-    let r = admission-room _ _ _ _ _ _ _ (sym c.admission_test-test.ensures ∙ c.in_default.is) in
-    omega (arith, hand_low c.requires.1.1.1 c.if-on-task.false, r)
-
-pub offset_bounds-self-task-4 : goal.offset_bounds-self-task-4
-offset_bounds-self-task-4 c = omega (arith, hand_low c.requires.1.1.1 c.if-on-task.false)
-
-pub bounds-self-task-5 : goal.bounds-self-task-5
-bounds-self-task-5 c = hand_low c.requires.1.1.1 c.if-on-task.false
-
-pub bounds-self-task-6 : goal.bounds-self-task-6
-bounds-self-task-6 c = hand_low c.requires.1.1.1 c.if-on-task.false
-
-pub offset_bounds-self-task-5 : goal.offset_bounds-self-task-5
-offset_bounds-self-task-5 c = omega (arith, hand_low c.requires.1.1.1 c.if-on-task.false)
-
-pub bounds-self-task-7 : goal.bounds-self-task-7
-bounds-self-task-7 c = hand_low c.requires.1.1.1 c.if-on-task.false
-
-pub offset_bounds-on-task-then-held-eq0 : goal.offset_bounds-on-task-then-held-eq0
-offset_bounds-on-task-then-held-eq0 c = omega (arith, hand_low c.requires.1.1.1 c.if-on-task.false)
-
-pub bounds-on-task-then-held-eq0 : goal.bounds-on-task-then-held-eq0
-bounds-on-task-then-held-eq0 c = hand_low c.requires.1.1.1 c.if-on-task.false
-
-pub head_key-requires : goal.head_key-requires
-head_key-requires c = hand_low c.requires.1.1.1 c.if-on-task.false
+    omega (arith, r)
 
 pub insert-requires : goal.insert-requires
 unfolding row
