@@ -1,8 +1,9 @@
 // A tick and a release, of a state that is sound: for callers that keep soundness by proof. They change the state where it lies.
 #![tactic(auto)]
 
-ghost use Rattle.std.specs.Prelude.{◌≡◌, ◌+◌, ◌<◌};
+ghost use Rattle.std.specs.Prelude.{◌≡◌, Bool, List, ℕ, ◌+◌, ◌<◌};
 ghost use Rattle.tasks.specs.TaskSet.{row};
+ghost use Rattle.tasks.specs.declared.Plan.{Plan};
 ghost use Rattle.state.specs.Parts.{state_from};
 ghost use Rattle.advance.specs.Advanced.{Ready, Ticked, Admitted};
 
@@ -17,9 +18,15 @@ pub struct Ran {
     pub responses: [u32; 16],
 }
 
+// What a state says of taken releases is not looked at: some flags and ticks have to make it a sound one, not its own.
 pub fn tick(state: &mut State) -> Ran
-    requires { Ready state.old × (state.old.clock < 4000000000) }
-    ensures ticked { Ticked state.old state.new.jobs state.new.remaining state.new.release result.runs result.responses }
+    requires { ((released : List Bool) × (last : List ℕ)
+        × Ready (state_from state.old.plan state.old.clock state.old.jobs released last state.old.remaining state.old.release))
+        × (state.old.clock < 4000000000) }
+    ensures ticked { (released : List Bool) (last : List ℕ)
+        → Ready (state_from state.old.plan state.old.clock state.old.jobs released last state.old.remaining state.old.release)
+        → Ticked (state_from state.old.plan state.old.clock state.old.jobs released last state.old.remaining state.old.release)
+        state.new.jobs state.new.remaining state.new.release result.runs result.responses }
     ensures rest { state.new
         ≡ state_from state.old.plan (state.old.clock + 1) state.new.jobs state.old.released state.old.last state.new.remaining state.new.release }
 {
@@ -32,11 +39,15 @@ pub fn tick(state: &mut State) -> Ran
     Ran { runs, responses }
 }
 
-// "A taken release adds one job, released at the clock, with its demand as remaining work"
+// "A taken release adds one job, released at the clock, with its demand as remaining work": under every plan with which the state is sound, since
+// the plan is not looked at.
 pub fn admit(state: &mut State, task: usize, demand: u32)
     requires { (task < 16) × (row state.old.jobs task < 16) }
-    ensures admitted { Ready state.old
-        → Admitted task demand state.old state.new.jobs state.new.released state.new.last state.new.remaining state.new.release }
+    ensures admitted { (plan : Plan)
+        → Ready (state_from plan state.old.clock state.old.jobs state.old.released state.old.last state.old.remaining state.old.release)
+        → Admitted task demand
+        (state_from plan state.old.clock state.old.jobs state.old.released state.old.last state.old.remaining state.old.release)
+        state.new.jobs state.new.released state.new.last state.new.remaining state.new.release }
     ensures rest { (state.new.plan ≡ state.old.plan) × (state.new.clock ≡ state.old.clock) }
 {
     join(state, task, demand);

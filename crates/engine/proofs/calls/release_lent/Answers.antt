@@ -47,6 +47,6 @@ returns c =
     λ k. state_from (c.admit.ensures.rest.0 k) (c.admit.ensures.rest.1 k) n.jobs n.released n.last n.remaining n.release in
     let w =
     release-taken s a.args.task a.args.demand p n (sym c.task_test.ensures ∙ c.in_ok-task_test.was)
-    (kept ∙ c.admit.ensures.admitted (record { shape = a.requires; sound = (step-passed s p).0 }))
+    (kept ∙ c.admit.ensures.admitted s.plan (record { shape = a.requires; sound = (step-passed s p).0 }))
     in
     (ap (λ (r : Released). r.answer) w, ap (λ (r : Released). r.state) w)

@@ -11,9 +11,12 @@ tick-requires c =
     let a = c in
     let s = a.args.state.now in
     let p = step-passed s (sym c.step_test-answer.ensures ∙ c.in-Ok.is) in
-    (record { shape = c.requires; sound = p.0 }, p.1)
+    ((s.released, s.last, record { shape = c.requires; sound = p.0 }), p.1)
 
 pub returns : goal.returns
 returns c =
+    let s = c.args.state.now in
     let t = c.tick.ensures in
-    step-taken c.args.state.now _ _ c.step_test-answer.ensures c.in-Ok.is (rw (t.rest, c.in-Ok.is) t.ticked)
+    let p = step-passed s (sym c.step_test-answer.ensures ∙ c.in-Ok.is) in
+    let ran = t.ticked s.released s.last (record { shape = c.requires; sound = p.0 }) in
+    step-taken s _ _ c.step_test-answer.ensures c.in-Ok.is (rw (t.rest, c.in-Ok.is) ran)
