@@ -11,10 +11,13 @@ fn unknown(line: &[u8]) {
     say::text(b"\n");
 }
 
-// An empty line and one that begins with # mean nothing. Behind the subject stands what is done to it.
+// An empty line and one that begins with # mean nothing. The subject stands at the line's beginning, and behind it what is done to it.
 pub fn line(world: &mut World, line: &[u8]) {
     if line.is_empty() || line[0] == b'#' {
         return;
+    }
+    if line[0] == b' ' {
+        return unknown(line);
     }
     let mut words = Line { left: line };
     let subject = words.word();

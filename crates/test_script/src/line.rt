@@ -65,19 +65,22 @@ impl<'a> Line<'a> {
         (self.number() % 256) as u8
     }
 
-    // The next number; none at the line's end. A byte that is no digit reads as 0.
+    // The next number; none at the line's end. Spaces behind it are passed over. A byte that is no digit reads as 0, and so do spaces that stand
+    // first.
     pub fn next_number(&mut self) -> Option<u64>
         ensures { IfSome result (λ _. length self.new.left.now < length self.old.left.now) }
     {
-        let line = self.rest();
+        let line = self.left;
         if line.is_empty() {
             return None;
         }
-        self.left = line;
         let value = self.number();
-        if self.left.len() == line.len() {
-            self.left = &line[1..];
-        }
+        let behind = self.rest();
+        self.left = if behind.len() == line.len() {
+            &line[1..]
+        } else {
+            behind
+        };
         Some(value)
     }
 }

@@ -64,7 +64,7 @@ pub fn accepted(words: &[u8], edition_met: u8, cores: usize, loops: usize, offer
 }
 
 // The edition, where it is not 1.
-fn edition(edition: u8) {
+pub fn edition(edition: u8) {
     if edition != 1 {
         number(b" edition ", u64::from(edition));
     }

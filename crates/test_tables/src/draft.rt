@@ -1,7 +1,5 @@
 // Bytes in the making, of a table or a log: they are added in the order that document 01 gives them, right or wrong.
-ghost use Rattle.std.specs.Prelude.{◌≤◌};
-
-use test_script::line::Line;
+use test_script::line::{Line, front};
 
 // The longest table has 5,359 bytes.
 const LONGEST: usize = 5400;
@@ -11,7 +9,6 @@ const LONGEST: usize = 5400;
 pub struct Draft {
     pub bytes: [u8; LONGEST],
     pub length: usize,
-    ghost within: { length ≤ 5400 },
 }
 
 impl Draft {
@@ -23,7 +20,7 @@ impl Draft {
     }
 
     pub fn as_slice(&self) -> &[u8] {
-        &self.bytes[..self.length]
+        front(&self.bytes, self.length)
     }
 
     // Beyond 5,400 bytes nothing is added.
@@ -50,6 +47,7 @@ impl Draft {
 
     // The numbers of a line, one byte each.
     pub fn bytes(&mut self, mut words: Line) {
+        words.left = words.rest();
         while let Some(value) = words.next_number() {
             self.push((value % 256) as u8);
         }
@@ -57,6 +55,7 @@ impl Draft {
 
     // The numbers of a line, four bytes each.
     pub fn numbers(&mut self, mut words: Line) {
+        words.left = words.rest();
         while let Some(value) = words.next_number() {
             self.push4((value % 4294967296) as u32);
         }
