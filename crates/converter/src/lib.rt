@@ -15,6 +15,7 @@ use table::judge;
 use tasks::bound::core_for_each;
 use tasks::edition::{deadline_in, has_deadlines, is_unknown};
 use tasks::{Plan, Refusal, Rule, Task};
+use tidy::no_task;
 use writer::write_accepted;
 
 // "A table already in the wanted edition, or a wanted edition other than 1 and 2". A table without an edition byte is in none.
@@ -85,10 +86,15 @@ fn test_fit(cores: usize, task: [Task; 16], tasks: usize, edition: u8) -> Result
 fn convert_tasks(task: [Task; 16], edition: u8) -> [Task; 16]
     ensures { result ≡ tab (λ i. converted_task edition (task_of task i)) 16 }
 {
-    task.map(|t| Task {
-        deadline: deadline_in(edition, t.offset),
-        ..t
-    })
+    let mut out = [no_task(); 16];
+    for i in 0..16 {
+        let t = task[i];
+        out[i] = Task {
+            deadline: deadline_in(edition, t.offset),
+            ..t
+        };
+    }
+    out
 }
 
 // The plan in the wanted edition.

@@ -11,7 +11,6 @@ ghost use Rattle.reader.specs.Counted.{Counted};
 use codec::entry::{task_at, task_size};
 use codec::places::{slack_from, table_length, tasks_from};
 use numbers::{count_at, number4};
-use std::array;
 use tasks::edition::is_unknown;
 use tasks::{Refusal, Rule, Task};
 use tidy::no_task;
@@ -69,7 +68,11 @@ pub fn load_labels(t: &[u8], cores: usize) -> [u8; 8]
     requires { 2 + cores ≤ length t.now }
     ensures { result ≡ tab (cut cores (λ i. byte t.now (2 + i)) 0) 8 }
 {
-    array::from_fn(|i| if i < cores { t[2 + i] } else { 0 })
+    let mut labels = [0; 8];
+    for i in 0..cores.min(8) {
+        labels[i] = t[2 + i];
+    }
+    labels
 }
 
 // The tasks of `count` entries from `from` on, zeros in the places past them.
@@ -78,11 +81,11 @@ pub fn load_tasks(t: &[u8], from: usize, count: usize, edition: u8) -> [Task; 16
     ensures { result ≡ tab (cut count (λ i. task_in edition t.now (from + task_size edition * i)) no_task) 16 }
 {
     let size = task_size(edition);
-    array::from_fn(|i| if i < count {
-        task_at(t, from + size * i, edition)
-    } else {
-        no_task()
-    })
+    let mut tasks = [no_task(); 16];
+    for i in 0..count.min(16) {
+        tasks[i] = task_at(t, from + size * i, edition);
+    }
+    tasks
 }
 
 // The slack of `count` entries from `from` on, zeros in the places past them.
@@ -90,9 +93,9 @@ pub fn load_slack(t: &[u8], from: usize, count: usize) -> [u32; 16]
     requires { from + 4 * count ≤ length t.now }
     ensures { result ≡ tab (cut count (λ i. number 4 t.now (from + 4 * i)) 0) 16 }
 {
-    array::from_fn(|i| if i < count {
-        number4(t, from + 4 * i)
-    } else {
-        0
-    })
+    let mut slack = [0; 16];
+    for i in 0..count.min(16) {
+        slack[i] = number4(t, from + 4 * i);
+    }
+    slack
 }

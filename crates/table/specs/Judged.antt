@@ -1,13 +1,11 @@
 -- What the judgement and the slack part answer, for every input.
 --     judged_as         a judgement by its answer, its plan and the loops that it names
 --     refused_with      a refused one
---     handed            what a judgement that may be refused hands back
 --     counted_in        the loops that the judgement of a table's bytes names
 --     judged           the judgement of a table's bytes
 --     slack_part        the slack section's entries, without the count byte
 --     slack_place       where they lie, from where the table lies
-use Rattle.tasks.specs.declared.refusal.Refusal.{Refusal}
-use Rattle.std.specs.Prelude.{ℕ, ◌+◌, List, [], length, drop, Ok, Err, Result}
+use Rattle.std.specs.Prelude.{ℕ, ◌+◌, List, [], length, drop}
 use Rattle.laws.specs.Tab.{tab}
 use Rattle.tasks.specs.Answer.{Answer}
 use Rattle.tasks.specs.declared.Plan.{Plan}
@@ -23,11 +21,6 @@ judged_as a p l = record { answer = a; plan = p; count = length l; counted = tab
 
 unfoldable pub refused_with : Answer → Judgement
 refused_with a = judged_as a zero_plan []
-
--- what a judgement hands back: it has a plan and names where it is refused too
-abbrev pub handed : Result Judgement Refusal → Judgement
-handed (Ok j) = j
-handed (Err r) = refused_with (Err r)
 
 -- "A judgement hands the names back beside the plan, by the weights at its slack, offered or found alike; a refused one names none."
 unfoldable pub counted_in : List ℕ → List ℕ

@@ -3,7 +3,7 @@ ghost use Rattle.std.specs.Prelude.{◌≡◌, Err, cond, ◌-◌, ◌≤◌, �
 ghost use Rattle.tasks.specs.TaskSet.{core_for_each};
 ghost use Rattle.tasks.specs.Answer.{Accepted};
 ghost use Rattle.codec.specs.Table.{slack_count, verdict};
-ghost use Rattle.table.specs.Judged.{judged, refused_with, handed, slack_part, slack_place};
+ghost use Rattle.table.specs.Judged.{judged, refused_with, slack_part, slack_place};
 ghost use Rattle.reader.specs.CountedLaws.{CountsIn};
 ghost use Rattle.table.specs.LoadedLaws.{loaded};
 ghost use Rattle.table.specs.JudgeLaws.{Judges};
@@ -53,34 +53,6 @@ fn named(cores: usize, tasks: usize) -> usize
     cores - 1
 }
 
-// Tests 3 to 13 and 28, of a table that meets neither 1 nor 2.
-fn judge_plan(plan: Plan, offers: usize) -> Result<Judgement, Refusal>
-    ensures { Judges plan offers (handed result) }
-{
-    let tested = test_slack(plan, offers)?;
-    let slack = tested.slack;
-    plan_bounds(plan, slack)?;
-    let names = tested.names;
-    let count = named(plan.cores, plan.tasks);
-    let counted = tidy_bytes(&names, count);
-    let mut accepted = plan;
-    accepted.slack = slack;
-    Ok(Judgement {
-        answer: Ok(()),
-        plan: accepted,
-        count,
-        counted,
-    })
-}
-
-// Tests 1 to 13 and 28.
-fn judge_table(table: &[u8]) -> Result<Judgement, Refusal>
-    ensures { handed result ≡ judged table.now }
-{
-    let counts = read_counts(table)?;
-    judge_plan(load(table, counts), counts.offers)
-}
-
 // "A refused judgement … hands back a plan … of zeros", and "a refused one names none".
 fn refused(refusal: Refusal) -> Judgement
     ensures { result ≡ refused_with (Err refusal) }
@@ -94,12 +66,38 @@ fn refused(refusal: Refusal) -> Judgement
     }
 }
 
+// Tests 3 to 13 and 28, of a table that meets neither 1 nor 2. A refusal is taken apart here and not passed on by `?`, for speed: a judgement
+// inside a Result is copied once more for each function that it goes through.
+fn judge_plan(plan: Plan, offers: usize) -> Judgement
+    ensures { Judges plan offers result }
+{
+    let tested = match test_slack(plan, offers) {
+        Ok(tested) => tested,
+        Err(refusal) => return refused(refusal),
+    };
+    let slack = tested.slack;
+    if let Err(refusal) = plan_bounds(plan, slack) {
+        return refused(refusal);
+    }
+    let names = tested.names;
+    let count = named(plan.cores, plan.tasks);
+    let counted = tidy_bytes(&names, count);
+    let mut accepted = plan;
+    accepted.slack = slack;
+    Judgement {
+        answer: Ok(()),
+        plan: accepted,
+        count,
+        counted,
+    }
+}
+
 // The plan of a table, or the first of 1 to 13 and 28 that it meets.
 pub fn judge(table: &[u8]) -> Judgement
     ensures { result ≡ judged table.now }
 {
-    match judge_table(table) {
-        Ok(judgement) => judgement,
+    match read_counts(table) {
+        Ok(counts) => judge_plan(load(table, counts), counts.offers),
         Err(refusal) => refused(refusal),
     }
 }

@@ -1,10 +1,17 @@
--- `reader::load_labels` meets its contract: the call of the closure at each place hands back the row's entry, and changes nothing of what it reads.
-use Rattle.std.proofs.Common.{rules}
-use Rattle.laws.specs.Tab.{cut}
+-- `reader::load_labels` meets its contract: the array is filled in order.
+use native.Mathlib.Omega.{arith}
+use mathlib.Core.Path.{refl}
+use Rattle.laws.specs.TabLaws.{filled_none}
 use Rattle.numbers.specs.Bytes.{byte}
-use Rattle.reader.specs.LoadLaws.{from_fn_tab}
+use Rattle.reader.specs.LoadLaws.{filled_step, filled_end}
 use Rattle.reader.proofs.load_labels.Goals as goal
 
+pub loop-i-init : goal.loop-i-init
+loop-i-init c = filled_none _ 0 8
+
+pub loop-i-preserved : goal.loop-i-preserved
+unfolding byte
+loop-i-preserved c = filled_step _ 0 _ 8 _ _ (omega arith) c.loop-i.invariant refl
+
 pub returns : goal.returns
-unfolding cut byte
-returns c = from_fn_tab _ _ _ 8 _ (λ i v after below called. (search rules, search rules)) 0 c.from_fn.ensures.items
+returns c = filled_end _ 0 _ 8 _ _ (omega arith) c.loop-i.invariant

@@ -1,9 +1,14 @@
--- `reader::load_slack` meets its contract: the call of the closure at each place hands back the row's entry, and changes nothing of what it reads.
-use Rattle.std.proofs.Common.{rules}
-use Rattle.laws.specs.Tab.{cut}
-use Rattle.reader.specs.LoadLaws.{from_fn_tab}
+-- `reader::load_slack` meets its contract: the array is filled in order.
+use native.Mathlib.Omega.{arith}
+use Rattle.laws.specs.TabLaws.{filled_none}
+use Rattle.reader.specs.LoadLaws.{filled_step, filled_end}
 use Rattle.reader.proofs.load_slack.Goals as goal
 
+pub loop-i-init : goal.loop-i-init
+loop-i-init c = filled_none _ 0 16
+
+pub loop-i-preserved : goal.loop-i-preserved
+loop-i-preserved c = filled_step _ 0 _ 16 _ _ (omega arith) c.loop-i.invariant c.number4.ensures
+
 pub returns : goal.returns
-unfolding cut
-returns c = from_fn_tab _ _ _ 16 _ (λ i v after below called. (search rules, search rules)) 0 c.from_fn.ensures.items
+returns c = filled_end _ 0 _ 16 _ _ (omega arith) c.loop-i.invariant

@@ -1,10 +1,16 @@
--- `reader::load_tasks` meets its contract: the call of the closure at each place hands back the row's entry, and changes nothing of what it reads.
-use Rattle.std.proofs.Common.{rules}
-use Rattle.laws.specs.Tab.{cut}
+-- `reader::load_tasks` meets its contract: the array is filled in order.
+use native.Mathlib.Omega.{arith}
+use mathlib.Core.Path.{◌∙◌}
+use Rattle.laws.specs.TabLaws.{filled_none}
 use Rattle.tasks.specs.Content.{no_task}
-use Rattle.reader.specs.LoadLaws.{from_fn_tab}
+use Rattle.reader.specs.LoadLaws.{filled_step, filled_end}
 use Rattle.reader.proofs.load_tasks.Goals as goal
 
+pub loop-i-init : goal.loop-i-init
+loop-i-init c = rw c.no_task-tasks.ensures (filled_none _ no_task 16)
+
+pub loop-i-preserved : goal.loop-i-preserved
+loop-i-preserved c = filled_step _ no_task _ 16 _ _ (omega arith) c.loop-i.invariant (c.task_at.ensures ∙ rw c.task_size-size.ensures)
+
 pub returns : goal.returns
-unfolding cut
-returns c = from_fn_tab _ _ _ 16 _ (λ i v after below called. (search rules, search rules)) no_task c.from_fn.ensures.items
+returns c = filled_end _ no_task _ 16 _ _ (omega arith) c.loop-i.invariant

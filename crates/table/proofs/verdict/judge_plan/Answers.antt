@@ -12,7 +12,7 @@ use Rattle.tasks.specs.TaskSet.{counted, core_for_each, row}
 use Rattle.tasks.specs.Limits.{Limits}
 use Rattle.tasks.proofs.AmountLaws.{counted-length}
 use Rattle.tasks.specs.declared.Plan.{Plan}
-use Rattle.std.specs.Prelude.{Result, Ok, Err}
+use Rattle.std.specs.Prelude.{Ok, Err}
 use Rattle.tasks.specs.declared.refusal.Refusal.{Refusal}
 use Rattle.tasks.specs.Answer.{Answer, Accepted}
 use Rattle.tasks.specs.Content.{content_of}
@@ -22,7 +22,7 @@ use Rattle.analysis.specs.SlackTestLaws.{stopped, passed_on}
 use Rattle.analysis.specs.PlanTest.{bounds_of}
 use Rattle.analysis.specs.PlanTestLaws.{tested-limits}
 use Rattle.table.specs.declared.Judgement.{Judgement}
-use Rattle.table.specs.Judged.{refused_with, handed}
+use Rattle.table.specs.Judged.{refused_with}
 use Rattle.tasks.specs.Terms.{with_slack}
 use Rattle.table.specs.JudgeLaws.{Judges, judged_answer, judged_names}
 use borrow.Author.Rules.{rules}
@@ -30,11 +30,11 @@ use Rattle.table.proofs.verdict.judge_plan.Goals as goal
 
 module _ (p : Plan) (k : ℕ) where
   -- a refusal hands back a plan of zeros
-  refused : (r : Refusal) → Err r ≡ judged_answer p k → (o : Result Judgement Refusal) → o ≡ Err r → Judges p k (handed o)
+  refused : (r : Refusal) → Err r ≡ judged_answer p k → (o : Judgement) → o ≡ refused_with (Err r) → Judges p k o
   unfolding refused_with
   refused r v o q = rw q (record { answer = v; plan = refl; count = refl; counted = refl })
 
-  untested : (r : Refusal) → PlanTested p k (Err r) → (o : Result Judgement Refusal) → o ≡ Err r → Judges p k (handed o)
+  untested : (r : Refusal) → PlanTested p k (Err r) → (o : Judgement) → o ≡ refused_with (Err r) → Judges p k o
   unfolding judged_answer
   untested r g o q = refused r (g.answer ∙ sym (stopped _ _ r.number r.index (sym g.answer))) o q
 
@@ -95,29 +95,29 @@ module _ (p : Plan) (k : ℕ) where
         go true q = omega arith
         go false q = omega (arith, few.1)
 
-pub returns-in_err-tested : goal.returns-in_err-tested
-returns-in_err-tested c =
-    untested c.args.plan c.args.offers _ (rw c.in_err-tested.was at c.test_slack.ensures) c.from_residual.result (search rules)
+pub returns-in-Err : goal.returns-in-Err
+returns-in-Err c =
+    untested c.args.plan c.args.offers _ (rw c.in-Err.is at c.test_slack.ensures) _ c.refused.ensures
 
 pub plan_bounds-requires : goal.plan_bounds-requires
-plan_bounds-requires c = (few c.args.plan c.args.offers _ (rw c.in_ok-tested.was at c.test_slack.ensures)).2
+plan_bounds-requires c = (few c.args.plan c.args.offers _ (rw c.in-Ok.is at c.test_slack.ensures)).2
 
-pub returns-in_err-plan_bounds : goal.returns-in_err-plan_bounds
-returns-in_err-plan_bounds c =
+pub returns-in-Err-plan_bounds : goal.returns-in-Err-plan_bounds
+returns-in-Err-plan_bounds c =
     refused c.args.plan c.args.offers _
-    (bounded c.args.plan c.args.offers _ (rw c.in_ok-tested.was at c.test_slack.ensures) _ (sym c.in_err-plan_bounds.was ∙ c.plan_bounds.ensures))
-    c.from_residual-in_err-plan_bounds.result (search rules)
+    (bounded c.args.plan c.args.offers _ (rw c.in-Ok.is at c.test_slack.ensures) _ (sym c.in-Err-plan_bounds.is ∙ c.plan_bounds.ensures))
+    _ c.refused-in-Err-plan_bounds.ensures
 
 pub named-count-requires : goal.named-count-requires
-named-count-requires c = omega (arith, few c.args.plan c.args.offers _ (rw c.in_ok-tested.was at c.test_slack.ensures))
+named-count-requires c = omega (arith, few c.args.plan c.args.offers _ (rw c.in-Ok.is at c.test_slack.ensures))
 
 pub tidy_bytes-counted-requires : goal.tidy_bytes-counted-requires
 tidy_bytes-counted-requires c =
-    let long : length c.in_ok-tested.tested.names ≡ 16 = search rules in
-    omega (arith, named-few c.args.plan c.args.offers _ (rw c.in_ok-tested.was at c.test_slack.ensures) _ c.named-count.ensures)
+    let long : length c.in-Ok.tested.names ≡ 16 = search rules in
+    omega (arith, named-few c.args.plan c.args.offers _ (rw c.in-Ok.is at c.test_slack.ensures) _ c.named-count.ensures)
 
 pub returns : goal.returns
 unfolding with_slack
 returns c =
-    accepted c.args.plan c.args.offers _ (rw c.in_ok-tested.was at c.test_slack.ensures) _
-    c.plan_bounds.ensures c.in_ok-plan_bounds.was _ c.named-count.ensures _ c.tidy_bytes-counted.ensures
+    accepted c.args.plan c.args.offers _ (rw c.in-Ok.is at c.test_slack.ensures) _
+    c.plan_bounds.ensures c.in_default.is _ c.named-count.ensures _ c.tidy_bytes-counted.ensures
