@@ -1,12 +1,22 @@
--- `engine_store::put::put_numbers` meets its contract: numbers copied into their part of the words are stored there one after the other.
-use Rattle.std.specs.Prelude.{ℕ, ◌+◌, ◌≤◌, ◌≡◌, List, length, take}
-use Rattle.std.proofs.Common.{arith, sym, ◌∙◌, drop-drop, append_assoc}
-use Rattle.std.proofs.lemmas.List.Edits.{sets, sets-eq}
-use borrow.Rule.Slice.PartMut.{put_mid}
+-- `engine_store::put::put_numbers` meets its contract; the loop's invariant says what its turns so far have made.
+use Rattle.std.proofs.Common.{arith, ap, ◌∙◌, refl}
+use Rattle.std.proofs.lemmas.List.Edits.{sets}
+use Rattle.tasks.specs.TaskSet.{row}
+use Rattle.engine_words.proofs.PartLaws.{stored-none, stored_next, tab-row}
 use Rattle.engine_store.proofs.put.put_numbers.Goals as goal
 
-copied : (l u v : List ℕ) (at n : ℕ) → u ≡ v → n ≡ length v → at + length v ≤ length l → put_mid at n l u ≡ sets l at v
-copied l u v at n q e h = rw (q, e, drop-drop (length v) at l) (sym (sets-eq v l at h ∙ append_assoc (take at l) v _))
+pub loop-i-init : goal.loop-i-init
+loop-i-init g c = stored-none _ _ _
+
+pub loop-i-preserved : goal.loop-i-preserved
+unfolding row
+loop-i-preserved g c =
+    let l = c.loop-i in
+    let a = c.args in
+    rw l.invariant (stored_next (row a.numbers.now) _ a.at _ l.i refl)
 
 pub returns : goal.returns
-returns c = copied _ _ _ _ _ c.copy_from_slice.ensures.after (omega arith) (omega arith)
+returns g c =
+    let l = c.loop-i in
+    let a = c.args in
+    l.invariant ∙ ap (sets a.words.now a.at) (tab-row a.numbers.now l.i (omega arith))
