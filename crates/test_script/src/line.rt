@@ -65,8 +65,8 @@ impl<'a> Line<'a> {
         (self.number() % 256) as u8
     }
 
-    // The next number; none at the line's end. Spaces behind it are passed over. A byte that is no digit reads as 0, and so do spaces that stand
-    // first.
+    // The next number; none at the line's end. Spaces behind it are passed over. A byte that is no digit reads as 0, and so do spaces with no digit
+    // behind them.
     pub fn next_number(&mut self) -> Option<u64>
         ensures { IfSome result (λ _. length self.new.left.now < length self.old.left.now) }
     {
