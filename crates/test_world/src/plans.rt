@@ -1,4 +1,6 @@
 // Lines about the plan: it is the judged table's, and then changed, right or wrong. A place that a plan doesn't have changes nothing.
+ghost use Rattle.std.specs.Prelude.{◌≡◌};
+
 use crate::world::World;
 use tasks::Plan;
 use test_script::line::Line;
@@ -49,7 +51,9 @@ fn counts(plan: &mut Plan, what: &[u8], mut words: Line) {
     }
 }
 
-pub fn act(world: &mut World, what: &[u8], words: Line) {
+pub fn act(world: &mut World, what: &[u8], words: Line)
+    ensures { (world.new.table ≡ world.old.table) × (world.new.log ≡ world.old.log) }
+{
     match what {
         b"judged" => world.plan = table::judge(world.table.as_slice()).plan,
         b"label" => label(&mut world.plan, words),

@@ -1,4 +1,6 @@
 // What the lines of a script have made so far.
+ghost use Rattle.test_tables.specs.Drafts.{Within};
+
 use tasks::Plan;
 use test_tables::draft::Draft;
 use tidy::no_plan;
@@ -12,7 +14,9 @@ pub struct World {
 }
 
 impl World {
-    pub fn new() -> World {
+    pub fn new() -> World
+        ensures { Within result.table × Within result.log }
+    {
         World {
             table: Draft::new(),
             log: Draft::new(),
