@@ -1,4 +1,6 @@
 // A line of a script: what it is about, what is done to it, and numbers.
+ghost use Rattle.test_world.specs.Worlds.{BothWithin};
+
 use test_script::line::Line;
 use test_script::say;
 use test_world::world::World;
@@ -12,7 +14,9 @@ fn unknown(line: &[u8]) {
 }
 
 // An empty line and one that begins with # mean nothing. The subject stands at the line's beginning, and behind it what is done to it.
-pub fn line(world: &mut World, line: &[u8]) {
+pub fn line(world: &mut World, line: &[u8])
+    ensures { BothWithin world.old → BothWithin world.new }
+{
     if line.is_empty() || line[0] == b'#' {
         return;
     }

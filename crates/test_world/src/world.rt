@@ -1,5 +1,5 @@
 // What the lines of a script have made so far.
-ghost use Rattle.test_tables.specs.Drafts.{Within};
+ghost use Rattle.test_world.specs.Worlds.{BothWithin};
 
 use tasks::Plan;
 use test_tables::draft::Draft;
@@ -15,7 +15,7 @@ pub struct World {
 
 impl World {
     pub fn new() -> World
-        ensures { Within result.table × Within result.log }
+        ensures { BothWithin result }
     {
         World {
             table: Draft::new(),
