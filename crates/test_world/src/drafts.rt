@@ -32,7 +32,7 @@ fn fill(draft: &mut Draft, mut words: Line)
 
 // `new B ..`: the draft has these bytes alone.
 fn begin(draft: &mut Draft, words: Line)
-    ensures { Within draft.old → Within draft.new }
+    ensures { Within draft.new }
 {
     *draft = Draft::new();
     draft.bytes(words);
